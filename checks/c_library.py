@@ -4,20 +4,19 @@ bindings. checks/c_library compiles it.
 
   checks/c_library.py header CRATE   the C code, for one static library
   checks/c_library.py names CRATE    the names of its exports, one a line
-  checks/c_library.py bindings CRATE compares the bindings for Rust and Ada
+  checks/c_library.py bindings CRATE compares the bindings for Rust and Ada with them
 """
 import re, subprocess, sys
 from pathlib import Path
 
 HEADER, BASE, HELD = Path('include/norphuen.h'), Path('crates/c_base/src'), Path('crates/held_heap/src')
-# The library with slices has calls of its own: no short names, no bindings.
 SLICED, TASKS = 'norphuen_sliced', 'norphuen_tasks'
-# Libraries with calls of their own, without short names.
+# Libraries with calls of their own, without short names: each has a file of the bindings.
 OWN = (SLICED, TASKS)
 NUMBERS = {'u8': 'uint8_t', 'u32': 'uint32_t', 'u64': 'uint64_t', 'i32': 'nph_status', 'usize': 'size_t', 'bool': 'bool', '': 'void'}
-RUST = {'NphHeap': 'RawHeap', 'NphNeeded': 'Needed', 'NphNeed': 'Need', 'NphFreed': 'RawFreed', 'NphResized': 'RawResized', 'NphClass': 'Class', 'NphHeapTotals': 'HeapTotals'}
+RUST = {'NphHeap': 'RawHeap', 'NphNeeded': 'Needed', 'NphNeed': 'Need', 'NphFreed': 'RawFreed', 'NphResized': 'RawResized', 'NphClass': 'Class', 'NphHeapTotals': 'HeapTotals', 'NphTask': 'Task'}
 ADA = {'u8': 'Unsigned_8', 'u32': 'Unsigned_32', 'u64': 'Unsigned_64', 'bool': 'Unsigned_8', '*mut u64': 'System.Address',
-       '[u8]': 'Bytes', '[NphNeed]': 'Needs', 'NphHeap': 'Heap', 'NphNeeded': 'Needed', 'NphNeed': 'Need', 'NphFreed': 'Freed', 'NphResized': 'Resized', 'NphClass': 'Class', 'NphHeapTotals': 'Heap_Totals'}
+       '[u8]': 'Bytes', '[NphNeed]': 'Needs', 'NphHeap': 'Heap', 'NphNeeded': 'Needed', 'NphNeed': 'Need', 'NphFreed': 'Freed', 'NphResized': 'Resized', 'NphClass': 'Class', 'NphHeapTotals': 'Heap_Totals', 'NphTask': 'Task_Figures'}
 # The names of each library begin with this; its heap is named so too.
 PREFIXES = {'norphuen': 'nph_', 'norphuen_nonmoving': 'nph_nm_', 'norphuen_tlsf': 'nph_tlsf_', SLICED: 'nph_sliced_', TASKS: 'nph_tasks_'}
 # The exports that a library may lack, if an object's words are not side by side there.
@@ -144,17 +143,21 @@ def declarations(text):
     return found
 
 
+# The types of the crate that its exports take.
+def named(exported):
+    return {rust.strip('[]') for _, parameters, _ in exported for _, _, rust in parameters if rust.strip('[]')[0] == 'N'}
+
+
 def header(crate):
     """Twins of the structs and static assertions on each of them, each prototype and each code."""
     text, all_structs = HEADER.read_text(), structs(crate)
     print('#include "norphuen.h"\n#include <stdbool.h>\n#define SAME(test, text) _Static_assert(test, text)')
     print('SAME(sizeof(nph_status) == sizeof(int32_t), "size of a status");')
     exported = exports(crate)
-    named = {rust.strip('[]') for _, parameters, _ in exported for _, _, rust in parameters if rust.strip('[]')[0] == 'N'}
-    order = ['Sealed', 'HeapBlock'] + sorted(named)
+    order = ['Sealed', 'HeapBlock'] + sorted(named(exported))
     for name in order:
         print(f'struct twin_{name} {{\n' + '\n'.join(twin_field(*field) for field in all_structs.get(name) or fail(f'no struct {name}')) + '\n};')
-    for name in sorted(named):
+    for name in sorted(named(exported)):
         c, fields = snake(name), all_structs[name]
         match = re.search(rf'typedef struct {c} \{{(.*?)\}} {c};', text, re.S) or fail(f'the header has no {c}')
         written = re.findall(r'(\w+);', match[1])
@@ -199,55 +202,77 @@ def header(crate):
     print('nph_block (*const takes)(size_t, size_t) = rattle_alloc;')
 
 
-def bindings(crate):
-    """The prototypes of the Rust binding, the profiles of the Ada binding, and the fields and codes of both."""
-    rust_text, ada_text = Path('bindings/rust/src/lib.rs').read_text(), Path('bindings/ada/norphuen.ads').read_text()
-    rust_names = re.findall(r'#\[link_name = named!\("(\w+)"\)\] fn nph_\1\(', rust_text.split('unsafe extern "C" {')[1].split('\n}')[0])
-    ada_names = re.findall(r'External_Name => Prefix & "(\w+)"', ada_text)
-    folder = crate.partition('_')[2] or 'moving'
+def short_names(crate, folder, rust_text):
+    """The bindings have a way to put this library under the short names."""
     if f'Prefix : constant String := "{PREFIXES[crate]}";' not in Path(f'bindings/ada/{folder}/norphuen_library.ads').read_text():
         fail(f'bindings/ada/{folder} is not for {crate}')
     condition = f'feature = "{folder}"' if crate != 'norphuen' else 'not(any('
     if not re.search(rf'#\[cfg\([^\n]*{re.escape(condition)}[^\n]*\n[^\n]*\nmacro_rules! named {{ \(\$call:literal\) => {{ concat!\("{PREFIXES[crate]}", \$call\)', rust_text):
         fail(f'bindings/rust/src/lib.rs does not name the calls of {crate}')
-    names = {bare(name) for name, _, _ in exports(crate)} | LOAN | PAGED
-    for where, found in (('Rust', rust_names), ('Ada', ada_names)):
+
+
+def bindings(crate):
+    """The prototypes of the Rust binding, the profiles of the Ada binding, and the fields and codes of both. A library with
+    calls of its own has them in files of their own; its types may be in the others."""
+    rust_file, ada_file = Path('bindings/rust/src/lib.rs'), Path('bindings/ada/norphuen.ads')
+    rust_text, ada_text, folder, prefix = rust_file.read_text(), ada_file.read_text(), crate.partition('_')[2] or 'moving', PREFIXES[crate]
+    exported = exports(crate)
+    names = {bare(name) for name, _, _ in exported}
+    if crate in OWN:
+        rust_file, ada_file = Path(f'bindings/rust/src/{folder}.rs'), Path(f'bindings/ada/{folder}/norphuen-{folder}.ads')
+        rust_types, ada_types = rust_text, ada_text
+        rust_text, ada_text = rust_file.read_text(), ada_file.read_text()
+        rust_call, ada_call = f'fn {prefix}', f'"{prefix}'
+    else:
+        short_names(crate, folder, rust_text)
+        names |= LOAN | PAGED
+        rust_types, ada_types, rust_call, ada_call = '', '', 'fn nph_', 'Prefix & "'
+    rust_names = re.findall(rf' {rust_call}(\w+)\(', rust_text.split('unsafe extern "C" {')[1].split('\n}')[0])
+    linked = re.findall(r'#\[link_name = named!\("(\w+)"\)\] fn nph_\1\(', rust_text)
+    ada_names = re.findall(rf'External_Name => {ada_call}(\w+)"', ' '.join(ada_text.split()))
+    for where, found in ((rust_file, rust_names), (ada_file, ada_names), *([] if crate in OWN else [(rust_file, linked)])):
         if sorted(found) != sorted(names):
-            fail(f'the binding in {where} declares {sorted(found)}, {crate} exports {sorted(names)}')
-    ada_flat = ' '.join(ada_text.split())
-    for name, parameters, result in exports(crate):
+            fail(f'{where} declares {sorted(found)}, {crate} exports {sorted(names)}')
+    ada_flat = ' '.join((ada_text + ada_types).split())
+    for name, parameters, result in exported:
         kinds = []
         for _, reference, rust in parameters:
             pointer = {'&mut ': '*mut ', '&': '*const ', None: ''}[reference or None]
             kinds.append(pointer + RUST.get(rust.strip('[]'), rust.strip('[]')))
             kinds += ['usize'] if rust[0] == '[' else []
-        inside = re.search(rf'fn nph_{bare(name)}\((.*?)\)(?: -> (\w+))?;', rust_text)
+        inside = re.search(rf'{rust_call}{bare(name)}\((.*?)\)(?: -> (\w+))?;', rust_text)
         kinds = [f'{part}: {kind}' for part, kind in zip(c_names(parameters), kinds)]
         if [part for part in inside[1].split(', ') if part] != kinds or (inside[2] or '') != result:
-            fail(f'bindings/rust/src/lib.rs: {name}({inside[1]}) is not the export, which takes {kinds}')
+            fail(f'{rust_file}: {name}({inside[1]}) is not the export, which takes {kinds}')
         wanted = []
-        for _, reference, rust in parameters:
+        for word, reference, rust in parameters:
             mode = 'in out ' if reference == '&mut ' else ''
-            wanted.append(mode + ADA[rust])
+            wanted.append(mode + ('Task_Number' if word == 'task' else ADA[rust]))
             wanted += ['size_t'] if rust[0] == '[' else []
-        profile = re.search(r'(?:function|procedure) \w+(?: \(([^()]*)\))?(?: return (\w+))? with Import, Convention => C, External_Name => Prefix & "' + bare(name) + '"', ada_flat)
+        profile = re.search(rf'(?:function|procedure) \w+(?: \(([^()]*)\))?(?: return (\w+))? with Import, Convention => C, External_Name => {ada_call}{bare(name)}"', ada_flat)
         given = []
-        for part in filter(None, ((profile or fail(f'bindings/ada/norphuen.ads: cannot read {name}'))[1] or '').split(';')):
+        for part in filter(None, ((profile or fail(f'{ada_file}: cannot read {name}'))[1] or '').split(';')):
             left, kind = part.split(':')
             given += [kind.strip()] * len(left.split(','))
         if given != wanted or (profile[2] or '') != {'i32': 'Code', '': ''}.get(result, ADA.get(result)):
-            fail(f'bindings/ada/norphuen.ads: {name} takes {given}, the export {wanted}')
+            fail(f'{ada_file}: {name} takes {given}, the export {wanted}')
     all_structs = structs(crate)
-    for name, rust_name in RUST.items():
+    for name in sorted(named(exported)):
         fields = [('at' if kind == 'HeapBlock' else field, kind) for field, kind in all_structs[name]]
-        inside = re.search(rf'#\[repr\(C\)\]\n(?:#\[[^\n]*\]\n)*(?:pub )?struct {rust_name} \{{(.*?)\}}', rust_text, re.S) or fail(f'bindings/rust/src/lib.rs: no {rust_name}')
+        inside = re.search(rf'#\[repr\(C\)\]\n(?:#\[[^\n]*\]\n)*(?:pub )?struct {RUST[name]} \{{(.*?)\}}', rust_text + rust_types, re.S) or fail(f'{rust_file}: no {RUST[name]}')
         given = re.findall(r'(\w+): ([^,}]+?)\s*(?:,|$)', inside[1].strip())
         wanted = [(field, '*mut u8' if kind == 'HeapBlock' else kind) for field, kind in fields]
-        compare_fields(crate, f'bindings/rust/src/lib.rs: {rust_name}', name, given, wanted)
-        inside = re.search(rf'type {ADA[name]} is (?:limited )?record (.*?) end record with Convention => C;', ada_flat) or fail(f'bindings/ada/norphuen.ads: no {ADA[name]}')
+        compare_fields(crate, f'{rust_file}: {RUST[name]}', name, given, wanted)
+        inside = re.search(rf'type {ADA[name]} is (?:limited )?record (.*?) end record with Convention => C;', ada_flat) or fail(f'{ada_file}: no {ADA[name]}')
         given = re.findall(r'(\w+) : (\S+) :=', inside[1])
         wanted = [('At_Address' if field == 'at' else field.title(), 'System.Address' if kind == 'HeapBlock' else ADA[kind]) for field, kind in fields]
-        compare_fields(crate, f'bindings/ada/norphuen.ads: {ADA[name]}', name, given, wanted)
+        compare_fields(crate, f'{ada_file}: {ADA[name]}', name, given, wanted)
+    if crate not in OWN:
+        binding_codes(rust_text, ada_text)
+
+
+def binding_codes(rust_text, ada_text):
+    """The codes of both bindings."""
     codes = re.findall(r'pub const (\w+): i32 = (\d+);', (BASE / 'codes.rt').read_text())
     given = dict(re.findall(r'(\w+) +: constant Code := (\d+);', ada_text))
     ada_code = {'DONE': 'Ok', 'RANGE': 'Bad_Range', 'OPEN': 'Is_Open'}

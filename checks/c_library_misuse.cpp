@@ -10,6 +10,12 @@ struct text { ~text() {} };
 struct node { int key; object<node> next; };
 
 int main() {
+    norphuen::sliced::heap slices;
+    norphuen::sliced::object<int> f;
+    norphuen::tasks::heap shared;
+    norphuen::tasks::object<int, 0> one;
+    norphuen::tasks::object<int, 1> two;
+    if (slices.make(f, 1) != NPH_OK || shared.make(one, 1) != NPH_OK || shared.make(two, 1) != NPH_OK) return 1;
     norphuen::heap heap;
     object<int> a;
     object<long> b;
@@ -37,12 +43,24 @@ int main() {
     if (heap.make(t, text()) != NPH_OK) return 1;
 #elif MISUSE == 7 // misuse 7: objects are aligned to 8 bytes
     scope t(heap, object<wide>{});
-#elif MISUSE == 8 // misuse 8: object<
+#elif MISUSE == 8 // misuse 8: object_of<
     a = b;
 #elif MISUSE == 9 // misuse 9: unused-
     heap.drop(a);
 #elif MISUSE == 10 // misuse 10: unused-
     scope<int>(heap, a);
+#elif MISUSE == 11 // misuse 11: object_of<
+    one = two;
+#elif MISUSE == 12 // misuse 12: no match
+    if (slices.drop(a) != NPH_OK) return 1;
+#elif MISUSE == 13 // misuse 13: no match
+    if (heap.read(f, x) != NPH_OK) return 1;
+#elif MISUSE == 14 // misuse 14: tasks are 0 to 15
+    norphuen::tasks::object<int, 16> v;
+#elif MISUSE == 15 // misuse 15: deleted
+    norphuen::tasks::heap copy = shared;
+#elif MISUSE == 16 // misuse 16: unused-
+    shared.write(one, 2);
 #endif
     return x == 2 ? 0 : 1;
 }

@@ -1,7 +1,25 @@
 //! What rustc must refuse. A line `misuse N: TEXT` stands before each; the message has TEXT. Without `misuse` all compiles.
-use norphuen::{Error, Heap};
+use norphuen::{sliced, tasks, Error, Heap};
 
 fn main() -> Result<(), Error> {
+    let (mut slices, mut shared) = (sliced::Heap::open(4, 1024, 10, 8)?, tasks::Heap::open(4, 1024, 10)?);
+    let (c, d) = (slices.malloc(8)?, shared.malloc::<0>(8)?);
+    // misuse 6: E0308
+    #[cfg(misuse = "6")]
+    let d: tasks::Handle<1> = d;
+    // misuse 7: E0308
+    #[cfg(misuse = "7")]
+    shared.free::<1>(d)?;
+    // misuse 8: E0308
+    #[cfg(misuse = "8")]
+    Heap::open(4, 1024, 1, 10)?.free(c)?;
+    // misuse 9: E0382
+    #[cfg(misuse = "9")]
+    drop(shared);
+    // misuse 10: E0277
+    #[cfg(misuse = "10")]
+    std::thread::scope(|s| drop(s.spawn(|| &slices)));
+    (slices.free(c)?, shared.free(d)?);
     let mut heap = Heap::open(4, 1024, 1, 10)?;
     let (a, b) = (heap.malloc(8)?, heap.malloc(8)?);
     let [x, y] = heap.objects([a, b])?;

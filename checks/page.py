@@ -113,8 +113,8 @@ class Example:
 
 
 def examples():
-    """The examples with a picture, by the table of their document."""
-    rows = re.findall(r"^\| \[(\w+)\]\(\1\.cf\) \| `(\w+)", Path("examples/README.md").read_text(), re.M)
+    """The examples with a picture, by the list in their document."""
+    rows = re.findall(r"^- \[(\w+)\]\(\1\.cf\), `(\w+)", Path("examples/README.md").read_text(), re.M)
     return [Example(name, Path(f"examples/{name}.cf").read_text(), Path(f"examples/{name}.out").read_text())
             for name, mode in rows if mode in ("run", "compare", "slice", "quota", "large")]
 

@@ -1,9 +1,10 @@
 /* Norphuen: a verified memory manager for real-time programs. It is no drop-in malloc: a program names an object by its
  * handle, and asks for the object's address.
  *
- * A heap has one region. nph_open takes all memory, so that later calls take none. Each call on an open heap takes a
- * bounded number of steps (docs/CALLS.md); nph_last_steps returns the steps of the last one. There are five libraries, and a
- * program may link several:
+ * A heap has one region of words of 8 bytes, cut into equal pages. A page in use has slots of one size, a size class; an object
+ * takes the smallest slot that holds it and its header of a word. nph_open takes all memory, so that later calls take none. Each
+ * call on an open heap takes a bounded number of steps (docs/CALLS.md), accesses to a word or to an entry of a table;
+ * nph_last_steps returns the steps of the last one. There are five libraries, and a program may link several:
  *
  *   libnorphuen.a            Compact-fit, moving: a free may move one object, whose handle stays the same
  *   libnorphuen_nonmoving.a  Compact-fit, non-moving: a free may exchange entries of a block table. Lends nothing, since
@@ -244,8 +245,8 @@ NPH_CALL nph_status nph_last_steps(nph_heap *heap, uint64_t *steps);
 /* Returns the version of the library, in the form of NPH_VERSION. */
 uint32_t nph_version(void);
 
-/* Bounds for a plan: the most steps of a call, before it is made. These take no heap, and are those of the library's contracts.
- * A refused call takes at most as many. nph_place takes one step. */
+/* Bounds for a plan: the most steps of a call, before it is made. They are proved, and need no heap. A refused call takes at most
+ * as many. nph_place takes one step. */
 
 /* Returns the kind of the library's heaps: NPH_MOVING, NPH_NONMOVING or NPH_TLSF. */
 uint32_t nph_kind(void);
@@ -325,8 +326,9 @@ NPH_CALL nph_status nph_tlsf_return(nph_tlsf_heap *heap);
 
 /* Frees in slices: libnorphuen_sliced.a. A free leaves its long work, to clear a slot or to move another object into it, as a
  * job. The free and each nph_sliced_step do a slice of it: at most as many words as the quantum. Each class has at most one
- * partly full page, and while a job is pending that class may have two. Objects are read and written also while they move. A
- * program calls nph_sliced_step until nph_sliced_left writes 0; it ends, since only a free begins work. */
+ * partly full page, but the class of a pending job may have two. Objects are read and written also while they move. A program
+ * calls nph_sliced_step until nph_sliced_left writes 0: the jobs of a free end after the slices of its slot, and as many again
+ * for each nph_sliced_malloc of its class in between. */
 
 /* Opens a heap without objects, as nph_open with k = 1, whose slices have at most `quantum` words. The codes are those of
  * nph_open, and NPH_QUANTUM. */
@@ -471,7 +473,7 @@ typedef struct nph_task {
     uint32_t live;
 } nph_task;
 
-/* Opens a heap as nph_open does, with at most `proxies` live objects in each task. The quotas are 0. */
+/* Opens a heap as nph_open does, with at most `proxies` live objects in each task. Each quota is 0 at first. */
 NPH_CALL nph_status nph_tasks_open(nph_tasks_heap *heap, uint32_t pages, uint32_t page_bytes, uint32_t proxies);
 
 /* As nph_bytes_needed, for nph_tasks_open. */

@@ -1,6 +1,7 @@
 --  Norphuen for Ada: the calls of include/norphuen.h, whose comments hold here too, under the short names. The folder
---  moving, nonmoving or tlsf chooses the library. The program links it, and defines the three allocator functions that
---  the header describes. Here Freed and Resized are always given. An object's bytes
+--  moving, nonmoving or tlsf chooses the library; the packages Norphuen.Sliced and Norphuen.Tasks, in the folders sliced
+--  and tasks, have the calls of those two. The program links the libraries that it uses, and defines the three allocator
+--  functions that the header describes. Here Freed and Resized are always given. An object's bytes
 --  are reached in place by a variable at its address: X : T with Import, Address => Nph_Bytes (Words, Place).
 
 with Interfaces; use Interfaces;

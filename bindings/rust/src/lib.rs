@@ -2,7 +2,8 @@
 //! `malloc`, which is on by default, C's malloc. Without it the program defines the three allocator functions that
 //! `include/norphuen.h` describes.
 //!
-//! The features `nonmoving` and `tlsf` choose that library in place of the moving one.
+//! The features `nonmoving` and `tlsf` choose that library in place of the moving one. The features `sliced` and `tasks` add
+//! the module of that library.
 //!
 //! A `Heap` closes itself when it is dropped. It is `Send` and not `Sync`: one caller at a time, in any thread.
 //! `Heap::objects` lends the bytes of objects in place; it needs a library that lends, as the header says.
@@ -10,6 +11,10 @@
 
 #[cfg(feature = "malloc")]
 mod malloc;
+#[cfg(feature = "sliced")]
+pub mod sliced;
+#[cfg(feature = "tasks")]
+pub mod tasks;
 
 /// Names an object. It stays the same wherever the object moves.
 #[derive(Clone, Copy, Debug, PartialEq, Eq)]
@@ -47,7 +52,7 @@ struct RawResized { old_slot_words: u32, slot_words: u32, moved: u32 }
 /// A free: the words of the freed slot or block, and the object that moved to its address.
 #[derive(Clone, Copy, Debug, PartialEq, Eq)]
 #[rustfmt::skip]
-pub struct Freed { pub slot_words: u32, pub moved: Option<Handle> }
+pub struct Freed<H = Handle> { pub slot_words: u32, pub moved: Option<H> }
 
 /// A resize: the words of the slot before and after, and the other object that moved to the old address.
 #[derive(Clone, Copy, Debug, PartialEq, Eq)]
@@ -66,7 +71,7 @@ pub struct Class { pub slot_words: u32, pub slots: u32, pub live: u32, pub pages
 #[rustfmt::skip]
 pub struct HeapTotals { pub asked: u64, pub taken: u64, pub held: u64, pub live: u32, pub used: u32, pub free: u32, pub largest: u32 }
 
-/// The header's nph_heap.
+/// The header's nph_heap. Without a loan the last field is padding.
 #[repr(C)]
 struct RawHeap {
     at: *mut u8,
@@ -74,6 +79,9 @@ struct RawHeap {
     is_open: bool,
     is_lent: bool,
 }
+
+/// The header's NPH_HEAP.
+const CLOSED: RawHeap = RawHeap { at: core::ptr::null_mut(), last: 0, is_open: false, is_lent: false };
 
 /// An open heap. `objects` lends it, and the next call ends the loan first.
 pub struct Heap {
@@ -158,9 +166,16 @@ fn result_of<T>(code: i32, value: T) -> Result<T, Error> {
     })
 }
 
-/// The handle of the object that moved, none if none did.
-fn handle_of(number: u32) -> Option<Handle> {
-    (number != u32::MAX).then_some(Handle(number))
+/// What a call writes if it succeeds, else its error.
+fn written<T: Default>(call: impl FnOnce(&mut T) -> i32) -> Result<T, Error> {
+    let mut value = T::default();
+    let code = call(&mut value);
+    result_of(code, value)
+}
+
+/// The handle with this number, none for NPH_NONE: no object moved.
+fn handle_of<H>(number: u32, handle: fn(u32) -> H) -> Option<H> {
+    (number != u32::MAX).then(|| handle(number))
 }
 
 /// The version of the library: 10,000 times the major number, 100 times the minor one, and the patch.
@@ -233,47 +248,38 @@ impl Heap {
 
     /// Opens a heap without objects; `page_bytes` are the bytes of a page, `k` bounds the partly full pages of a class.
     pub fn open(pages: u32, page_bytes: u32, k: u32, proxies: u32) -> Result<Heap, Error> {
-        let raw = RawHeap { at: core::ptr::null_mut(), last: 0, is_open: false, is_lent: false };
-        let mut heap = Heap { raw, end_loan: None };
+        let mut heap = Heap { raw: CLOSED, end_loan: None };
         let code = unsafe { nph_open(&mut heap.raw, pages, page_bytes, k, proxies) };
         result_of(code, heap)
     }
 
     /// What `open` with these settings asks of `rattle_alloc`.
     pub fn bytes_needed(pages: u32, page_bytes: u32, k: u32, proxies: u32) -> Result<Needed, Error> {
-        let mut needed = Needed::default();
-        let code = unsafe { nph_bytes_needed(pages, page_bytes, k, proxies, &mut needed) };
-        result_of(code, needed)
+        written(|needed| unsafe { nph_bytes_needed(pages, page_bytes, k, proxies, needed) })
     }
 
     /// How many pages are enough: no `malloc` or `resize` fails with `Space` while the live objects are within the needs.
     #[cfg(not(feature = "tlsf"))]
     pub fn pages_needed(page_bytes: u32, k: u32, needs: &[Need]) -> Result<u32, Error> {
-        let mut pages = 0;
-        let code = unsafe { nph_pages_needed(page_bytes, k, needs.as_ptr(), needs.len(), &mut pages) };
-        result_of(code, pages)
+        written(|pages| unsafe { nph_pages_needed(page_bytes, k, needs.as_ptr(), needs.len(), pages) })
     }
 
     /// Makes an object of `bytes` zeros.
     pub fn malloc(&mut self, bytes: u32) -> Result<Handle, Error> {
-        let mut handle = 0;
-        let code = unsafe { nph_malloc(self.raw(), bytes, &mut handle) };
-        result_of(code, Handle(handle))
+        written(|handle| unsafe { nph_malloc(self.raw(), bytes, handle) }).map(Handle)
     }
 
     /// Frees an object.
     pub fn free(&mut self, object: Handle) -> Result<Freed, Error> {
-        let mut raw = RawFreed::default();
-        let code = unsafe { nph_free(self.raw(), object.0, &mut raw) };
-        result_of(code, Freed { slot_words: raw.slot_words, moved: handle_of(raw.moved) })
+        let RawFreed { slot_words, moved } = written(|freed| unsafe { nph_free(self.raw(), object.0, freed) })?;
+        Ok(Freed { slot_words, moved: handle_of(moved, Handle) })
     }
 
     /// Changes an object's length to `bytes` bytes: its first bytes stay, and added bytes are zero.
     pub fn resize(&mut self, object: Handle, bytes: u32) -> Result<Resized, Error> {
-        let mut raw = RawResized::default();
-        let code = unsafe { nph_resize(self.raw(), object.0, bytes, &mut raw) };
-        let RawResized { old_slot_words, slot_words, moved } = raw;
-        result_of(code, Resized { old_slot_words, slot_words, moved: handle_of(moved) })
+        let RawResized { old_slot_words, slot_words, moved } =
+            written(|resized| unsafe { nph_resize(self.raw(), object.0, bytes, resized) })?;
+        Ok(Resized { old_slot_words, slot_words, moved: handle_of(moved, Handle) })
     }
 
     /// Writes the bytes into an object, from its byte `at` on.
@@ -304,9 +310,7 @@ impl Heap {
 
     /// The length of an object in bytes.
     pub fn length(&mut self, object: Handle) -> Result<u32, Error> {
-        let mut bytes = 0;
-        let code = unsafe { nph_length(self.raw(), object.0, &mut bytes) };
-        result_of(code, bytes)
+        written(|bytes| unsafe { nph_length(self.raw(), object.0, bytes) })
     }
 
     /// Whether `malloc` would succeed now, else its error.
@@ -317,38 +321,28 @@ impl Heap {
     /// The words of an object's slot, as `free` of it would return them.
     #[cfg(not(feature = "tlsf"))]
     pub fn slot_words(&mut self, object: Handle) -> Result<u32, Error> {
-        let mut words = 0;
-        let code = unsafe { nph_slot_words(self.raw(), object.0, &mut words) };
-        result_of(code, words)
+        written(|words| unsafe { nph_slot_words(self.raw(), object.0, words) })
     }
 
     /// The size class of an object of `bytes` bytes.
     #[cfg(not(feature = "tlsf"))]
     pub fn class_of(&mut self, bytes: u32) -> Result<u32, Error> {
-        let mut size_class = 0;
-        let code = unsafe { nph_class_of(self.raw(), bytes, &mut size_class) };
-        result_of(code, size_class)
+        written(|size_class| unsafe { nph_class_of(self.raw(), bytes, size_class) })
     }
 
     /// The figures of a size class, numbered from 0; none if there is no such class.
     pub fn figures(&mut self, size_class: u32) -> Option<Class> {
-        let mut figures = Class::default();
-        let code = unsafe { nph_figures(self.raw(), size_class, &mut figures) };
-        result_of(code, figures).ok()
+        written(|figures| unsafe { nph_figures(self.raw(), size_class, figures) }).ok()
     }
 
     /// The figures of the whole heap.
     pub fn totals(&mut self) -> HeapTotals {
-        let mut totals = HeapTotals::default();
-        unsafe { nph_totals(self.raw(), &mut totals) };
-        totals
+        written(|totals| unsafe { nph_totals(self.raw(), totals) }).unwrap_or_default()
     }
 
     /// The steps of the last call.
     pub fn last_steps(&mut self) -> u64 {
-        let mut steps = 0;
-        unsafe { nph_last_steps(self.raw(), &mut steps) };
-        steps
+        written(|steps| unsafe { nph_last_steps(self.raw(), steps) }).unwrap_or_default()
     }
 }
 

@@ -24,3 +24,15 @@ fn the_session_prints_its_replies() {
 fn the_cache_prints_what_it_prints_in_c() {
     prints("lru", "../../examples/c/lru.out");
 }
+
+#[cfg(feature = "sliced")]
+#[test]
+fn the_slices_print_their_words_left() {
+    prints("slices", "examples/slices.rs.out");
+}
+
+#[cfg(feature = "tasks")]
+#[test]
+fn the_tasks_print_their_quotas() {
+    prints("tasks", "examples/tasks.rs.out");
+}

@@ -1,0 +1,147 @@
+//! Frees in slices, over the library norphuen_sliced. A free leaves its long work as a job, and `Heap::step` does a slice of it.
+use crate::{handle_of, result_of, written, Error, Needed, RawHeap, CLOSED};
+
+/// Names an object. It stays the same wherever the object moves.
+#[derive(Clone, Copy, Debug, PartialEq, Eq)]
+pub struct Handle(pub u32);
+
+/// An open heap.
+pub struct Heap {
+    raw: RawHeap,
+}
+
+#[rustfmt::skip]
+unsafe extern "C" {
+    fn nph_sliced_open(heap: *mut RawHeap, pages: u32, page_bytes: u32, proxies: u32, quantum: u32) -> i32;
+    fn nph_sliced_bytes_needed(pages: u32, page_bytes: u32, proxies: u32, needed: *mut Needed) -> i32;
+    fn nph_sliced_close(heap: *mut RawHeap);
+    fn nph_sliced_malloc(heap: *mut RawHeap, bytes: u32, handle: *mut u32) -> i32;
+    fn nph_sliced_free(heap: *mut RawHeap, handle: u32) -> i32;
+    fn nph_sliced_step(heap: *mut RawHeap) -> i32;
+    fn nph_sliced_left(heap: *mut RawHeap, words: *mut u32) -> i32;
+    fn nph_sliced_moving(heap: *mut RawHeap, handle: *mut u32) -> i32;
+    fn nph_sliced_write(heap: *mut RawHeap, handle: u32, at: u32, bytes: *const u8, count: usize) -> i32;
+    fn nph_sliced_read(heap: *mut RawHeap, handle: u32, at: u32, bytes: *mut u8, count: usize) -> i32;
+    fn nph_sliced_length(heap: *mut RawHeap, handle: u32, bytes: *mut u32) -> i32;
+    fn nph_sliced_has_room(heap: *mut RawHeap, bytes: u32) -> i32;
+    fn nph_sliced_last_steps(heap: *mut RawHeap, steps: *mut u64) -> i32;
+    fn nph_sliced_version() -> u32;
+    fn nph_sliced_most_malloc() -> u64;
+    fn nph_sliced_most_free(quantum: u32) -> u64;
+    fn nph_sliced_most_step(quantum: u32) -> u64;
+    fn nph_sliced_most_access(at: u32, count: u32) -> u64;
+    fn nph_sliced_most_has_room() -> u64;
+    fn nph_sliced_most_length() -> u64;
+}
+
+/// The version of the library.
+pub fn version() -> u32 {
+    unsafe { nph_sliced_version() }
+}
+
+/// The most steps of each call, before it is made.
+pub mod most {
+    /// Of `malloc`.
+    pub fn malloc() -> u64 {
+        unsafe { super::nph_sliced_most_malloc() }
+    }
+
+    /// Of `free` in a heap with this quantum.
+    pub fn free(quantum: u32) -> u64 {
+        unsafe { super::nph_sliced_most_free(quantum) }
+    }
+
+    /// Of `step` in a heap with this quantum.
+    pub fn step(quantum: u32) -> u64 {
+        unsafe { super::nph_sliced_most_step(quantum) }
+    }
+
+    /// Of `read` or `write` of `count` bytes from byte `at` on. One that is not refused takes just these.
+    pub fn access(at: u32, count: u32) -> u64 {
+        unsafe { super::nph_sliced_most_access(at, count) }
+    }
+
+    /// Of `has_room`.
+    pub fn has_room() -> u64 {
+        unsafe { super::nph_sliced_most_has_room() }
+    }
+
+    /// Of `length`.
+    pub fn length() -> u64 {
+        unsafe { super::nph_sliced_most_length() }
+    }
+}
+
+// Why the calls are safe: each gets an open heap, references that do not overlap, and slices with their lengths.
+impl Heap {
+    /// Opens a heap without objects, whose slices have at most `quantum` words; `page_bytes` are the bytes of a page.
+    pub fn open(pages: u32, page_bytes: u32, proxies: u32, quantum: u32) -> Result<Heap, Error> {
+        let mut heap = Heap { raw: CLOSED };
+        let code = unsafe { nph_sliced_open(&mut heap.raw, pages, page_bytes, proxies, quantum) };
+        result_of(code, heap)
+    }
+
+    /// What `open` with these settings asks of `rattle_alloc`.
+    pub fn bytes_needed(pages: u32, page_bytes: u32, proxies: u32) -> Result<Needed, Error> {
+        written(|needed| unsafe { nph_sliced_bytes_needed(pages, page_bytes, proxies, needed) })
+    }
+
+    /// Makes an object of `bytes` zeros. Fails with `Busy` if only the slot of the pending job is left.
+    pub fn malloc(&mut self, bytes: u32) -> Result<Handle, Error> {
+        written(|handle| unsafe { nph_sliced_malloc(&mut self.raw, bytes, handle) }).map(Handle)
+    }
+
+    /// Frees an object, and does the first slice of its job. Fails with `Busy` if a job is pending.
+    pub fn free(&mut self, object: Handle) -> Result<(), Error> {
+        result_of(unsafe { nph_sliced_free(&mut self.raw, object.0) }, ())
+    }
+
+    /// Does one slice of the pending job; nothing if none is pending.
+    pub fn step(&mut self) {
+        unsafe { nph_sliced_step(&mut self.raw) };
+    }
+
+    /// The words that the pending job has yet to clear or move; 0 if none is pending.
+    pub fn left(&mut self) -> u32 {
+        written(|words| unsafe { nph_sliced_left(&mut self.raw, words) }).unwrap_or_default()
+    }
+
+    /// The object that the pending job moves.
+    pub fn moving(&mut self) -> Option<Handle> {
+        written(|handle| unsafe { nph_sliced_moving(&mut self.raw, handle) }).ok().and_then(|number| handle_of(number, Handle))
+    }
+
+    /// Writes the bytes into an object, from its byte `at` on.
+    pub fn write(&mut self, object: Handle, at: u32, bytes: &[u8]) -> Result<(), Error> {
+        result_of(unsafe { nph_sliced_write(&mut self.raw, object.0, at, bytes.as_ptr(), bytes.len()) }, ())
+    }
+
+    /// Fills `bytes` with the bytes of an object, from its byte `at` on.
+    pub fn read(&mut self, object: Handle, at: u32, bytes: &mut [u8]) -> Result<(), Error> {
+        result_of(unsafe { nph_sliced_read(&mut self.raw, object.0, at, bytes.as_mut_ptr(), bytes.len()) }, ())
+    }
+
+    /// The length of an object in bytes.
+    pub fn length(&mut self, object: Handle) -> Result<u32, Error> {
+        written(|bytes| unsafe { nph_sliced_length(&mut self.raw, object.0, bytes) })
+    }
+
+    /// Whether `malloc` would succeed now, else its error.
+    pub fn has_room(&mut self, bytes: u32) -> Result<(), Error> {
+        result_of(unsafe { nph_sliced_has_room(&mut self.raw, bytes) }, ())
+    }
+
+    /// The steps of the last call, but for `left` and `moving`.
+    pub fn last_steps(&mut self) -> u64 {
+        written(|steps| unsafe { nph_sliced_last_steps(&mut self.raw, steps) }).unwrap_or_default()
+    }
+}
+
+// The library's own type is proved `Send`.
+unsafe impl Send for Heap {}
+
+impl Drop for Heap {
+    fn drop(&mut self) {
+        unsafe { nph_sliced_close(&mut self.raw) }
+    }
+}
