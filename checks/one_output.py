@@ -924,7 +924,7 @@ def compare_text(each):
 
 def in_chunks(command, text, replies, draw):
     """What the tool prints if the script comes in drawn chunks, each written when the whole lines before it are answered."""
-    with subprocess.Popen(command, stdin=subprocess.PIPE, stdout=subprocess.PIPE) as child:
+    with subprocess.Popen(command, stdin=subprocess.PIPE, stdout=subprocess.PIPE, stderr=subprocess.DEVNULL) as child:
         printed, at, whole = b"", 0, 0
         ends = [0, *itertools.accumulate(map(len, replies))]
         while at < len(text):
