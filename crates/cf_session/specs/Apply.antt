@@ -5,21 +5,12 @@ use Rattle.std.specs.List.{starts_with}
 use Rattle.std.specs.Str.{bytes_eq}
 use Rattle.cf_base.specs.declared.answers.Failed.{Failed}
 use Rattle.cf_model.specs.State.{HeapState}
-use Rattle.cf_model.specs.Steps.{IsClosed}
 use Rattle.cf_session.specs.declared.outcome.Outcome.{Outcome}
 use Rattle.cf_session.specs.declared.outcome.Outcome.TheVariants.{Good, Refused, Other}
 use Rattle.run_model.specs.Answering.{Asked, IsAnswered, IsCutShort, Moment}
-use Rattle.run_model.specs.Sessions.{RunState, SessionState}
+use Rattle.run_model.specs.Sessions.{SessionState}
+pub use Rattle.id_table.specs.Sessions.{LacksOne, run_at}
 use Rattle.run_model.specs.Texts.{Reply}
-
--- the state of a run: the state of its session and that of its manager
-abbrev pub run_at : SessionState → HeapState → RunState
-run_at session heap = record { session = session; heap = heap }
-
--- an allocation failed at the `heap` line: the manager is closed, and the session is unchanged
-pub record LacksOne (old new : RunState) : Type 0 where
-  pub closed : IsClosed old.heap new.heap
-  pub session : new.session ≡ old.session
 
 -- the state of a run at one moment, and the bytes written by then; `None` if the sink isn't observable
 abbrev pub moment_at : SessionState → HeapState → Option (List ℕ) → Moment

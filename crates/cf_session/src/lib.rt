@@ -4,6 +4,7 @@
 
 mod changes;
 mod dispatch;
+mod namer;
 mod outcome;
 mod queries;
 mod records;

@@ -3,7 +3,7 @@
 use Rattle.std.proofs.Common.{◌≡◌, ◌∙◌, ◌+◌, ◌*◌, ℕ, Bool, true, false, ap, refl, sym, inl, inr}
 use Rattle.std.specs.Prelude.{Result, Ok, Err, nat_lt}
 use Rattle.std.specs.FinMap.{len}
-use Rattle.run_model.specs.Sessions.{RunState, SessionState, counted}
+use Rattle.id_table.specs.Sessions.{RunState, SessionState, counted}
 use Rattle.heap_image.specs.Counts.{CountsFree, CountsLoad, CountsStop, after_mallocs}
 use Rattle.heap_image.specs.Heaps.{live_objects}
 use Rattle.heap_image.specs.declared.fault.LoadFault.{LoadFault}

@@ -7,7 +7,7 @@ use Rattle.std.specs.Ordering.{nat_cmp}
 use Rattle.cf_base.specs.Settings.{Profile}
 use Rattle.cf_lemmas.proofs.Maps.{get_insert_other, len_fresh}
 use Rattle.page_model.specs.Held.{Objects}
-use Rattle.run_model.specs.Sessions.{RunState}
+use Rattle.id_table.specs.Sessions.{RunState}
 use Rattle.heap_image.specs.Decoded.{BreaksNoRule, Decoded, Reached, at_first, breaks_in, end_decoded, entries_decoded, entry_decoded, passed, whole}
 use Rattle.heap_image.specs.Ends.{EndRead, EndsReading}
 use Rattle.heap_image.specs.Entries.{ReadsEntry, reached_in}

@@ -13,7 +13,7 @@ use Rattle.cf_lemmas.proofs.Maps.{equal_maps, get_inserted, get_insert_other, in
 use Rattle.cf_lemmas.proofs.Tests.{lt_yes}
 use Rattle.page_model.specs.Bytes.{written}
 use Rattle.page_model.specs.Held.{Objects}
-use Rattle.run_model.specs.Sessions.{RunState}
+use Rattle.id_table.specs.Sessions.{RunState}
 use Rattle.heap_image.specs.Decoded.{Decoded, Reached, breaks_in, bytes_decoded, cut, has_room, length_decoded, passed}
 use Rattle.heap_image.specs.Entries.{ReadsEntry, FillsObject}
 use Rattle.heap_image.specs.Feed.{Feed, TakesBytes}

@@ -19,10 +19,10 @@ use Rattle.page_model.specs.Counts.{ceil_div}
 use Rattle.page_model.specs.Held.{Held, Objects, Placed, objects}
 use Rattle.page_model.specs.Paging.{IsPaging, Paging, class_for, classes, paging_of, slots_of}
 use Rattle.page_model.proofs.CallerLemmas.{class_holds, len-objects, sum_same, bytes_held}
-use Rattle.run_model.specs.Sessions.{AreTied, IsGoing, RunState}
-use Rattle.run_model.proofs.CallerLemmas.{names_of_objects, by_id_counts, found_by_id, gone_by_id, live_by_id, numbered_by_id}
+use Rattle.id_table.specs.Sessions.{AreTied, IsGoing, RunState}
+use Rattle.id_table.proofs.CallerLemmas.{names_of_objects, by_id_counts, found_by_id, gone_by_id, live_by_id, numbered_by_id}
 use Rattle.id_table.specs.Ties.{AreTiedTo}
-use Rattle.run_model.specs.ById.{bytes_of}
+use Rattle.id_table.specs.ById.{bytes_of}
 use Rattle.heap_image.specs.Decoded.{IsHeapImage, image_paging}
 use Rattle.heap_image.specs.Heaps.{HaveImage, heap_image, live_objects}
 use Rattle.heap_image.specs.Image.{image_of}

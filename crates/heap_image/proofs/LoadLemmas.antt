@@ -13,13 +13,13 @@ use Rattle.cf_lemmas.proofs.Maps.{equal_maps}
 use Rattle.cf_model.specs.Rules.{KeepsRules}
 use Rattle.cf_model.specs.State.{HeapState, layout_of}
 use Rattle.cf_model.specs.Steps.{IsClosed, IsEmptyHeap, opening_bounds}
-use Rattle.cf_session.specs.Apply.{run_at}
+use Rattle.id_table.specs.Sessions.{run_at}
 use Rattle.id_table.proofs.CallerLemmas.{none_tied}
 use Rattle.page_model.specs.Held.{objects}
 use Rattle.page_model.specs.Paging.{EveryBoundIsOne, first_bounds, paging_of}
 use Rattle.page_model.proofs.CallerLemmas.{first_ones}
-use Rattle.run_model.specs.Sessions.{RunState, SessionState}
-use Rattle.run_model.proofs.CallerLemmas.{costs_nothing, gone_by_id}
+use Rattle.id_table.specs.Sessions.{RunState, SessionState}
+use Rattle.id_table.proofs.CallerLemmas.{costs_nothing, gone_by_id}
 use Rattle.cf_io.specs.Feeds.{MayFollow}
 use Rattle.cf_io.proofs.CallerLemmas.{nothing_follows}
 use Rattle.heap_image.specs.Decoded.{BreaksNoRule, Decoded, breaks_after, count_decoded, cut, decoded, whole}

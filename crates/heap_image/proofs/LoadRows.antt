@@ -4,7 +4,7 @@ use Rattle.std.proofs.Common.{◌≡◌, ◌∙◌, ◌++◌, ℕ, List, [], Opt
 use Rattle.std.specs.Prelude.{Result}
 use Rattle.cf_base.specs.declared.settings.Settings.{Settings}
 use Rattle.cf_io.specs.Feeds.{preceded, MayFollow}
-use Rattle.run_model.specs.Sessions.{RunState}
+use Rattle.id_table.specs.Sessions.{RunState}
 use Rattle.cf_io.proofs.CallerLemmas.{nothing_may_follow}
 use Rattle.heap_image.specs.Feed.{Feed}
 use Rattle.heap_image.specs.Load.{IsLoaded, LoadsBy}

@@ -8,8 +8,8 @@ use Rattle.cf_io.specs.Feeds.{SinkState, Writes, WritesAll}
 use Rattle.cf_io.proofs.CallerLemmas.{puts_cut, puts_same, puts_then, writes_none}
 use Rattle.id_table.specs.Ids.{AreWithin}
 use Rattle.page_model.specs.Held.{Placed, objects}
-use Rattle.run_model.specs.Sessions.{RunState}
-use Rattle.run_model.proofs.CallerLemmas.{gone_by_id, live_by_id, numbered_by_id}
+use Rattle.id_table.specs.Sessions.{RunState}
+use Rattle.id_table.proofs.CallerLemmas.{gone_by_id, live_by_id, numbered_by_id}
 use Rattle.page_model.proofs.CallerLemmas.{bytes_held}
 use Rattle.heap_image.specs.Heaps.{live_objects}
 use Rattle.heap_image.specs.Image.{object_texts}

@@ -15,8 +15,8 @@ use Rattle.cf_model.specs.Answers.{totals_in}
 use Rattle.cf_model.specs.State.{HeapState}
 use Rattle.page_model.specs.Held.{objects}
 use Rattle.page_model.proofs.CallerLemmas.{len-objects}
-use Rattle.run_model.specs.Sessions.{AreTied, RunState}
-use Rattle.run_model.proofs.CallerLemmas.{names_of_objects, by_id_counts}
+use Rattle.id_table.specs.Sessions.{AreTied, RunState}
+use Rattle.id_table.proofs.CallerLemmas.{names_of_objects, by_id_counts}
 use Rattle.heap_image.specs.Heaps.{heap_image, live_objects}
 use Rattle.heap_image.specs.Image.{entries_of, entry_of, header_of, number_bytes}
 

@@ -2,7 +2,8 @@
 use Rattle.std.specs.Prelude.{◌≡◌, ◌⊎◌, ◌+◌, ◌*◌, Bool, Result, Ok, Err, if◌then◌else◌, nat_lt}
 use Rattle.std.specs.FinMap.{len}
 use Rattle.cf_base.specs.declared.answers.Freed.{Freed}
-use Rattle.run_model.specs.Sessions.{Ids, RunState, SessionState, counted}
+use Rattle.id_table.specs.Ids.{Ids}
+use Rattle.id_table.specs.Sessions.{RunState, SessionState, counted}
 use Rattle.heap_image.specs.Heaps.{live_objects}
 use Rattle.heap_image.specs.declared.fault.LoadFault.{LoadFault}
 

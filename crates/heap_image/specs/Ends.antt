@@ -3,7 +3,7 @@ use Rattle.std.specs.Prelude.{◌≡◌, ℕ, List, [], ◌∷◌, Some, Result,
 use Rattle.cf_base.specs.Settings.{Profile}
 use Rattle.cf_io.specs.Feeds.{IsSpent}
 use Rattle.page_model.specs.Held.{Objects}
-use Rattle.run_model.specs.Sessions.{RunState}
+use Rattle.id_table.specs.Sessions.{RunState}
 use Rattle.heap_image.specs.Decoded.{BreaksNoRule, Decoded, whole}
 use Rattle.heap_image.specs.Feed.{Feed, TakesBytes}
 use Rattle.heap_image.specs.Load.{HoldsObjects}

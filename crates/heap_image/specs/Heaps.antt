@@ -7,8 +7,8 @@ use Rattle.page_model.specs.Arrangement.{pages_needed}
 use Rattle.page_model.specs.Bytes.{AreBytes}
 use Rattle.page_model.specs.Held.{Objects, objects}
 use Rattle.cf_model.specs.Rules.{AreInRange}
-use Rattle.run_model.specs.Sessions.{RunState}
-use Rattle.run_model.specs.ById.{objects_by_id}
+use Rattle.id_table.specs.Sessions.{RunState}
+use Rattle.id_table.specs.ById.{objects_by_id}
 use Rattle.heap_image.specs.Decoded.{image_paging}
 use Rattle.heap_image.specs.Image.{image_of}
 

@@ -6,8 +6,7 @@ use Rattle.cf_base.specs.declared.settings.Settings.{Settings}
 use Rattle.cf_model.specs.State.{paging_in}
 use Rattle.page_model.specs.Held.{Objects}
 use Rattle.page_model.specs.Paging.{EveryBoundIsOne}
-use Rattle.run_model.specs.Sessions.{IsGoing, RunState}
-use Rattle.cf_session.specs.Apply.{LacksOne}
+use Rattle.id_table.specs.Sessions.{IsGoing, LacksOne, RunState}
 use Rattle.cf_io.specs.Feeds.{MayFollow}
 use Rattle.heap_image.specs.Decoded.{BreaksNoRule, Decoded, decoded, whole}
 use Rattle.heap_image.specs.Feed.{Feed, TakesBytes}

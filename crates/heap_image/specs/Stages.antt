@@ -8,7 +8,7 @@ use Rattle.cf_base.specs.Settings.{Profile, profile_of}
 use Rattle.cf_base.specs.declared.settings.Settings.{Settings}
 use Rattle.cf_io.specs.Feeds.{IsSpent}
 use Rattle.page_model.specs.Held.{Objects}
-use Rattle.run_model.specs.Sessions.{RunState}
+use Rattle.id_table.specs.Sessions.{RunState}
 use Rattle.heap_image.specs.Decoded.{BreaksNoRule, Decoded, count_decoded}
 use Rattle.heap_image.specs.Feed.{Feed, TakesBytes}
 use Rattle.heap_image.specs.Heaps.{live_objects}

@@ -3,7 +3,7 @@ ghost use Rattle.std.specs.Prelude.{◌≡◌, ◌+◌, ◌<◌, ◌≤◌, ◌^
 ghost use Rattle.std.specs.FinMap as map;
 ghost use Rattle.cf_base.specs.declared.kind.Kind.TheVariants.{Moving};
 ghost use Rattle.cf_io.specs.Feeds.{SourceFailsIf};
-ghost use Rattle.cf_session.specs.Apply.{run_at};
+ghost use Rattle.id_table.specs.Sessions.{run_at};
 ghost use Rattle.heap_image.specs.Decoded.{at_first, count_decoded, end_decoded, entries_decoded};
 ghost use Rattle.heap_image.specs.Ends.{EndsReading, EndRead};
 ghost use Rattle.heap_image.specs.Counts.{CountsLoad};
@@ -18,28 +18,28 @@ use crate::settings_in::read_settings;
 use cf_base::{CHUNK, Settings};
 use cf_io::Source;
 use cf_model::Manager;
-use cf_session::Session;
+use id_table::Namer;
 
 /// Loads an image into a heap of kind Moving, however the source chunks its bytes, and returns the image's
-/// settings, with the bound 1. The session has no live id before.
+/// settings, with the bound 1. No id of `names` is live before.
 ///
-/// After `Ok` the heap is open with these settings and holds the image's objects, the session maps their ids
-/// to handles, and the source is at its end. Fails with `Read` only if the source failed; the bytes that the
+/// After `Ok` the heap is open with these settings and holds the image's objects, `names` maps their ids to
+/// handles, and the source is at its end. Fails with `Read` only if the source failed; the bytes that the
 /// source returned before break no rule. Fails with `Bad` if the bytes are not an image; it takes no byte
 /// past the field that breaks a rule. After `Read` or `Bad` the heap is unchanged if the settings were not
 /// read, and else holds the objects of the whole entries that were read. Fails with `OutOfMemory` only when
 /// it opens the heap, after the 16 bytes of the mark and the settings; then the heap is closed.
-pub fn load<S: Source, H: Manager>(
+pub fn load<S: Source, H: Manager, N: Namer>(
     source: &mut S,
     heap: &mut H,
-    session: &mut Session,
+    names: &mut N,
 ) -> Result<Settings, LoadFault>
     requires moving { (H.state heap.old).kind ≡ Moving }
-    requires idle { session.old.ids ≡ map.empty }
-    ensures loads { LoadsBy (run_at session.old (H.state heap.old)) (feed_of (S.state source.old)) result (feed_of (S.state source.new))
-        (run_at session.new (H.state heap.new)) }
+    requires idle { (N.state names.old).ids ≡ map.empty }
+    ensures loads { LoadsBy (run_at (N.state names.old) (H.state heap.old)) (feed_of (S.state source.old)) result (feed_of (S.state source.new))
+        (run_at (N.state names.new) (H.state heap.new)) }
     ensures kind { (H.state heap.new).kind ≡ Moving }
-    ensures counts { CountsLoad session.old result (run_at session.new (H.state heap.new)) }
+    ensures counts { CountsLoad (N.state names.old) result (run_at (N.state names.new) (H.state heap.new)) }
     ensures source { SourceFailsIf (is_unread result) (S.state source.old) (S.state source.new) }
 {
     let settings = match read_settings(source) {
@@ -50,7 +50,7 @@ pub fn load<S: Source, H: Manager>(
         Ok(()) => {}
         Err(_) => return Err(LoadFault::OutOfMemory),
     }
-    match load_objects(source, heap, session, settings.proxies) {
+    match load_objects(source, heap, names, settings.proxies) {
         Ok(()) => Ok(settings),
         Err(fault) => Err(fault),
     }
@@ -59,19 +59,19 @@ pub fn load<S: Source, H: Manager>(
 /// Reads the number of objects at byte 16 of the image, then that many entries, and makes their objects in an
 /// open heap without objects. Checks that the source then ends. Fails as `load` does; a number of objects
 /// above `proxies` is `Bad`.
-fn load_objects<S: Source, H: Manager>(
+fn load_objects<S: Source, H: Manager, N: Namer>(
     source: &mut S,
     heap: &mut H,
-    session: &mut Session,
+    names: &mut N,
     proxies: u32,
 ) -> Result<(), LoadFault>
-    requires loading { IsLoading (run_at session.old (H.state heap.old)) }
-    requires none { live_objects (run_at session.old (H.state heap.old)) ≡ map.empty }
+    requires loading { IsLoading (run_at (N.state names.old) (H.state heap.old)) }
+    requires none { live_objects (run_at (N.state names.old) (H.state heap.old)) ≡ map.empty }
     requires proxies { (H.state heap.old).profile.proxies ≡ proxies }
     requires few { proxies ≤ 65536 }
     ensures ends { EndsReading (count_decoded (H.state heap.old).profile) (H.state heap.old).profile
-        (feed_of (S.state source.old)) result (feed_of (S.state source.new)) (run_at session.new (H.state heap.new)) }
-    ensures counts { CountsLoad session.old result (run_at session.new (H.state heap.new)) }
+        (feed_of (S.state source.old)) result (feed_of (S.state source.new)) (run_at (N.state names.new) (H.state heap.new)) }
+    ensures counts { CountsLoad (N.state names.old) result (run_at (N.state names.new) (H.state heap.new)) }
     ensures source { SourceFailsIf (is_unread result) (S.state source.old) (S.state source.new) }
 {
     let count = match read_u32(source, 16) {
@@ -81,31 +81,31 @@ fn load_objects<S: Source, H: Manager>(
     if count > proxies {
         return Err(LoadFault::Bad { at: 16 });
     }
-    load_entries(source, heap, session, count)
+    load_entries(source, heap, names, count)
 }
 
 /// Reads `count` entries, from byte 20 of the image on, and makes their objects in an open heap without
 /// objects. Checks that the source then ends. Fails as `load` does.
-fn load_entries<S: Source, H: Manager>(
+fn load_entries<S: Source, H: Manager, N: Namer>(
     source: &mut S,
     heap: &mut H,
-    session: &mut Session,
+    names: &mut N,
     count: u32,
 ) -> Result<(), LoadFault>
-    requires loading { IsLoading (run_at session.old (H.state heap.old)) }
-    requires none { live_objects (run_at session.old (H.state heap.old)) ≡ map.empty }
+    requires loading { IsLoading (run_at (N.state names.old) (H.state heap.old)) }
+    requires none { live_objects (run_at (N.state names.old) (H.state heap.old)) ≡ map.empty }
     requires few { count ≤ (H.state heap.old).profile.proxies }
     requires proxies { (H.state heap.old).profile.proxies ≤ 65536 }
     ensures ends { EndsReading (entries_decoded (H.state heap.old).profile count at_first) (H.state heap.old).profile
-        (feed_of (S.state source.old)) result (feed_of (S.state source.new)) (run_at session.new (H.state heap.new)) }
-    ensures counts { CountsLoad session.old result (run_at session.new (H.state heap.new)) }
+        (feed_of (S.state source.old)) result (feed_of (S.state source.new)) (run_at (N.state names.new) (H.state heap.new)) }
+    ensures counts { CountsLoad (N.state names.old) result (run_at (N.state names.new) (H.state heap.new)) }
     ensures source { SourceFailsIf (is_unread result) (S.state source.old) (S.state source.new) }
 {
     let mut buffer = [0; CHUNK];
     let mut next = 0;
     let mut at = 20;
     'entries: for i in 0..count {
-        match read_entry(source, heap, session, next, at, &mut buffer) {
+        match read_entry(source, heap, names, next, at, &mut buffer) {
             Ok(entry) => {
                 next = entry.id as u32 + 1;
                 at += 6 + entry.length as u64;

@@ -4,9 +4,9 @@ ghost use Rattle.std.specs.FinMap as map;
 ghost use Rattle.cf_base.specs.declared.kind.Kind.TheVariants.{Moving};
 ghost use Rattle.cf_base.specs.Settings.{profile_of};
 ghost use Rattle.cf_io.specs.Feeds.{Writes};
-ghost use Rattle.cf_session.specs.Apply.{run_at};
+ghost use Rattle.id_table.specs.Sessions.{run_at};
 ghost use Rattle.page_model.specs.Held.{Placed};
-ghost use Rattle.run_model.specs.Sessions.{AreTied};
+ghost use Rattle.id_table.specs.Sessions.{AreTied};
 ghost use Rattle.heap_image.specs.Heaps.{heap_image};
 ghost use Rattle.heap_image.specs.Image.{entry_of, header_of};
 
@@ -14,7 +14,7 @@ use crate::objects_out::{ObjectWriter, put_objects};
 use cf_base::{CHUNK, Failed, Handle, Settings};
 use cf_io::{Line, Sink, push_text, put_all};
 use cf_model::Manager;
-use cf_session::Session;
+use id_table::Namer;
 use step_ledger::Meter;
 
 /// Writes an object as an entry of an image: its id in two bytes, its length in four, and its bytes.
@@ -47,20 +47,19 @@ impl ObjectWriter for Entries {
 }
 
 /// Writes the image of the live objects of the heap: the settings `s`, then the objects by rising id, each
-/// with its length and its bytes, in chunks of at most 4,096 bytes. The ids are those of the session that
-/// runs on the heap. Returns `Failed` only if the sink failed; then a prefix of the image was written.
-pub fn save<H: Manager, K: Sink>(
+/// with its length and its bytes, in chunks of at most 4,096 bytes. `names` maps the ids to handles. Returns `Failed` only if the sink failed; then a prefix of the image was written.
+pub fn save<H: Manager, N: Namer, K: Sink>(
     s: &Settings,
     heap: &H,
-    session: &Session,
+    names: &N,
     out: &mut K,
     meter: &mut Meter,
 ) -> Result<(), Failed>
     requires moving { (H.state heap.now).kind ≡ Moving }
     requires open { IsTrue (H.state heap.now).is_open }
     requires settings { (H.state heap.now).profile ≡ profile_of s.now }
-    requires tied { AreTied session.now (H.state heap.now) }
-    ensures { Writes (K.state out.old) (heap_image (run_at session.now (H.state heap.now))) result (K.state out.new) }
+    requires tied { AreTied (N.state names.now) (H.state heap.now) }
+    ensures { Writes (K.state out.old) (heap_image (run_at (N.state names.now) (H.state heap.now))) result (K.state out.new) }
 {
     // For its contract: an open heap keeps its rules.
     let _open = heap.is_open();
@@ -71,7 +70,7 @@ pub fn save<H: Manager, K: Sink>(
         Ok(()) => {}
         Err(failed) => return Err(failed),
     }
-    put_objects(&Entries, heap, session, &mut line, out, meter)
+    put_objects(&Entries, heap, names, &mut line, out, meter)
 }
 
 /// Writes the 20 bytes that an image begins with: the mark `CFI1`, then four numbers of four bytes each. These

@@ -9,8 +9,8 @@ ghost use Rattle.id_table.specs.Ids.{AreWithin};
 ghost use Rattle.page_model.specs.Arrangement.{IsSound, pages_needed};
 ghost use Rattle.page_model.specs.Held.{Held, Objects, objects};
 ghost use Rattle.page_model.specs.Paging.{IsPaging, paging_of};
-ghost use Rattle.run_model.specs.Sessions.{AreTied, IsGoing, RunState};
-ghost use Rattle.run_model.specs.ById.{bytes_of};
+ghost use Rattle.id_table.specs.Sessions.{AreTied, IsGoing, RunState};
+ghost use Rattle.id_table.specs.ById.{bytes_of};
 ghost use Rattle.heap_image.specs.Decoded.{IsHeapImage, decoded, image_paging, whole};
 ghost use Rattle.heap_image.specs.Heaps.{HaveImage, heap_image, image_under, live_objects};
 

@@ -1,10 +1,10 @@
-//! Reads the entries of an image and makes their objects, by commands of a session. An object whose bytes
+//! Reads the entries of an image and makes their objects, by calls of a `Namer`. An object whose bytes
 //! can't all be read is freed again.
-ghost use Rattle.std.specs.Prelude.{◌≡◌, ◌≢◌, ◌+◌, ◌<◌, ◌≤◌, ◌^◌, ℕ, List, Some, None, Err, OnErr, OnOk, true, false, length, replicate};
+ghost use Rattle.std.specs.Prelude.{◌≡◌, ◌+◌, ◌<◌, ◌≤◌, ◌^◌, ℕ, List, Some, None, Err, OnErr, OnOk, true, false, length, replicate};
 ghost use Rattle.std.specs.Bool.{OnFalse, OnTrue};
 ghost use Rattle.std.specs.FinMap as map;
 ghost use Rattle.cf_io.specs.Feeds.{SourceFailsIf};
-ghost use Rattle.cf_session.specs.Apply.{run_at};
+ghost use Rattle.id_table.specs.Sessions.{run_at};
 ghost use Rattle.page_model.specs.Bytes.{written};
 ghost use Rattle.heap_image.specs.Decoded.{Decoded, Reached, entry_decoded, has_room, length_decoded};
 ghost use Rattle.heap_image.specs.Counts.{CountsFree, CountsStop, after_mallocs};
@@ -17,10 +17,9 @@ ghost use Rattle.heap_image.specs.Stages.{LeadsTo};
 use crate::fault::LoadFault;
 use crate::fields_in::{Filled, fill, read_u16, read_u32};
 use cf_base::CHUNK;
-use cf_io::{NullSink, Source};
+use cf_io::Source;
 use cf_model::Manager;
-use cf_session::{Outcome, Session};
-use script_reader::CommandRef;
+use id_table::Namer;
 
 /// An entry that was read: the id of its object, and the object's length in bytes.
 #[derive(Clone, Copy, Debug, PartialEq, Eq)]
@@ -34,25 +33,25 @@ pub(crate) struct Entry {
 /// with `Bad` or `Read` as `load` does, and then the heap holds the same objects as before.
 ///
 /// In clause `entry`, `go` is any function that decodes the bytes after the entry.
-pub(crate) fn read_entry<S: Source, H: Manager>(
+pub(crate) fn read_entry<S: Source, H: Manager, N: Namer>(
     source: &mut S,
     heap: &mut H,
-    session: &mut Session,
+    names: &mut N,
     next: u32,
     at: u64,
     buffer: &mut [u8],
 ) -> Result<Entry, LoadFault>
-    requires loading { IsLoading (run_at session.old (H.state heap.old)) }
-    requires fresh { (id : ℕ) → next ≤ id → map.get (live_objects (run_at session.old (H.state heap.old))) id ≡ None }
-    requires few { map.len (live_objects (run_at session.old (H.state heap.old))) < (H.state heap.old).profile.proxies }
+    requires loading { IsLoading (run_at (N.state names.old) (H.state heap.old)) }
+    requires fresh { (id : ℕ) → next ≤ id → map.get (live_objects (run_at (N.state names.old) (H.state heap.old))) id ≡ None }
+    requires few { map.len (live_objects (run_at (N.state names.old) (H.state heap.old))) < (H.state heap.old).profile.proxies }
     requires buffer { length buffer.old ≡ 4096 }
     requires offset { at < 2 ^ 60 }
     ensures entry { (go : Reached → List ℕ → Decoded) → ReadsEntry (λ bytes. entry_decoded (H.state heap.old).profile
-        (reached_in (run_at session.old (H.state heap.old)) next at) bytes go) go
-        (run_at session.old (H.state heap.old)) (reached_in (run_at session.old (H.state heap.old)) next at)
-        (feed_of (S.state source.old)) result (feed_of (S.state source.new)) (run_at session.new (H.state heap.new)) }
-    ensures counts { OnOk result (session.new ≡ after_mallocs session.old true session.new.ids) }
-    ensures stopped { OnErr result (CountsStop session.old session.new) }
+        (reached_in (run_at (N.state names.old) (H.state heap.old)) next at) bytes go) go
+        (run_at (N.state names.old) (H.state heap.old)) (reached_in (run_at (N.state names.old) (H.state heap.old)) next at)
+        (feed_of (S.state source.old)) result (feed_of (S.state source.new)) (run_at (N.state names.new) (H.state heap.new)) }
+    ensures counts { OnOk result (N.state names.new ≡ after_mallocs (N.state names.old) true (N.state names.new).ids) }
+    ensures stopped { OnErr result (CountsStop (N.state names.old) (N.state names.new)) }
     ensures source { SourceFailsIf (is_unread result) (S.state source.old) (S.state source.new) }
 {
     let id = match read_u16(source, at) {
@@ -62,43 +61,43 @@ pub(crate) fn read_entry<S: Source, H: Manager>(
     if (id as u32) < next {
         return Err(LoadFault::Bad { at });
     }
-    read_object(source, heap, session, id, next, at, buffer)
+    read_object(source, heap, names, id, next, at, buffer)
 }
 
 /// Reads what follows the id of an entry, the length and the bytes of its object, and makes the object under
 /// this `id`. The other parameters are those of `read_entry`: `at` is still the offset of the entry, so the
 /// length is at `at + 2`. Fails as `read_entry` does.
-fn read_object<S: Source, H: Manager>(
+fn read_object<S: Source, H: Manager, N: Namer>(
     source: &mut S,
     heap: &mut H,
-    session: &mut Session,
+    names: &mut N,
     id: u16,
     next: u32,
     at: u64,
     buffer: &mut [u8],
 ) -> Result<Entry, LoadFault>
-    requires loading { IsLoading (run_at session.old (H.state heap.old)) }
+    requires loading { IsLoading (run_at (N.state names.old) (H.state heap.old)) }
     requires rises { next ≤ id }
-    requires fresh { map.get (live_objects (run_at session.old (H.state heap.old))) id ≡ None }
-    requires few { map.len (live_objects (run_at session.old (H.state heap.old))) < (H.state heap.old).profile.proxies }
+    requires fresh { map.get (live_objects (run_at (N.state names.old) (H.state heap.old))) id ≡ None }
+    requires few { map.len (live_objects (run_at (N.state names.old) (H.state heap.old))) < (H.state heap.old).profile.proxies }
     requires buffer { length buffer.old ≡ 4096 }
     requires offset { at < 2 ^ 60 }
     ensures entry { (go : Reached → List ℕ → Decoded) → ReadsEntry (λ bytes. length_decoded (H.state heap.old).profile
-        (reached_in (run_at session.old (H.state heap.old)) next at) id bytes go) go
-        (run_at session.old (H.state heap.old)) (reached_in (run_at session.old (H.state heap.old)) next at)
-        (feed_of (S.state source.old)) result (feed_of (S.state source.new)) (run_at session.new (H.state heap.new)) }
-    ensures counts { OnOk result (session.new ≡ after_mallocs session.old true session.new.ids) }
-    ensures stopped { OnErr result (CountsStop session.old session.new) }
+        (reached_in (run_at (N.state names.old) (H.state heap.old)) next at) id bytes go) go
+        (run_at (N.state names.old) (H.state heap.old)) (reached_in (run_at (N.state names.old) (H.state heap.old)) next at)
+        (feed_of (S.state source.old)) result (feed_of (S.state source.new)) (run_at (N.state names.new) (H.state heap.new)) }
+    ensures counts { OnOk result (N.state names.new ≡ after_mallocs (N.state names.old) true (N.state names.new).ids) }
+    ensures stopped { OnErr result (CountsStop (N.state names.old) (N.state names.new)) }
     ensures source { SourceFailsIf (is_unread result) (S.state source.old) (S.state source.new) }
 {
     let n = match read_u32(source, at + 2) {
         Ok(n) => n,
         Err(fault) => return Err(fault),
     };
-    if !make_object(heap, session, id, n) {
+    if !make_object(heap, names, id, n) {
         return Err(LoadFault::Bad { at: at + 2 });
     }
-    match fill_object(source, heap, session, id, n, at + 6, buffer) {
+    match fill_object(source, heap, names, id, n, at + 6, buffer) {
         Ok(()) => Ok(Entry { id, length: n }),
         Err(fault) => Err(fault),
     }
@@ -106,59 +105,40 @@ fn read_object<S: Source, H: Manager>(
 
 /// Makes an object of `n` zero bytes under the id. Returns false, and makes none, if it doesn't fit a page, or
 /// if all objects with it need more pages than the heap has.
-fn make_object<H: Manager>(heap: &mut H, session: &mut Session, id: u16, n: u32) -> bool
-    requires loading { IsLoading (run_at session.old (H.state heap.old)) }
-    requires fresh { map.get (live_objects (run_at session.old (H.state heap.old))) id ≡ None }
-    requires few { map.len (live_objects (run_at session.old (H.state heap.old))) < (H.state heap.old).profile.proxies }
-    ensures test { result ≡ has_room (H.state heap.old).profile (live_objects (run_at session.old (H.state heap.old))) n }
-    ensures made { OnTrue result (LeadsTo (run_at session.old (H.state heap.old)) (run_at session.new (H.state heap.new))
-        (map.insert (live_objects (run_at session.old (H.state heap.old))) id (replicate n 0))) }
-    ensures counts { session.new ≡ after_mallocs session.old true session.new.ids }
-    ensures refused { OnFalse result (LeadsTo (run_at session.old (H.state heap.old)) (run_at session.new (H.state heap.new))
-        (live_objects (run_at session.old (H.state heap.old)))) }
+fn make_object<H: Manager, N: Namer>(heap: &mut H, names: &mut N, id: u16, n: u32) -> bool
+    requires loading { IsLoading (run_at (N.state names.old) (H.state heap.old)) }
+    requires fresh { map.get (live_objects (run_at (N.state names.old) (H.state heap.old))) id ≡ None }
+    requires few { map.len (live_objects (run_at (N.state names.old) (H.state heap.old))) < (H.state heap.old).profile.proxies }
+    ensures test { result ≡ has_room (H.state heap.old).profile (live_objects (run_at (N.state names.old) (H.state heap.old))) n }
+    ensures made { OnTrue result (LeadsTo (run_at (N.state names.old) (H.state heap.old)) (run_at (N.state names.new) (H.state heap.new))
+        (map.insert (live_objects (run_at (N.state names.old) (H.state heap.old))) id (replicate n 0))) }
+    ensures counts { N.state names.new ≡ after_mallocs (N.state names.old) true (N.state names.new).ids }
+    ensures refused { OnFalse result (LeadsTo (run_at (N.state names.old) (H.state heap.old)) (run_at (N.state names.new) (H.state heap.new))
+        (live_objects (run_at (N.state names.old) (H.state heap.old)))) }
 {
-    match session.apply_ref(
-        heap,
-        CommandRef::Malloc { id, bytes: n },
-        b"",
-        &mut NullSink,
-    ) {
-        Ok(outcome) => is_good(outcome),
-        Err(_) => unreachable!(),
-    }
-}
-
-/// Whether a command had the outcome `Good`, that is, did what it asks for.
-fn is_good(outcome: Outcome) -> bool
-    ensures good { OnTrue result (outcome ≡ Outcome.Good) }
-    ensures other { OnFalse result (outcome ≢ Outcome.Good) }
-{
-    match outcome {
-        Outcome::Good => true,
-        Outcome::Refused | Outcome::Other => false,
-    }
+    names.malloc(heap, id, n)
 }
 
 /// Fills the object of an id with the next `n` bytes of the source, which begin at the offset `at` of the
 /// image; `buffer` takes up to 4,096 of them at a time. Before the call the object is `n` zero bytes. Fails
 /// with `Bad { at }` if the input ends before the last of them, and with `Read` if the source failed; in both
 /// cases it frees the object.
-fn fill_object<S: Source, H: Manager>(
+fn fill_object<S: Source, H: Manager, N: Namer>(
     source: &mut S,
     heap: &mut H,
-    session: &mut Session,
+    names: &mut N,
     id: u16,
     n: u32,
     at: u64,
     buffer: &mut [u8],
 ) -> Result<(), LoadFault>
-    requires loading { IsLoading (run_at session.old (H.state heap.old)) }
-    requires made { map.get (live_objects (run_at session.old (H.state heap.old))) id ≡ Some (replicate n 0) }
+    requires loading { IsLoading (run_at (N.state names.old) (H.state heap.old)) }
+    requires made { map.get (live_objects (run_at (N.state names.old) (H.state heap.old))) id ≡ Some (replicate n 0) }
     requires buffer { length buffer.old ≡ 4096 }
-    ensures fills { FillsObject n at (run_at session.old (H.state heap.old)) id (feed_of (S.state source.old)) result (feed_of (S.state source.new))
-        (run_at session.new (H.state heap.new)) }
-    ensures counts { OnOk result (session.new ≡ session.old) }
-    ensures freed { OnErr result (CountsFree session.old session.new) }
+    ensures fills { FillsObject n at (run_at (N.state names.old) (H.state heap.old)) id (feed_of (S.state source.old)) result (feed_of (S.state source.new))
+        (run_at (N.state names.new) (H.state heap.new)) }
+    ensures counts { OnOk result (N.state names.new ≡ N.state names.old) }
+    ensures freed { OnErr result (CountsFree (N.state names.old) (N.state names.new)) }
     ensures source { SourceFailsIf (is_unread result) (S.state source.old) (S.state source.new) }
 {
     let mut done = 0;
@@ -168,59 +148,48 @@ fn fill_object<S: Source, H: Manager>(
         match fill(source, chunk) {
             Filled::Whole => {}
             Filled::Cut => {
-                free_object(heap, session, id);
+                free_object(heap, names, id);
                 return Err(LoadFault::Bad { at });
             }
             Filled::Failed => {
-                free_object(heap, session, id);
+                free_object(heap, names, id);
                 return Err(LoadFault::Read);
             }
         }
-        write_object_bytes(heap, session, id, done, chunk);
+        write_object_bytes(heap, names, id, done, chunk);
         done += count;
     }
     Ok(())
 }
 
 /// Writes these bytes into the object of an id, from byte `at` of the object on.
-fn write_object_bytes<H: Manager>(
+fn write_object_bytes<H: Manager, N: Namer>(
     heap: &mut H,
-    session: &mut Session,
+    names: &mut N,
     id: u16,
     at: u32,
     bytes: &[u8],
 )
-    requires loading { IsLoading (run_at session.old (H.state heap.old)) }
+    requires loading { IsLoading (run_at (N.state names.old) (H.state heap.old)) }
     requires some { 1 ≤ length bytes.now }
     requires few { length bytes.now ≤ 4096 }
-    requires within { (v : List ℕ) × (map.get (live_objects (run_at session.old (H.state heap.old))) id ≡ Some v)
+    requires within { (v : List ℕ) × (map.get (live_objects (run_at (N.state names.old) (H.state heap.old))) id ≡ Some v)
         × (at + length bytes.now ≤ length v) }
-    ensures counts { session.new ≡ session.old }
-    ensures writes { (v : List ℕ) → map.get (live_objects (run_at session.old (H.state heap.old))) id ≡ Some v
-        → LeadsTo (run_at session.old (H.state heap.old)) (run_at session.new (H.state heap.new))
-        (map.insert (live_objects (run_at session.old (H.state heap.old))) id (written v at bytes.now)) }
+    ensures counts { N.state names.new ≡ N.state names.old }
+    ensures writes { (v : List ℕ) → map.get (live_objects (run_at (N.state names.old) (H.state heap.old))) id ≡ Some v
+        → LeadsTo (run_at (N.state names.old) (H.state heap.old)) (run_at (N.state names.new) (H.state heap.new))
+        (map.insert (live_objects (run_at (N.state names.old) (H.state heap.old))) id (written v at bytes.now)) }
 {
-    match session.apply_ref(
-        heap,
-        CommandRef::Write { id, at, bytes },
-        b"",
-        &mut NullSink,
-    ) {
-        Ok(_) => {}
-        Err(_) => unreachable!(),
-    }
+    names.write(heap, id, at, bytes);
 }
 
 /// Frees the live object of an id.
-fn free_object<H: Manager>(heap: &mut H, session: &mut Session, id: u16)
-    requires loading { IsLoading (run_at session.old (H.state heap.old)) }
-    requires live { (v : List ℕ) × (map.get (live_objects (run_at session.old (H.state heap.old))) id ≡ Some v) }
-    ensures counts { CountsFree session.old session.new }
-    ensures frees { LeadsTo (run_at session.old (H.state heap.old)) (run_at session.new (H.state heap.new))
-        (map.remove (live_objects (run_at session.old (H.state heap.old))) id) }
+fn free_object<H: Manager, N: Namer>(heap: &mut H, names: &mut N, id: u16)
+    requires loading { IsLoading (run_at (N.state names.old) (H.state heap.old)) }
+    requires live { (v : List ℕ) × (map.get (live_objects (run_at (N.state names.old) (H.state heap.old))) id ≡ Some v) }
+    ensures counts { CountsFree (N.state names.old) (N.state names.new) }
+    ensures frees { LeadsTo (run_at (N.state names.old) (H.state heap.old)) (run_at (N.state names.new) (H.state heap.new))
+        (map.remove (live_objects (run_at (N.state names.old) (H.state heap.old))) id) }
 {
-    match session.apply_ref(heap, CommandRef::Free { id }, b"", &mut NullSink) {
-        Ok(_) => {}
-        Err(_) => unreachable!(),
-    }
+    names.free(heap, id);
 }

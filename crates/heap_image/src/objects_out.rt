@@ -4,16 +4,16 @@ ghost use Rattle.std.specs.Prelude.{◌≡◌, ℕ, List, IsTrue, Some, length};
 ghost use Rattle.std.specs.FinMap as map;
 ghost use Rattle.cf_base.specs.declared.kind.Kind.TheVariants.{Moving};
 ghost use Rattle.cf_io.specs.Feeds.{Writes};
-ghost use Rattle.cf_session.specs.Apply.{run_at};
+ghost use Rattle.id_table.specs.Sessions.{run_at};
 ghost use Rattle.page_model.specs.Held.{Placed};
-ghost use Rattle.run_model.specs.Sessions.{AreTied};
+ghost use Rattle.id_table.specs.Sessions.{AreTied};
 ghost use Rattle.heap_image.specs.Heaps.{live_objects};
 ghost use Rattle.heap_image.specs.Image.{object_texts};
 
 use cf_base::{CHUNK, Failed, Handle};
 use cf_io::{Line, Sink};
 use cf_model::Manager;
-use cf_session::Session;
+use id_table::Namer;
 use step_ledger::Meter;
 
 /// How many ids there are.
@@ -45,28 +45,28 @@ pub trait ObjectWriter {
             → Writes (K.state out.old) (text id x.bytes) result (K.state out.new) };
 }
 
-/// Writes the live objects of the heap one after another, by rising id, each with the writer. The session maps
+/// Writes the live objects of the heap one after another, by rising id, each with the writer. `names` maps
 /// the ids to handles; `line` and `meter` are passed to the writer. Returns `Failed` only if the sink failed;
 /// then a prefix of all the objects' texts was written.
-pub fn put_objects<W: ObjectWriter, H: Manager, K: Sink>(
+pub fn put_objects<W: ObjectWriter, H: Manager, N: Namer, K: Sink>(
     writer: &W,
     heap: &H,
-    session: &Session,
+    names: &N,
     line: &mut Line,
     out: &mut K,
     meter: &mut Meter,
 ) -> Result<(), Failed>
     requires moving { (H.state heap.now).kind ≡ Moving }
     requires open { IsTrue (H.state heap.now).is_open }
-    requires tied { AreTied session.now (H.state heap.now) }
-    ensures { Writes (K.state out.old) (object_texts W.text (map.entries (live_objects (run_at session.now (H.state heap.now)))))
+    requires tied { AreTied (N.state names.now) (H.state heap.now) }
+    ensures { Writes (K.state out.old) (object_texts W.text (map.entries (live_objects (run_at (N.state names.now) (H.state heap.now)))))
         result (K.state out.new) }
 {
     // For its contract: each live id has 16 bits.
-    let _first = session.handle(0);
+    let _first = names.handle(0);
     let mut buffer = [0; CHUNK];
     'ids: for id in 0..IDS {
-        let Some(h) = session.handle(id as u16) else {
+        let Some(h) = names.handle(id as u16) else {
             continue;
         };
         match writer.put_object(heap, id as u16, h, &mut buffer, line, out, meter) {

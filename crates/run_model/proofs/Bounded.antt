@@ -1,6 +1,6 @@
 -- Every step of a run with pages meets `MeetsBounds`: a class with n objects, m to a page, has at most ⌊n/m⌋ + k pages; if every bound is 1, exactly when a
 -- malloc is refused. So each `Step` is an `IsCommandStep`.
-use Rattle.std.proofs.Common.{◌≡◌, ℕ, ◌<◌, ◌≤◌, Option, Some, None, Result, Ok, Err, arith, sym, ◌∙◌, subst, inl, inr, refl}
+use Rattle.std.proofs.Common.{◌≡◌, ℕ, ◌≤◌, Option, Some, None, Result, Ok, Err, ap, sym, ◌∙◌, subst, inl, inr, refl}
 use Rattle.std.specs.Prelude.{◌↔◌, codes}
 use Rattle.std.specs.FinMap.{get}
 use Rattle.cf_base.specs.Classes.{need}
@@ -8,16 +8,15 @@ use Rattle.cf_base.specs.declared.answers.Handle.{Handle}
 use Rattle.cf_base.specs.declared.answers.Refusal.{Refusal}
 use Rattle.cf_base.specs.declared.answers.Refusal.TheVariants as refusal
 use Rattle.cf_base.specs.declared.kind.Kind.{Kind}
-use Rattle.page_model.specs.Arrangement.{LacksRoom, pages_needed_with}
-use Rattle.page_model.specs.Held.{objects}
-use Rattle.page_model.specs.Paging.{EveryBoundIsOne, class_for}
-use Rattle.page_model.specs.Steps.{IsFreePlace, Request}
-use Rattle.page_model.proofs.CallerLemmas.{class_fits, lacks_room_at_one, place_is_room, sound_few}
+use Rattle.id_table.proofs.CallerLemmas.{LacksByNeed, refused_by_need}
+use Rattle.page_model.specs.Paging.{EveryBoundIsOne}
+use Rattle.page_model.specs.Steps.{Request}
+use Rattle.page_model.proofs.CallerLemmas.{sound_few}
 use Rattle.cf_model.specs.Families as family
 use Rattle.cf_model.specs.Families.{Family, family_of}
-use Rattle.cf_model.specs.Rules.{IsPaged, KeepsPages, KeepsRules}
+use Rattle.cf_model.specs.Rules.{IsPaged, KeepsRules}
 use Rattle.cf_model.specs.State.{HeapState, paging_in}
-use Rattle.cf_model.specs.Steps.{IsMallocStep, IsPlacedBy, LacksRoomIn}
+use Rattle.cf_model.specs.Steps.{IsMallocStep}
 use Rattle.cf_model.proofs.CallerLemmas.{pages_kept}
 use Rattle.script_reader.specs.declared.command.Command.{Command}
 use Rattle.script_reader.specs.declared.command.Command.TheVariants.{Malloc}
@@ -33,42 +32,31 @@ use Rattle.run_model.proofs.RunInvariant.{step_rules, step_same}
 pub few_pages : (s : HeapState) → IsPaged s.kind → KeepsRules s → HasFewPages s
 few_pages s paged rules = (let k = pages_kept s.kind s paged rules.of_kind in λ c lt. sound_few (paging_in s) k.paging c lt s.held k.sound)
 
+-- the reply to a malloc shows whether it was refused for a proxy or for space
+lacks_if_said : (answer : Result Handle Refusal) (reply : Reply) → reply ≡ said (malloc_text answer) → RefusesForProxyOrSpace reply → LacksByNeed answer
+lacks_if_said (Ok h) reply shown refused = absurd (elim refused [
+  | inl e ↦ (let z : said (codes "ok") ≡ said (codes "refused proxy") = sym shown ∙ e in cc)
+  | inr e ↦ (let z : said (codes "ok") ≡ said (codes "refused space") = sym shown ∙ e in cc)
+])
+lacks_if_said (Err refusal.Size) reply shown refused = absurd (elim refused [
+  | inl e ↦ (let z : said (codes "refused size") ≡ said (codes "refused proxy") = sym shown ∙ e in cc)
+  | inr e ↦ (let z : said (codes "refused size") ≡ said (codes "refused space") = sym shown ∙ e in cc)
+])
+lacks_if_said (Err refusal.Proxy) reply shown refused = inl refl
+lacks_if_said (Err refusal.Space) reply shown refused = inr refl
+
+said_if_lacks : (answer : Result Handle Refusal) (reply : Reply) → reply ≡ said (malloc_text answer) → LacksByNeed answer → RefusesForProxyOrSpace reply
+said_if_lacks answer reply shown (inl e) = inl (shown ∙ ap (λ a. said (malloc_text a)) e)
+said_if_lacks answer reply shown (inr e) = inr (shown ∙ ap (λ a. said (malloc_text a)) e)
+
 -- The premises: a heap `s` with pages whose kind is `k`, every bound 1, and a malloc of `bytes` bytes that fit a page.
 module _ (k : Kind) (paged : IsPaged k) (s : HeapState) (rules : KeepsRules s) (is : s.kind ≡ k) (bytes : ℕ) (ones : EveryBoundIsOne (paging_in s))
     (fits : need bytes ≤ s.profile.page_words) where
-  pages : KeepsPages s
-  pages = pages_kept s.kind s (subst IsPaged (sym is) paged) rules.of_kind
-
-  -- no slot is left if and only if the objects with the new one need more pages than there are
-  by_need : LacksRoom (paging_in s) s.held (class_for (paging_in s) bytes) ↔ (s.profile.pages < pages_needed_with (paging_in s) (objects s.held) bytes)
-  by_need = lacks_room_at_one (paging_in s) pages.paging ones s.held pages.sound bytes (class_fits (paging_in s) pages.paging bytes fits)
-
-  lacking_in : (j : Kind) → IsPaged j → LacksRoomIn j s bytes → LacksRoom (paging_in s) s.held (class_for (paging_in s) bytes)
-  lacking_in j p l = rw (p, LacksRoomIn) at l
-
-  placed_in : (j : Kind) (asked : Request) (place : ℕ) (new : HeapState) → IsPaged j → IsPlacedBy j s asked place new
-      → IsFreePlace (paging_in s) s.held asked.length place
-  placed_in j asked place new p there = rw (p, IsPlacedBy) at there
-
   refused_exactly : (answer : Result Handle Refusal) (new : HeapState) (reply : Reply) → IsMallocStep s bytes answer new → reply ≡ said (malloc_text answer)
       → RefusesForProxyOrSpace reply ↔ LacksProxyOrPages s bytes
-  refused_exactly (Ok h) new reply step shown = (
-    (λ refused. absurd (elim refused [
-      | inl e ↦ (let z : said (codes "ok") ≡ said (codes "refused proxy") = sym shown ∙ e in cc)
-      | inr e ↦ (let z : said (codes "ok") ≡ said (codes "refused space") = sym shown ∙ e in cc)
-    ])),
-    (λ wanting. absurd (elim wanting [
-      | inl all ↦ (let few = step.few in omega arith)
-      | inr more ↦ place_is_room (paging_in s) s.held bytes step.place
-          (placed_in s.kind (record { number = h.0; length = bytes }) step.place new (subst IsPaged (sym is) paged) step.placed) (by_need.1 more)
-    ])),
-  )
-  refused_exactly (Err refusal.Size) new reply step shown = absurd (let large = step.0 in omega arith)
-  refused_exactly (Err refusal.Proxy) new reply step shown = ((λ _. inl step.0.all), (λ _. inl shown))
-  refused_exactly (Err refusal.Space) new reply step shown = (
-    (λ _. inr (by_need.0 (lacking_in s.kind (subst IsPaged (sym is) paged) step.0.lacking))),
-    (λ _. inr shown),
-  )
+  refused_exactly answer new reply step shown =
+      let needs = refused_by_need k paged s rules is bytes ones fits answer new step in
+      ((λ refused. needs.0 (lacks_if_said answer reply shown refused)), (λ wanting. said_if_lacks answer reply shown (needs.1 wanting)))
 
 refuses_at : (k : Kind) (o : Option ℕ) (old : RunState) (asked : Request) (reply : Reply) (new : RunState) → IsPaged k → KeepsRules old.heap → old.heap.kind ≡ k
     → MallocsAt o old asked reply new → RefusesByNeed o old.heap asked.length reply

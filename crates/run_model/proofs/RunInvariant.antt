@@ -1,6 +1,6 @@
 -- A run stays in progress (`IsGoing`: its heap is open and keeps its rules, its ids are those of the objects): this holds after the `heap` line, and every
 -- step keeps it, as it keeps kind and settings.
-use Rattle.std.proofs.Common.{◌≡◌, ℕ, List, Option, Some, None, Result, Ok, Err, sym, ◌∙◌, ap, subst, refl, arith}
+use Rattle.std.proofs.Common.{◌≡◌, ℕ, List, Option, Some, None, Result, Ok, Err, sym, ◌∙◌, ap, subst, refl}
 use Rattle.std.specs.FinMap.{get}
 use Rattle.cf_base.specs.Settings.{Profile}
 use Rattle.cf_base.specs.declared.answers.AccessFault.{AccessFault}
@@ -9,17 +9,16 @@ use Rattle.cf_base.specs.declared.answers.Refusal.{Refusal}
 use Rattle.cf_base.specs.declared.answers.Resized.{Resized}
 use Rattle.cf_base.specs.declared.answers.ResizeFault.{ResizeFault}
 use Rattle.cf_base.specs.declared.kind.Kind.{Kind}
-use Rattle.id_table.proofs.CallerLemmas.{none_tied}
+use Rattle.id_table.proofs.CallerLemmas.{costs_nothing, none_tied}
 use Rattle.page_model.specs.Steps.{Request}
 use Rattle.cf_model.specs.Answers.{with_bound}
-use Rattle.cf_model.specs.Families.{Family, paged, tiled, family_of}
 use Rattle.cf_model.specs.Rules.{KeepsRules}
 use Rattle.cf_model.specs.State.{HeapState}
 use Rattle.cf_model.specs.Steps.{IsMallocStep, IsResizeStep, IsLeftByRefusal, IsWriteStep, Position}
 use Rattle.script_reader.specs.declared.command.Command.{Command}
 use Rattle.script_reader.specs.declared.command.Command.TheVariants.{Malloc, Free, Write, Bound, Resize}
 use Rattle.run_model.specs.Runs.{Begins}
-use Rattle.run_model.specs.Sessions.{CostsAtMost, IsGoing, RunState, SessionState}
+use Rattle.run_model.specs.Sessions.{IsGoing, RunState, SessionState}
 use Rattle.run_model.specs.Steps.{Step, class_to_bound}
 use Rattle.run_model.proofs.NamedIds.{FreesAt, MallocsAt, ResizesAt, WritesAt}
 use Rattle.run_model.specs.Texts.{Reply}
@@ -114,14 +113,6 @@ step_going old new c reply going step = record {
   rules = step_rules old new c reply going.rules step;
   tied = step_tied old new c reply going.tied step;
 }
-
--- a call without cost is within every bound
-pub costs_nothing : (k : Kind) (cost bound : ℕ) → cost ≡ 0 → CostsAtMost k cost bound
-costs_nothing k cost bound none = by_family (family_of k) refl
-  where
-    by_family : (f : Family) → family_of k ≡ f → CostsAtMost k cost bound
-    by_family paged is = rw (is, CostsAtMost) (omega arith)
-    by_family tiled is = rw (is, CostsAtMost) tt
 
 -- a run is in progress when it begins
 pub begins_going : (kind : Kind) (p : Profile) (s : RunState) → Begins kind p s → IsGoing s

@@ -1,7 +1,6 @@
 -- Every step of a run keeps session and heap consistent (`AreTied`): each live id names one live handle, each handle has one id, and the last cost is within
 -- the session's step bound.
 use Rattle.std.proofs.Common.{◌≡◌, ℕ, List, Option, Some, None, Result, Ok, Err, sym, ◌∙◌, ap, subst, refl}
-use Rattle.std.specs.Prelude.{option_map}
 use Rattle.std.specs.FinMap.{get, insert, remove}
 use Rattle.cf_base.specs.declared.answers.AccessFault.{AccessFault}
 use Rattle.cf_base.specs.declared.answers.Handle.{Handle}
@@ -10,9 +9,8 @@ use Rattle.cf_base.specs.declared.answers.Resized.{Resized}
 use Rattle.cf_base.specs.declared.answers.ResizeFault.{ResizeFault}
 use Rattle.cf_base.specs.declared.kind.Kind.{Kind}
 use Rattle.id_table.specs.Ties.{AreTiedTo}
-use Rattle.id_table.proofs.CallerLemmas.{tied_less, tied_more, tied_same}
-use Rattle.cf_lemmas.proofs.MapValues.{get-map_values}
-use Rattle.page_model.specs.Held.{Held, Placed, objects}
+use Rattle.id_table.proofs.CallerLemmas.{counted_ids, names_of_held, names_of_objects, tied_less, tied_more, tied_same}
+use Rattle.page_model.specs.Held.{Held, objects}
 use Rattle.page_model.specs.Steps.{Request}
 use Rattle.page_model.proofs.CallerLemmas.{bytes_held}
 use Rattle.cf_model.specs.Answers.{with_bound}
@@ -25,35 +23,6 @@ use Rattle.run_model.specs.Sessions.{AreTied, CostsAtMost, CostsByKind, Ids, Run
 use Rattle.run_model.specs.Steps.{Frees, Mallocs, Resizes, Step, class_to_bound, ids_given, session_resized}
 use Rattle.run_model.proofs.NamedIds.{FreesAt, MallocsAt, ResizesAt, WritesAt}
 use Rattle.run_model.specs.Texts.{Reply}
-
--- if a mapped option has a value, so has the option
-mapped : {X Y : Type 0} (f : X → Y) (o : Option X) (y : Y) → option_map f o ≡ Some y → (x : X) × (o ≡ Some x)
-mapped f None y is = absurd (let e : None ≡ Some y = is in cc)
-mapped f (Some x) y is = (x, refl)
-
--- the ids are tied to the objects without their addresses too
-module _ (ids : Ids) (m : Held) where
-  pub names_of_objects : AreTiedTo ids m → AreTiedTo ids (objects m)
-  names_of_objects names = record {
-    named = λ i q is. ((names.named i q is).0.bytes, bytes_held m q (names.named i q is).0 (names.named i q is).1);
-    once = names.once;
-    all = λ q v is.
-        let x = mapped (λ (x : Placed). x.bytes) (get m q) v (sym (get-map_values (λ (x : Placed). x.bytes) m q) ∙ is) in
-        names.all q x.0 x.1;
-  }
-
-  pub names_of_held : AreTiedTo ids (objects m) → AreTiedTo ids m
-  names_of_held names = record {
-    named = λ i q is. mapped (λ (x : Placed). x.bytes) (get m q) (names.named i q is).0
-        (sym (get-map_values (λ (x : Placed). x.bytes) m q) ∙ (names.named i q is).1);
-    once = names.once;
-    all = λ q x is. names.all q x.bytes (bytes_held m q x is);
-  }
-
--- a session whose counters changed keeps its ids
-pub counted_ids : {T : Type 0} (s : SessionState) (o : Option T) (n : ℕ) → (counted s o n).ids ≡ s.ids
-counted_ids s None n = refl
-counted_ids s (Some h) n = refl
 
 pub counted_bound : {T : Type 0} (s : SessionState) (o : Option T) (n : ℕ) → (counted s o n).bound ≡ s.bound
 counted_bound s None n = refl

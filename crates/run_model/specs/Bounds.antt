@@ -1,9 +1,9 @@
 -- Two claims on every command of a run with pages: how many pages a class may have, and, if every bound is 1, exactly when a malloc is refused.
 use Rattle.std.specs.Prelude.{◌≡◌, ℕ, ⊤, ◌⊎◌, ◌↔◌, ◌+◌, ◌/◌, ◌≤◌, ◌<◌, Option, Some, None, codes}
-use Rattle.std.specs.FinMap.{get, len}
+use Rattle.std.specs.FinMap.{get}
 use Rattle.cf_base.specs.Classes.{need}
 use Rattle.cf_base.specs.declared.kind.Kind.{Kind}
-use Rattle.page_model.specs.Arrangement.{pages_of_class, live, pages_needed_with}
+use Rattle.page_model.specs.Arrangement.{pages_of_class, live}
 use Rattle.page_model.specs.Held.{objects}
 use Rattle.page_model.specs.Paging.{EveryBoundIsOne, bound_of, classes, slots_of}
 use Rattle.cf_model.specs.Families.{paged, tiled, family_of}
@@ -11,16 +11,13 @@ use Rattle.cf_model.specs.State.{HeapState, paging_in}
 use Rattle.script_reader.specs.declared.command.Command.{Command}
 use Rattle.script_reader.specs.declared.command.Command.TheVariants.{Malloc}
 use Rattle.run_model.specs.Sessions.{RunState}
+pub use Rattle.id_table.specs.Named.{LacksProxyOrPages}
 use Rattle.run_model.specs.Texts.{Reply, said}
 
 -- in heap `s`, each class `c` has at most ⌊n/m⌋ + k pages: `n` is its live objects, `m` the slots of a page, `k` its bound
 abbrev pub HasFewPages : HeapState → Type 0
 HasFewPages s = (c : ℕ) → c < classes (paging_in s) → pages_of_class (paging_in s) s.held c ≤ live (paging_in s) (objects s.held) c / slots_of
     (paging_in s) c + bound_of (paging_in s) c
-
--- in heap `s` all proxies are in use, or its objects and one more of `bytes` bytes need more pages than the region has
-abbrev pub LacksProxyOrPages : HeapState → ℕ → Type 0
-LacksProxyOrPages s bytes = (len s.held ≡ s.profile.proxies) ⊎ (s.profile.pages < pages_needed_with (paging_in s) (objects s.held) bytes)
 
 -- the reply is `refused proxy` or `refused space`, so not `refused size`
 abbrev pub RefusesForProxyOrSpace : Reply → Type 0

@@ -1,16 +1,2 @@
--- The bytes of objects by the ids of a session.
-use Rattle.std.specs.Prelude.{ℕ, List, [], Option, option_map}
-use Rattle.std.specs.Option.{unwrap_or}
-use Rattle.std.specs.FinMap.{get}
-use Rattle.cf_lemmas.specs.Maps.{map_values}
-use Rattle.page_model.specs.Held.{Objects, Placed}
-use Rattle.run_model.specs.Replies.{object_of}
-use Rattle.run_model.specs.Sessions.{Ids, RunState}
-
--- each id of `ids` with the bytes of the object under its handle's number in `m`; no bytes if there is no such object
-abbrev pub objects_by_id : Ids → Objects → Objects
-objects_by_id ids m = map_values (λ h. unwrap_or (get m h) []) ids
-
--- in state `s` of a run, the bytes of the object that an id names, if it is live
-abbrev pub bytes_of : RunState → ℕ → Option (List ℕ)
-bytes_of s id = option_map (λ (x : Placed). x.bytes) (object_of s id)
+-- The bytes of objects by the ids of a session, re-exported. Declares nothing.
+pub use Rattle.id_table.specs.ById.{bytes_of, objects_by_id}

@@ -1,6 +1,5 @@
 -- The text of the reply to each command, computed from the result of the manager's call or from the state of the run.
 use Rattle.std.specs.Prelude.{ℕ, ◌+◌, List, ◌++◌, Option, Some, None, Result, Ok, Err, codes, length, take, drop, nat_le, if◌then◌else◌, slice_get}
-use Rattle.std.specs.FinMap.{get}
 use Rattle.hex.specs.Hex.{encode_lower}
 use Rattle.cf_base.specs.declared.answers.AccessFault.{AccessFault}
 use Rattle.cf_base.specs.declared.answers.AccessFault.TheVariants as access
@@ -21,11 +20,8 @@ use Rattle.script_reader.specs.declared.command.Command.{Command}
 use Rattle.script_reader.specs.declared.command.Command.TheVariants.{Read, Place, Block, Peek, Walk, Frag, Steps, Slice, Task, Quota, Need, Admit}
 use Rattle.run_model.specs.Reports.{frag_of, walk_of}
 use Rattle.run_model.specs.Sessions.{RunState, SessionState}
+pub use Rattle.id_table.specs.ById.{object_of}
 use Rattle.run_model.specs.Texts.{Reply, said, with_number}
-
--- the object of an id in the state of a run; `None` if the id isn't live
-abbrev pub object_of : RunState → ℕ → Option Placed
-object_of s id = elim (get s.session.ids id) [ None ↦ None | Some h ↦ get s.heap.held h ]
 
 -- the reply to `m`, from the result of the manager's malloc
 abbrev pub malloc_text : Result Handle Refusal → List ℕ

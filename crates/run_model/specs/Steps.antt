@@ -3,7 +3,7 @@
 -- is the bound with pages, the second, if there is one, with blocks.
 use Rattle.std.specs.Prelude.{◌≡◌, ℕ, ◌+◌, ◌*◌, List, Option, Some, None, Result, Ok, Err, codes, if◌then◌else◌, nat_eq}
 use Rattle.std.specs.Option.{MatchOption}
-use Rattle.std.specs.FinMap.{get, insert, len, remove}
+use Rattle.std.specs.FinMap.{get, len, remove}
 use Rattle.cf_base.specs.declared.answers.AccessFault.{AccessFault}
 use Rattle.cf_base.specs.declared.answers.Freed.{Freed}
 use Rattle.cf_base.specs.declared.answers.Handle.{Handle}
@@ -21,17 +21,13 @@ use Rattle.cf_model.specs.Steps.{FreesObject, IsMallocStep, IsResizeStep, IsWrit
 use Rattle.script_reader.specs.declared.command.Command.{Command}
 use Rattle.script_reader.specs.declared.command.Command.TheVariants.{Malloc, Free, Write, Bound, Resize}
 use Rattle.run_model.specs.Replies.{malloc_text, resize_text, shown, write_text}
-use Rattle.run_model.specs.Sessions.{CostsAtMost, CostsByKind, Ids, RunState, SessionState, counted}
+use Rattle.run_model.specs.Sessions.{CostsAtMost, CostsByKind, RunState, SessionState, counted}
 use Rattle.run_model.specs.Texts.{Reply, said}
+pub use Rattle.id_table.specs.Named.{ids_given}
 
 -- the command changes nothing of the state, of whatever type S it is, and its reply is the one line `text`
 abbrev pub Stays : {S : Type 0} → S → List ℕ → Reply → S → Type 0
 Stays old text reply new = (reply ≡ said text) × (new ≡ old)
-
--- the ids after a malloc for `id` with this result: `id` names the new handle, or the malloc was refused, for whatever cause, and no id changes
-abbrev pub ids_given : {E : Type 0} → Ids → ℕ → Result Handle E → Ids
-ids_given ids id (Ok h) = insert ids id h.0
-ids_given ids id (Err e) = ids
 
 -- a malloc of `asked.length` bytes for the id `asked.number`, which isn't live; `step` doesn't name the words that change: `rules` relates them to the objects
 pub record Mallocs (old : RunState) (asked : Request) (reply : Reply) (new : RunState) : Type 0 where

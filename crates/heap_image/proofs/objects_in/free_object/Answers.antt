@@ -1,14 +1,18 @@
-use Rattle.cf_session.specs.Apply.{run_at}
+use Rattle.id_table.proofs.CallerLemmas.{numbered_by_id}
+use Rattle.id_table.specs.Sessions.{run_at}
+use Rattle.page_model.specs.Held.{objects}
 use Rattle.heap_image.proofs.StepLemmas.{freed, freed_counts}
 use Rattle.heap_image.proofs.objects_in.free_object.Goals as goal
 
-pub returns-clause-frees : goal.returns-clause-frees
-returns-clause-frees g c = freed (run_at c.args.session.now (g.H.Manager.state c.args.heap.now)) (run_at c.apply_ref.new.self (g.H.Manager.state c.apply_ref.new.heap))
-    c.requires.loading c.in-Ok.ensures.going
-    c.args.id c.requires.live.0 c.requires.live.1 c.in-Ok.ensures.step.0.reply c.in-Ok.ensures.step.0.turn
+pub free-requires-clause-live : goal.free-requires-clause-live
+free-requires-clause-live g c = numbered_by_id (g.N.Namer.state c.args.names.now).ids (objects (g.H.Manager.state c.args.heap.now).held) c.args.id
+    c.requires.live.0 c.requires.live.1
 
-pub returns-clause-counts : goal.returns-clause-counts
-returns-clause-counts g c = freed_counts (run_at c.args.session.now (g.H.Manager.state c.args.heap.now))
-    (run_at c.apply_ref.new.self (g.H.Manager.state c.apply_ref.new.heap))
-    c.requires.loading c.in-Ok.ensures.going
-    c.args.id c.requires.live.0 c.requires.live.1 c.in-Ok.ensures.step.0.reply c.in-Ok.ensures.step.0.turn
+pub returns : goal.returns
+returns g c =
+    let old = run_at (g.N.Namer.state c.args.names.now) (g.H.Manager.state c.args.heap.now) in
+    let new = run_at (g.N.Namer.state c.free.new.self) (g.H.Manager.state c.free.new.heap) in
+    record {
+      counts = freed_counts old new c.requires.loading c.free.ensures.going c.args.id c.free.ensures.step;
+      frees = freed old new c.requires.loading c.free.ensures.going c.args.id c.free.ensures.step;
+    }

@@ -2,7 +2,7 @@ use Rattle.std.proofs.Common.{◌≡◌, ◌+◌, Some, false, true, refl, ap, a
 use Rattle.std.specs.Prelude.{nat_le}
 use Rattle.std.specs.Int.{w16}
 use Rattle.std.proofs.lemmas.Bool.Decides.{nat_tests}
-use Rattle.cf_session.specs.Apply.{run_at}
+use Rattle.id_table.specs.Sessions.{run_at}
 use Rattle.heap_image.specs.Decoded.{breaks_in, entry_decoded, length_decoded}
 use Rattle.heap_image.specs.Entries.{reached_in}
 use Rattle.heap_image.proofs.CountLemmas.{counts_nothing}
@@ -13,7 +13,7 @@ use Rattle.heap_image.proofs.objects_in.read_entry.Goals as goal
 pub returns-in-Err-clause-entry : goal.returns-in-Err-clause-entry
 unfolding entry_decoded
 returns-in-Err-clause-entry g c = λ go.
-    let old = run_at c.args.session.now (g.H.Manager.state c.args.heap.now) in
+    let old = run_at (g.N.Namer.state c.args.names.now) (g.H.Manager.state c.args.heap.now) in
     let p = (g.H.Manager.state c.args.heap.now).profile in
     let r = reached_in old c.args.next c.args.at in
     let here : c.args.at + 0 ≡ c.args.at = omega arith in (
@@ -25,7 +25,7 @@ returns-in-Err-clause-entry g c = λ go.
 pub returns-then-id-next-clause-entry : goal.returns-then-id-next-clause-entry
 unfolding entry_decoded
 returns-then-id-next-clause-entry g c = λ go.
-    let old = run_at c.args.session.now (g.H.Manager.state c.args.heap.now) in
+    let old = run_at (g.N.Namer.state c.args.names.now) (g.H.Manager.state c.args.heap.now) in
     let p = (g.H.Manager.state c.args.heap.now).profile in
     let r = reached_in old c.args.next c.args.at in
     let here : c.args.at + 0 ≡ c.args.at = omega arith in
@@ -44,7 +44,7 @@ returns-then-id-next-clause-entry g c = λ go.
 pub returns-clause-entry : goal.returns-clause-entry
 unfolding entry_decoded
 returns-clause-entry g c = λ go.
-    let old = run_at c.args.session.now (g.H.Manager.state c.args.heap.now) in
+    let old = run_at (g.N.Namer.state c.args.names.now) (g.H.Manager.state c.args.heap.now) in
     let p = (g.H.Manager.state c.args.heap.now).profile in
     let r = reached_in old c.args.next c.args.at in
     let yes : nat_le c.args.next c.in-Ok.id ≡ true = grind (arith, nat_tests) in

@@ -1,5 +1,5 @@
 use Rattle.std.proofs.Common.{◌≡◌, ◌-◌, arith, subst, sym}
-use Rattle.cf_session.specs.Apply.{run_at}
+use Rattle.id_table.specs.Sessions.{run_at}
 use Rattle.heap_image.proofs.ObjectsOut.{CameTo, came_first, came_last, came_on, came_past, came_short}
 use Rattle.heap_image.proofs.objects_out.put_objects.Goals as goal
 
@@ -8,12 +8,12 @@ put_object-requires-clause-live g c = c.requires.tied.ids.named c.ids.id c.in-So
 
 pub ids-init : goal.ids-init
 ids-init g c = record {
-  came = came_first g.W.ObjectWriter.text (run_at c.args.session.now (g.H.Manager.state c.args.heap.now)) _ c.handle-first.ensures.within;
+  came = came_first g.W.ObjectWriter.text (run_at (g.N.Namer.state c.args.names.now) (g.H.Manager.state c.args.heap.now)) _ c.handle-first.ensures.within;
 }
 
 pub ids-preserved-in_default : goal.ids-preserved-in_default
 ids-preserved-in_default g c = record {
-  came = came_past g.W.ObjectWriter.text (run_at c.args.session.now (g.H.Manager.state c.args.heap.now)) _ _ c.ids.id (65535 - c.ids.id) (omega arith)
+  came = came_past g.W.ObjectWriter.text (run_at (g.N.Namer.state c.args.names.now) (g.H.Manager.state c.args.heap.now)) _ _ c.ids.id (65535 - c.ids.id) (omega arith)
       (omega arith) c.ids.invariant.came (sym c.in_default.ensures.found);
 }
 
@@ -21,7 +21,7 @@ pub returns-in-Err : goal.returns-in-Err
 returns-in-Err g c =
     let named = sym c.in-Some.ensures.found in
     let x = c.requires.tied.ids.named c.ids.id c.in-Some.h.0 named in
-    came_short g.W.ObjectWriter.text (run_at c.args.session.now (g.H.Manager.state c.args.heap.now)) _ _ c.ids.id (65535 - c.ids.id) (omega arith)
+    came_short g.W.ObjectWriter.text (run_at (g.N.Namer.state c.args.names.now) (g.H.Manager.state c.args.heap.now)) _ _ c.ids.id (65535 - c.ids.id) (omega arith)
     (omega arith) c.ids.invariant.came c.in-Some.h.0 named x.0 x.1 _ c.in-Err.failed (c.in-Err.ensures x.0 x.1)
 
 pub ids-preserved : goal.ids-preserved
@@ -29,12 +29,12 @@ ids-preserved g c =
     let named = sym c.in-Some.ensures.found in
     let x = c.requires.tied.ids.named c.ids.id c.in-Some.h.0 named in
     record {
-      came = came_on g.W.ObjectWriter.text (run_at c.args.session.now (g.H.Manager.state c.args.heap.now)) _ _ c.ids.id (65535 - c.ids.id) (omega arith)
+      came = came_on g.W.ObjectWriter.text (run_at (g.N.Namer.state c.args.names.now) (g.H.Manager.state c.args.heap.now)) _ _ c.ids.id (65535 - c.ids.id) (omega arith)
           (omega arith) c.ids.invariant.came c.in-Some.h.0 named x.0 x.1 _ (c.in-Ok.ensures x.0 x.1);
     }
 
 pub returns : goal.returns
-returns g c = came_last g.W.ObjectWriter.text (run_at c.args.session.now (g.H.Manager.state c.args.heap.now)) _ _
+returns g c = came_last g.W.ObjectWriter.text (run_at (g.N.Namer.state c.args.names.now) (g.H.Manager.state c.args.heap.now)) _ _
     (let end : c.ids.id ≡ 65536 = omega (arith, c.ids-test.false, c.ids.auto.id-end) in
-    subst (CameTo g.W.ObjectWriter.text (run_at c.args.session.now (g.H.Manager.state c.args.heap.now)) (g.K.Sink.state c.args.out.now)
+    subst (CameTo g.W.ObjectWriter.text (run_at (g.N.Namer.state c.args.names.now) (g.H.Manager.state c.args.heap.now)) (g.K.Sink.state c.args.out.now)
     (g.K.Sink.state c.ids.out)) end c.ids.invariant.came)

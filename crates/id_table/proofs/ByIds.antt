@@ -11,9 +11,9 @@ use Rattle.cf_lemmas.proofs.Maps.{equal_maps, get_inserted, get_insert_other, ge
 use Rattle.cf_lemmas.proofs.MapValues.{get-map_values}
 use Rattle.cf_lemmas.proofs.Renaming.{CountAlike, counted_alike}
 use Rattle.page_model.specs.Held.{Objects}
-use Rattle.run_model.specs.Sessions.{Ids}
+use Rattle.id_table.specs.Ids.{Ids}
 use Rattle.id_table.specs.Ties.{AreTiedTo}
-use Rattle.run_model.specs.ById.{objects_by_id}
+use Rattle.id_table.specs.ById.{objects_by_id}
 
 -- For any type of values; `d` is the value used for a number that has none.
 module _ {V : Type 0} (d : V) where
