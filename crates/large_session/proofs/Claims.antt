@@ -11,9 +11,10 @@ use Rattle.script_reader.specs.Items.{Item, asks, bad, starts}
 use Rattle.script_laws.specs.ById.{ById, begun}
 use Rattle.run_model.specs.ById.{objects_by_id}
 use Rattle.run_model.proofs.CallerLemmas.{none_by_id}
-use Rattle.large_session.specs.LargeRun.{IsGoingLarge, LargeRun, LargeStep}
+use Rattle.large_session.specs.LargeRun.{IsGoingLarge, LargeRun, LargeStep, large_calls}
 use Rattle.large_session.specs.Playing.{BeginsAtOne, BeginsLarge, RunsLarge, large_heap}
-use Rattle.large_session.proofs.RunInvariant.{still_going}
+use Rattle.object_model.proofs.CallerLemmas.{still_going}
+use Rattle.large_session.proofs.RunInvariant.{large_keeps}
 use Rattle.large_session.proofs.Turns.{begins_going}
 use Rattle.large_session.specs.LargeHeadline.{MeetsLarge, after_in, large_replies, large_reply_in}
 use Rattle.large_session.proofs.Reports.{shown}
@@ -49,7 +50,7 @@ module _ (kind : Kind) where
       (step.1.1, ap shown_at step.2 ∙ ap (λ t. Some t) (opened kind p step.0 b), subst GoesOn (sym step.2) (begins_going kind p step.0 b))
   item_met None (asks c) reply new goes step = (step.0, ap shown_at step.1, subst GoesOn (sym step.1) tt)
   item_met (Some s) (asks c) reply new goes step =
-      let on = still_going s step.0 goes reply c step.1 in
+      let on = still_going large_calls large_keeps s step.0 c reply goes step.1 in
       let a = answered s step.0 goes on reply c step.1 in
       (a.0, ap shown_at step.2 ∙ ap (λ t. Some t) a.1, subst GoesOn (sym step.2) on)
   item_met None (bad n) reply new goes step = (step.0, ap shown_at step.1, subst GoesOn (sym step.1) tt)

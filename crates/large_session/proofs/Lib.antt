@@ -5,7 +5,6 @@ pub mod RunInvariant
 pub mod ReplyLemmas
 pub mod OpenReply
 pub mod Turns
-pub mod ReadBack
 pub mod Reports
 pub mod Steps
 pub mod Claims

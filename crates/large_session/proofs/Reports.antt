@@ -83,7 +83,7 @@ module _ (s : LargeRun) (going : IsGoingLarge s) where
   counts = by_id_counts s.ids s.heap.objects going.tied
 
   pub kept : KeepsPages s.heap.inner
-  kept = pages_kept inner.kind inner going.parts.pages going.parts.rules.of_kind
+  kept = pages_kept inner.kind inner going.ready.parts.pages going.ready.parts.rules.of_kind
 
   count_is : inner_count u (by_id s) ≡ inner_count u large
   unfolding inner_count
@@ -95,7 +95,7 @@ module _ (s : LargeRun) (going : IsGoingLarge s) where
 
   sum_is : (f : ℕ → ℕ) → length_sum f (objects inner.held) ≡ inner_sum f u (by_id s)
   unfolding inner_sum
-  sum_is f = going.parts.counted.sums f ∙ sym (counts.sums (λ v. sum_by f (inner_lengths u (length v))))
+  sum_is f = going.ready.parts.counted.sums f ∙ sym (counts.sums (λ v. sum_by f (inner_lengths u (length v))))
 
   with_is : (n : ℕ) → inner_pages_with p u (by_id s) n ≡ inner_pages_with p u large n
   unfolding inner_pages_with
@@ -139,10 +139,10 @@ module _ (s : LargeRun) (going : IsGoingLarge s) where
 
   -- the replies to `walk` and `frag`
   each_is : (c : ℕ) → live p (objects inner.held) c ≡ live_inner (shown s) c
-  each_is c = going.parts.counted.each c ∙ sym (live_is c)
+  each_is c = going.ready.parts.counted.each c ∙ sym (live_is c)
 
   all_is : len (objects inner.held) ≡ inner_count u (by_id s)
-  all_is = going.parts.counted.all ∙ sym count_is
+  all_is = going.ready.parts.counted.all ∙ sym count_is
 
   pages_are : pages_needed p (objects inner.held) ≡ pages_of_inner (shown s)
   unfolding pages_needed
@@ -166,7 +166,7 @@ module _ (s : LargeRun) (going : IsGoingLarge s) where
   }
 
   totals_here : totals_in inner.kind inner ≡ large_totals (shown s)
-  totals_here = totals_paged inner.kind going.parts.pages ∙ totals_are p kept.paging going.parts.ones inner.held kept.sound ∙ totals_shown
+  totals_here = totals_paged inner.kind going.ready.parts.pages ∙ totals_are p kept.paging going.ready.parts.ones inner.held kept.sound ∙ totals_shown
     where
       totals_paged : (k : Kind) → IsPaged k → totals_in k inner ≡ totals_of p inner.held
       totals_paged k is = rw (is, totals_in) refl
@@ -181,7 +181,7 @@ module _ (s : LargeRun) (going : IsGoingLarge s) where
   }) (each_is c)
 
   pub walk_is : walk_of s.heap.inner.kind s.heap.inner ≡ large_walk (shown s)
-  walk_is = walk_paged inner.kind going.parts.pages ∙ (λ i. lines i ++ said (total_line (totals_here i)))
+  walk_is = walk_paged inner.kind going.ready.parts.pages ∙ (λ i. lines i ++ said (total_line (totals_here i)))
     where
       walk_paged : (k : Kind) → IsPaged k → walk_of k inner ≡ pages_report inner
       walk_paged k is = rw (is, walk_of) refl
@@ -193,9 +193,9 @@ module _ (s : LargeRun) (going : IsGoingLarge s) where
           ≡ map (λ c. class_line (large_figures (shown s) c)) (filter (λ c. not (nat_eq (live_inner (shown s) c) 0)) (range_with_len 0 (classes p)))
       lines =
           ap (λ n. map (λ c. class_line (figures_of p inner.held c)) (filter (λ c. not (nat_eq (live p (objects inner.held) c) 0)) (range_with_len 0 n)))
-          (classes_here inner.kind going.parts.pages)
+          (classes_here inner.kind going.ready.parts.pages)
           ∙ said_alike (λ c. class_line (figures_of p inner.held c)) (λ c. class_line (large_figures (shown s) c)) _ _ 0 (classes p)
-          (λ d lt. ap class_line (figures_are p kept.paging going.parts.ones inner.held kept.sound d (omega arith) ∙ figures_shown d))
+          (λ d lt. ap class_line (figures_are p kept.paging going.ready.parts.ones inner.held kept.sound d (omega arith) ∙ figures_shown d))
           (λ d. ap (λ n. not (nat_eq n 0)) (each_is d))
 
   pub frag_is : frag_of s.heap.inner ≡ said (frag_line (large_totals (shown s)))

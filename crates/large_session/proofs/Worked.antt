@@ -1,6 +1,6 @@
 -- For `wrong_large_replies_fall_short`: the right replies to a small script in mode `large`, worked out command by command, meet the claim; replies that meet
 -- it are eight, with the same letters in their first lines.
-use Rattle.std.proofs.Common.{◌≡◌, ℕ, true, List, [], ◌∷◌, Some, None, length, replicate, get_or, sym, ◌∙◌, ap, refl}
+use Rattle.std.proofs.Common.{◌≡◌, ℕ, true, List, [], ◌∷◌, Some, None, drop, length, replicate, get_or, sym, ◌∙◌, ap, refl}
 use Rattle.std.specs.Prelude.{codes}
 use Rattle.std.specs.Fmt.{digits}
 use Rattle.std.specs.FinMap.{empty, insert}
@@ -75,40 +75,25 @@ before : (old : Objects) (c : Command) (reply : Reply) (new : Objects) (rest : L
     → large_replies Moving (Some (with new)) rest ≡ replies → large_replies Moving (Some (with old)) (asks c ∷ rest) ≡ reply ∷ replies
 before old c reply new rest replies step more = (λ i. step.0 i ∷ large_replies Moving (Some (step.1 i)) rest) ∙ ap (λ l. reply ∷ l) more
 
-abbrev rest7 : List Item
-rest7 = asks (Malloc 3 4000) ∷ []
+abbrev script : List Item
+script = starts settings ∷ asks (Malloc 1 600) ∷ asks (Write 1 503 (170 ∷ 187 ∷ [])) ∷ asks (Malloc 2 90) ∷ asks (Read 1 503 2) ∷ asks Walk ∷ asks Frag
+    ∷ asks (Malloc 3 4000) ∷ []
 
-abbrev rest6 : List Item
-rest6 = asks Frag ∷ rest7
-
-abbrev rest5 : List Item
-rest5 = asks Walk ∷ rest6
-
-abbrev rest4 : List Item
-rest4 = asks (Read 1 503 2) ∷ rest5
-
-abbrev rest3 : List Item
-rest3 = asks (Malloc 2 90) ∷ rest4
-
-abbrev rest2 : List Item
-rest2 = asks (Write 1 503 (170 ∷ 187 ∷ [])) ∷ rest3
-
-asked : items (codes "heap 8 512 1 16\nm 1 600\nw 1 503 aabb\nm 2 90\nr 1 503 2\nwalk\nfrag\nm 3 4000\n") true
-    ≡ starts settings ∷ asks (Malloc 1 600) ∷ rest2
+asked : items (codes "heap 8 512 1 16\nm 1 600\nw 1 503 aabb\nm 2 90\nr 1 503 2\nwalk\nfrag\nm 3 4000\n") true ≡ script
 unfolding decode_pairs
 asked = refl
 
 abbrev right : List Reply
 right = small_large_replies (codes "ok") (codes "=aabb") small_walk (codes "frag asked 698 taken 752 held 1536") (codes "refused space")
 
-replies_are : large_replies Moving None (starts settings ∷ asks (Malloc 1 600) ∷ rest2) ≡ right
+replies_are : large_replies Moving None script ≡ right
 replies_are = ap (λ l. said (codes "ok") ∷ l)
-    (before empty (Malloc 1 600) _ o1 rest2 _ step1
-    (before o1 (Write 1 503 (170 ∷ 187 ∷ [])) _ o2 rest3 _ step2
-    (before o2 (Malloc 2 90) _ o3 rest4 _ step3
-    (before o3 (Read 1 503 2) _ o3 rest5 _ step4
-    (before o3 Walk _ o3 rest6 _ step5
-    (before o3 Frag _ o3 rest7 _ step6
+    (before empty (Malloc 1 600) _ o1 (drop 2 script) _ step1
+    (before o1 (Write 1 503 (170 ∷ 187 ∷ [])) _ o2 (drop 3 script) _ step2
+    (before o2 (Malloc 2 90) _ o3 (drop 4 script) _ step3
+    (before o3 (Read 1 503 2) _ o3 (drop 5 script) _ step4
+    (before o3 Walk _ o3 (drop 6 script) _ step5
+    (before o3 Frag _ o3 (drop 7 script) _ step6
     (before o3 (Malloc 3 4000) _ o3 [] _ step7 refl)))))))
 
 all_right : large_replies Moving None (items (codes "heap 8 512 1 16\nm 1 600\nw 1 503 aabb\nm 2 90\nr 1 503 2\nwalk\nfrag\nm 3 4000\n") true)

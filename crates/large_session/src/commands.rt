@@ -7,7 +7,8 @@ ghost use Rattle.cf_session.specs.Apply.{outcome_in};
 ghost use Rattle.cf_session.specs.Short.{short_text};
 ghost use Rattle.script_reader.specs.declared.command.Command.TheVariants.{Malloc, Free, Write};
 ghost use Rattle.id_table.specs.Ties.{AreTiedTo};
-ghost use Rattle.large_session.specs.LargeRun.{LargeStep, large_object_of, large_run};
+ghost use Rattle.large_session.specs.LargeRun.{LargeStep, large_calls, large_run};
+ghost use Rattle.object_model.specs.ObjectRun.{object_bytes};
 ghost use Rattle.script_laws.specs.IdBytes.{read_shown};
 
 use cf_io::Line;
@@ -99,7 +100,7 @@ pub(crate) fn read<H: Manager>(
     requires open { IsTrue heap.now.is_open }
     requires few { length buffer.old ≤ 4096 }
     requires empty { line.old ≡ [] }
-    ensures text { line.new ≡ read_shown (large_object_of (large_run ids.now heap.now) id) at (length buffer.old) }
+    ensures text { line.new ≡ read_shown (object_bytes large_calls (large_run ids.now heap.now) id) at (length buffer.old) }
     ensures room { length line.new < line_capacity }
     ensures outcome { result ≡ outcome_in line.new }
 {

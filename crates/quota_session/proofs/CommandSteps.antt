@@ -2,8 +2,7 @@
 -- has a reply and a state after it.
 use Rattle.std.proofs.Common.{◌≡◌, ℕ, ◌<◌, List, Some, None, refl, inl, inr}
 use Rattle.std.specs.Prelude.{Option, codes}
-use Rattle.std.specs.Option.{MatchOption}
-use Rattle.std.specs.FinMap.{empty, get, remove}
+use Rattle.std.specs.FinMap.{empty}
 use Rattle.std.proofs.lemmas.List.{length-replicate}
 use Rattle.std.proofs.lemmas.Bool.{cases_lt}
 use Rattle.cf_base.specs.Classes.{need}
@@ -11,11 +10,10 @@ use Rattle.cf_base.specs.Settings.{Profile, at_bound_one}
 use Rattle.cf_io.specs.Texts.{Reply, said}
 use Rattle.cf_model.specs.Rules.{AreInRange}
 use Rattle.cf_model.specs.State.{region_words}
-use Rattle.id_table.specs.Ids.{Ids}
-use Rattle.page_model.specs.Held.{Placed}
 use Rattle.page_model.specs.Image.{slot_for}
-use Rattle.page_model.proofs.CallerLemmas.{image_empty}
-use Rattle.quota_heap.specs.State.{KeepsTasks, QuotaState, empty_state, held_by, objects_by, quota_of}
+use Rattle.object_model.proofs.CallerLemmas.{HasCalls, step_exists}
+use Rattle.page_model.proofs.CallerLemmas.{held_of_bytes, image_empty}
+use Rattle.quota_heap.specs.State.{KeepsTasks, empty_state, held_by, quota_of}
 use Rattle.quota_session.specs.Tasks.{quota_text, quotas_after}
 use Rattle.quota_model.specs.Admission.{CanBeAsked, IsAdmission, Share, declared_in_all, first_large, first_refused_for_space, in_order}
 use Rattle.quota_model.specs.Refusals.{task_paging}
@@ -26,75 +24,31 @@ use Rattle.quota_model.specs.declared.answers.QuotaFault.{QuotaFault}
 use Rattle.quota_model.proofs.CallerLemmas.{enough_iff, first_quotas, first_shared, granted_quotas, none_iff}
 use Rattle.script_laws.specs.ValidItems.{IsValidCommand}
 use Rattle.script_laws.proofs.CallerLemmas.{CanGoOn}
-use Rattle.run_model.specs.Replies.{malloc_text, write_text}
-use Rattle.run_model.specs.Steps.{ids_given, Stays}
 use Rattle.script_reader.specs.declared.command.Command.{Command}
 use Rattle.script_reader.specs.declared.command.Command.TheVariants as command
-use Rattle.id_table.proofs.CallerLemmas.{clash}
 use Rattle.quota_session.specs.Playing.{BeginsTasks, BeginsQuotas}
 use Rattle.quota_session.specs.QuotaRun.{IsGoingQuotas, QuotaRun, QuotaStep, StepsPresent, first_session, needs_of}
 use Rattle.quota_session.specs.Transcript.{admission_text, need_text}
 use Rattle.quota_session.specs.QuotaRun.{present_run, quota_fault, with_ids, with_need, with_present}
-use Rattle.quota_session.specs.TaskRun.{FreesIdOfTask, MallocsForTask, TaskRun, TaskStep, WritesIdOfTask, task_run, task_shown}
+use Rattle.quota_session.specs.TaskRun.{task_calls, task_shown}
 use Rattle.quota_session.proofs.CallResults.{PageLaw, free_there, malloc_there, write_there}
-use Rattle.quota_session.proofs.RunInvariant.{below, still_going}
+use Rattle.quota_session.proofs.RunInvariant.{below, present_going, still_going}
 use Rattle.quota_session.proofs.OpenLemmas.{begins_going}
-use Rattle.quota_session.proofs.TaskKept.{bytes_by}
 
--- a command of a task has a reply, and the task has ids and the heap a state after it, which the relation R admits
-record HasAnswer (old : TaskRun) (R : Reply → TaskRun → Type 0) : Type 0 where
-  reply : Reply
-  ids : Ids
-  heap : QuotaState
-  done : R reply (task_run old.task ids heap)
-
--- each command of the task in `old` has a reply (`HasAnswer`)
-module _ (law : PageLaw) (old : TaskRun) (rules : KeepsTasks old.heap) (lt : old.task < 16) (named : (id h : ℕ) → get old.ids id ≡ Some h
-    → (x : Placed) × (get (held_by old.heap old.task) h ≡ Some x)) where
-  malloc_at : (o : Option ℕ) (id n : ℕ) → HasAnswer old (λ reply new. MatchOption o (MallocsForTask old id n reply new)
-      (λ h. Stays old (codes "live") reply new))
-  malloc_at (Some h) id n = record { reply = said (codes "live"); ids = old.ids; heap = old.heap; done = (refl, refl) }
-  malloc_at None id n =
-      let m = malloc_there law old.heap rules old.task lt n in
-      record {
-        reply = said (malloc_text m.answer);
-        ids = (ids_given old.ids id m.answer);
-        heap = m.heap;
-        done = record { answer = m.answer; step = m.step; rules = m.rules; ids = refl; task = refl; reply_is = refl };
-      }
-
-  free_at : (o : Option ℕ) (id : ℕ) → get old.ids id ≡ o
-      → HasAnswer old (λ reply new. MatchOption o (Stays old (codes "unknown") reply new) (λ h. FreesIdOfTask old id h reply new))
-  free_at None id is = record { reply = said (codes "unknown"); ids = old.ids; heap = old.heap; done = (refl, refl) }
-  free_at (Some h) id is =
-      let x = named id h is in
-      let f = free_there law old.heap rules old.task lt h x.0 x.1 in
-      record {
-        reply = said (codes "ok");
-        ids = (remove old.ids id);
-        heap = f.heap;
-        done = record { freed = f.answer; step = f.step; rules = f.rules; ids = refl; task = refl; reply_is = refl };
-      }
-
-  write_at : (o : Option ℕ) (id at : ℕ) (bytes : List ℕ) → get old.ids id ≡ o
-      → HasAnswer old (λ reply new. MatchOption o (Stays old (codes "unknown") reply new)
-      (λ h. WritesIdOfTask old (record { number = h; from = at }) bytes reply new))
-  write_at None id at bytes is = record { reply = said (codes "unknown"); ids = old.ids; heap = old.heap; done = (refl, refl) }
-  write_at (Some h) id at bytes is =
-      let x = named id h is in
-      let w = write_there law old.heap rules old.task lt h at bytes x.0 x.1 in
-      record {
-        reply = said (write_text w.answer);
-        ids = old.ids;
-        heap = w.heap;
-        done = record { answer = w.answer; step = w.step; rules = w.rules; ids = refl; task = refl; reply_is = refl };
-      }
-
-  task_there : (c : Command) → HasAnswer old (TaskStep old c)
-  task_there (command.Malloc id n) = malloc_at (get old.ids id) id n
-  task_there (command.Free id) = free_at (get old.ids id) id refl
-  task_there (command.Write id at bytes) = write_at (get old.ids id) id at bytes refl
-  task_there c = record { reply = task_shown old c; ids = old.ids; heap = old.heap; done = (refl, refl) }
+-- each call for a task has a result
+task_there : PageLaw → (task : ℕ) → task < 16 → HasCalls (task_calls task)
+task_there law task lt = record {
+  malloc = λ s n rules. (let m = malloc_there law s rules task lt n in (m.answer, m.heap, (m.step, m.rules)));
+  free = λ s h v rules found. (
+      let x = held_of_bytes (held_by s task) h v found in
+      let f = free_there law s rules task lt h x.0 x.1 in
+      (None, f.heap, (f.answer, f.step, f.rules)));
+  write = λ s p bytes v rules found are some few. (
+      let x = held_of_bytes (held_by s task) p.number v found in
+      let w = write_there law s rules task lt p.number p.from bytes x.0 x.1 in
+      (w.answer, w.heap, (w.step, w.rules)));
+  other = λ s c rules. (task_shown s.heap task c, s, (refl, refl));
+}
 
 -- for each share and all declared needs the admission test has a result
 admission_there : (t : Share) (needs : List Need) → (a : Admission) × IsAdmission t needs a
@@ -112,19 +66,6 @@ admission_there t needs = by_large (first_large t.profile needs) refl
     ]
 
 module _ (law : PageLaw) (old : QuotaRun) (going : IsGoingQuotas old) where
-  abbrev before : TaskRun
-  before = present_run old.session old.heap
-
-  object : (id h : ℕ) → get before.ids id ≡ Some h → (x : Placed) × (get (held_by old.heap before.task) h ≡ Some x)
-  object id h is =
-      let v = (going.tied old.session.present (going.sixteen).present).named id h is in
-      go (get (held_by old.heap before.task) h) refl v.0 v.1
-    where
-      go : (o : Option Placed) → get (held_by old.heap before.task) h ≡ o → (v : List ℕ) → get (objects_by old.heap before.task) h ≡ Some v
-          → (x : Placed) × (get (held_by old.heap before.task) h ≡ Some x)
-      go (Some x) e v some = (x, e)
-      go None e v some = clash (get (objects_by old.heap before.task) h) v some (bytes_by old.heap before.task h None e)
-
   -- a quota line that is granted leaves the tasks within their quotas
   quota_rules : (task pages : ℕ) → task < 16 → (o : Option QuotaFault) → quota_fault old.heap task pages ≡ o
       → KeepsTasks (record old.heap { quotas = quotas_after o old.heap.quotas task pages })
@@ -140,28 +81,29 @@ module _ (law : PageLaw) (old : QuotaRun) (going : IsGoingQuotas old) where
     slots = (going.rules).slots;
   }
 
-  present_there : (c : Command) → (reply : Reply) × (new : QuotaRun) × StepsPresent old c reply new
-  present_there c =
-      let a = task_there law before going.rules (going.sixteen).present object c in
-      (a.reply, record old { session = with_ids old.session a.ids; heap = a.heap }, record { ids = a.ids; step = a.done; whole = refl })
+  present_there : (c : Command) → IsValidCommand c → (reply : Reply) × (new : QuotaRun) × StepsPresent old c reply new
+  present_there c can =
+      let now = old.session.present in
+      let a = step_exists (task_calls now) (task_there law now going.sixteen.present) (present_run old.session old.heap) c (present_going old going) can in
+      (a.0, record old { session = with_ids old.session a.1.ids; heap = a.1.heap }, record { ids = a.1.ids; step = a.2; whole = refl })
 
   -- every command of the grammar has a reply
-  pub step_exists : (c : Command) → IsValidCommand c → (reply : Reply) × (new : QuotaRun) × QuotaStep old c reply new
-  step_exists (command.Task task) can = (said (codes "ok"), with_present old task, (refl, refl))
-  step_exists (command.Quota task pages) can = (
+  pub quota_step_exists : (c : Command) → IsValidCommand c → (reply : Reply) × (new : QuotaRun) × QuotaStep old c reply new
+  quota_step_exists (command.Task task) can = (said (codes "ok"), with_present old task, (refl, refl))
+  quota_step_exists (command.Quota task pages) can = (
     said (quota_text (quota_fault old.heap task pages)),
     record old { heap = record old.heap { quotas = quotas_after (quota_fault old.heap task pages) old.heap.quotas task pages } },
     record { whole = refl; rules = quota_rules task pages (below task can.formed) (quota_fault old.heap task pages) refl; reply_is = refl },
   )
-  step_exists (command.Need task bytes count) can = (
+  quota_step_exists (command.Need task bytes count) can = (
     said (need_text (needs_of old.session task)),
     record old { session = with_need old.session task (record { bytes = bytes; count = count }) },
     (refl, refl),
   )
-  step_exists (command.Admit task) can =
+  quota_step_exists (command.Admit task) can =
       let a = admission_there (record { profile = old.heap.profile; quota = quota_of old.heap task }) (needs_of old.session task) in
       (said (admission_text a.0), old, (record { answer = a.0; meets = a.1; reply_is = refl }, refl))
-  step_exists c can = present_there c
+  quota_step_exists c can = present_there c can
 
 -- a run begins under any settings in their ranges
 pub begin_exists : (p : Profile) → AreInRange p → (new : QuotaRun) × BeginsQuotas p new
@@ -193,5 +135,5 @@ tasks_go_on law = record {
   begins_going = λ p reply s b. begins_going p s b.0;
   still_going = λ old c reply new going can step. still_going old going c reply new can.formed step;
   begin_exists = λ p can. (let b = begin_exists p can in (said (codes "ok"), b.0, (b.1, refl)));
-  step_exists = λ old c going can. step_exists law old going c can;
+  step_exists = λ old c going can. quota_step_exists law old going c can;
 }

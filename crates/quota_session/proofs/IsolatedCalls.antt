@@ -1,13 +1,13 @@
 -- For `tasks_are_isolated`: over a list of calls and quota lines, the replies to a task are the same without the others' calls and quota lines and without
 -- refused quota lines.
-use Rattle.std.proofs.Common.{◌≡◌, ℕ, Bool, true, false, cond, ◌<◌, List, [], ◌∷◌, ap, sym, ◌∙◌, refl, inl, inr}
+use Rattle.std.proofs.Common.{◌≡◌, ℕ, Bool, true, false, cond, ◌<◌, List, [], ◌∷◌, refl, inl, inr}
 use Rattle.std.specs.Prelude.{◌&&◌, nat_eq}
 use Rattle.std.proofs.lemmas.Bool.{cases_eq}
 use Rattle.std.proofs.lemmas.List.{length-replicate}
 use Rattle.cf_base.specs.Settings.{Profile}
 use Rattle.cf_lemmas.proofs.Tests.{eq_yes, eq_no}
 use Rattle.quota_model.proofs.CallerLemmas.{zeros}
-use Rattle.quota_session.specs.Tasks.{TaskItem, Tasks, after_item, calls, no_tasks, set_refusal, sets, task_reply}
+use Rattle.quota_session.specs.Tasks.{TaskItem, Tasks, after_item, calls, no_tasks, set_refusal, sets}
 use Rattle.quota_session.specs.Runs.{is_accepted, own_calls, replies_to}
 use Rattle.quota_session.proofs.Alone.{same_reply}
 use Rattle.quota_session.proofs.Isolated.{IsOwn, kept_set, left_set, others_call, own_call}
@@ -20,33 +20,10 @@ module _ (task : ℕ) (lt : task < 16) where
         let yes : nat_eq u task ≡ true = eq_yes u task is in
         let reply = same_reply all own task o.profile o.quota o.objects command in
         let ih = calls_alike rest (after_item all (calls u command)) (after_item own (calls u command)) (own_call task lt all own u command is o) in
-        let a : own_calls task all (calls u command ∷ rest) ≡ calls u command ∷ own_calls task (after_item all (calls u command)) rest =
-        ap (λ b. cond b (calls u command ∷ own_calls task (after_item all (calls u command)) rest) (own_calls task (after_item all (calls u command)) rest))
-        yes in
-        let b : replies_to task own (calls u command ∷ own_calls task (after_item all (calls u command)) rest)
-        ≡ task_reply own task command ∷ replies_to task (after_item own (calls u command)) (own_calls task (after_item all (calls u command)) rest) =
-        ap (λ b. cond b
-        (task_reply own task command ∷ replies_to task (after_item own (calls u command)) (own_calls task (after_item all (calls u command)) rest))
-        (replies_to task (after_item own (calls u command)) (own_calls task (after_item all (calls u command)) rest)))
-        yes in
-        let d : replies_to task all (calls u command ∷ rest) ≡ task_reply all task command ∷ replies_to task (after_item all (calls u command)) rest =
-        ap (λ b. cond b (task_reply all task command ∷ replies_to task (after_item all (calls u command)) rest)
-        (replies_to task (after_item all (calls u command)) rest))
-        yes in
-        let e : task_reply own task command ∷ replies_to task (after_item own (calls u command)) (own_calls task (after_item all (calls u command)) rest)
-        ≡ task_reply all task command ∷ replies_to task (after_item all (calls u command)) rest = λ i. reply i ∷ ih i in
-        ap (replies_to task own) a ∙ b ∙ e ∙ sym d)
+        rw yes (rw yes (λ i. reply i ∷ ih i)))
     | inr ne ↦ (
         let no : nat_eq u task ≡ false = eq_no u task ne in
-        let ih = calls_alike rest (after_item all (calls u command)) own (others_call task lt all own u command ne o) in
-        let a : own_calls task all (calls u command ∷ rest) ≡ own_calls task (after_item all (calls u command)) rest =
-        ap (λ b. cond b (calls u command ∷ own_calls task (after_item all (calls u command)) rest) (own_calls task (after_item all (calls u command)) rest))
-        no in
-        let d : replies_to task all (calls u command ∷ rest) ≡ replies_to task (after_item all (calls u command)) rest =
-        ap (λ b. cond b (task_reply all task command ∷ replies_to task (after_item all (calls u command)) rest)
-        (replies_to task (after_item all (calls u command)) rest))
-        no in
-        ap (replies_to task own) a ∙ ih ∙ sym d)
+        rw no (calls_alike rest (after_item all (calls u command)) own (others_call task lt all own u command ne o)))
   ]
   calls_alike (sets u pages ∷ rest) all own o = go (nat_eq u task && is_accepted (set_refusal all u pages)) refl
       (λ p. calls_alike rest (after_item all (sets u pages)) own p)

@@ -1,29 +1,24 @@
--- For `answer` and the functions that it calls: what a command does to the session and the heap of tasks is a step of the run, and the texts of `r` and `walk`
--- are its replies.
-use Rattle.std.proofs.Common.{◌≡◌, ◌∙◌, ℕ, ◌-◌, ◌++◌, List, [], Some, None, ap, refl, sym, subst}
-use Rattle.std.specs.Prelude.{Option, Result, Err, codes}
+-- For `answer` and the functions that it calls: what a command does to the session and the heap of tasks is a step of the run, and the text of `walk` is
+-- its reply.
+use Rattle.std.proofs.Common.{◌≡◌, ◌∙◌, ℕ, ◌-◌, List, [], Some, None, ap, refl, sym, subst}
+use Rattle.std.specs.Prelude.{Option, Result}
 use Rattle.std.specs.FinMap.{empty, get, len}
 use Rattle.std.proofs.lemmas.List.{set-get_or}
-use Rattle.hex.specs.Hex.{encode_lower}
 use Rattle.cf_base.specs.Settings.{Profile}
-use Rattle.cf_base.specs.declared.answers.AccessFault.{AccessFault}
-use Rattle.cf_base.specs.declared.answers.AccessFault.TheVariants as access
 use Rattle.cf_base.specs.declared.answers.Failed.{Failed}
 use Rattle.cf_io.specs.Feeds.{SinkState, Writes}
 use Rattle.cf_io.specs.Texts.{Reply, led}
 use Rattle.cf_lemmas.proofs.Values.{len-map_values}
 use Rattle.cf_session.specs.Apply.{IsEnded, outcome_of}
-use Rattle.cf_session.proofs.CallerLemmas.{pages_other, read_past, read_within}
+use Rattle.cf_session.proofs.CallerLemmas.{pages_other}
 use Rattle.cf_session.specs.declared.outcome.Outcome.{Outcome}
 use Rattle.cf_session.specs.declared.outcome.Outcome.TheVariants.{Other}
 use Rattle.id_table.specs.Ids.{Ids}
 use Rattle.page_model.specs.Arrangement.{used_pages}
 use Rattle.page_model.specs.Figures.{figures_of}
-use Rattle.page_model.specs.Held.{Objects, Placed}
+use Rattle.page_model.specs.Held.{Objects}
 use Rattle.quota_heap.specs.State.{QuotaState, held_by, objects_by, quota_of}
-use Rattle.quota_heap.specs.Steps.{IsFault, ReadsOfTask}
 use Rattle.quota_model.specs.Refusals.{task_paging}
-use Rattle.run_model.specs.Replies.{read_text, write_text}
 use Rattle.run_model.specs.Reports.{total_line}
 use Rattle.script_loop.specs.Semantics.{snapshot}
 use Rattle.script_reader.specs.declared.command.Command.{Command}
@@ -38,7 +33,7 @@ use Rattle.frag_report.specs.Classes.{totals_with}
 use Rattle.quota_session.specs.Layout.{IsOfTask}
 use Rattle.quota_session.specs.Playing.{quota_tasks}
 use Rattle.quota_session.specs.QuotaRun.{QuotaRun, QuotaStep, StepsPresent, TaskSession, ids_of, quota_run, with_ids}
-use Rattle.quota_session.specs.TaskRun.{TaskRun, TaskStep, task_classes, task_object, task_report, task_run, task_totals}
+use Rattle.quota_session.specs.TaskRun.{TaskStep, task_classes, task_report, task_run, task_totals}
 use Rattle.quota_session.proofs.TaskKept.{bytes_by}
 
 -- the outcome of a report is `Other`: it is neither good nor a refusal
@@ -60,30 +55,6 @@ shown_walk old c w y r answer is put shown =
       step = (refl, refl);
       whole = ap (λ (s : TaskSession). record old { session = s }) (sym (same_ids old.session));
     }) (report_other old.heap old.session.present) put shown)
-
--- the object that a task has under a handle; none if there is no handle
-abbrev object_at : TaskRun → Option ℕ → Option Placed
-object_at s o = elim o [ None ↦ None | Some h ↦ get (held_by s.heap s.task) h ]
-
--- The reply to a read by each of its three cases: the id isn't live, the bytes are read, or the heap refuses.
-module _ (s : TaskRun) (id at count : ℕ) where
-  object_is : (o : Option ℕ) → o ≡ get s.ids id → task_object s id ≡ object_at s o
-  object_is o is = ap (object_at s) (sym is)
-
-  pub read_unknown : None ≡ get s.ids id → read_text (task_object s id) at count ≡ codes "unknown"
-  read_unknown is = ap (λ (o : Option Placed). read_text o at count) (object_is None is)
-
-  pub read_said : (h : ℕ) (bytes : List ℕ) → Some h ≡ get s.ids id → ReadsOfTask s.heap s.task (record { number = h; from = at }) count bytes
-      → read_text (task_object s id) at count ≡ codes "=" ++ encode_lower bytes
-  read_said h bytes is r =
-      ap (λ (o : Option Placed). read_text o at count) (object_is (Some h) is ∙ r.found)
-      ∙ read_within r.object at count r.within ∙ ap (λ (b : List ℕ). codes "=" ++ encode_lower b) (sym r.value)
-
-  pub read_fault : (h : ℕ) (e : AccessFault) → Some h ≡ get s.ids id → IsFault s.heap s.task (record { number = h; from = at }) count e
-      → read_text (task_object s id) at count ≡ write_text (Err e)
-  read_fault h access.Unknown is none = ap (λ (o : Option Placed). read_text o at count) (object_is (Some h) is ∙ none)
-  read_fault h access.Range is past =
-      ap (λ (o : Option Placed). read_text o at count) (object_is (Some h) is ∙ past.found) ∙ read_past past.object at count past.past
 
 -- a task has as many live ids as objects
 pub as_many : (ids : Ids) (m : Objects) → AreTiedTo ids m → len ids ≡ len m
@@ -113,11 +84,11 @@ own_step old new (command.Admit task) reply own step = absurd own
 own_step old new c reply own step = step
 
 pub present_step : (old : TaskSession) (heap heap' : QuotaState) (x x' : Ids) (c : Command) (reply : Reply) → x ≡ ids_of old old.present → IsOfTask c
-    → TaskStep (task_run old.present x heap) c reply (task_run old.present x' heap') → (settings : Option Profile)
+    → TaskStep old.present (task_run x heap) c reply (task_run x' heap') → (settings : Option Profile)
     → QuotaStep (quota_run settings old heap) c reply (quota_run settings (with_ids old x') heap')
 present_step old heap heap' x x' c reply is own step settings =
     own_step (quota_run settings old heap) (quota_run settings (with_ids old x') heap') c reply own (record {
       ids = x';
-      step = subst (λ (i : Ids). TaskStep (task_run old.present i heap) c reply (task_run old.present x' heap')) is step;
+      step = subst (λ (i : Ids). TaskStep old.present (task_run i heap) c reply (task_run x' heap')) is step;
       whole = refl;
     })

@@ -24,8 +24,10 @@ use Rattle.quota_session.specs.Playing.{quota_tasks}
 use Rattle.quota_session.specs.QuotaRun.{AreTasksTied, HasSixteen, IsGoingQuotas, QuotaRun, QuotaStep, SetsQuota, StepsPresent, TaskSession, ids_of}
 use Rattle.quota_session.specs.QuotaRun.{needs_of, present_run, quota_run, with_ids, with_need}
 use Rattle.quota_session.specs.Transcript.{one_need_more}
-use Rattle.quota_session.specs.TaskRun.{TaskRun, TaskStep, task_run}
-use Rattle.quota_session.proofs.TaskKept.{IsKept, task_kept}
+use Rattle.object_model.specs.ObjectRun.{IsGoingObjects}
+use Rattle.object_model.proofs.CallerLemmas.{turn, still_going as still_ready}
+use Rattle.quota_session.specs.TaskRun.{TaskRun, TaskStep, task_calls, task_run}
+use Rattle.quota_session.proofs.TaskKept.{KeepsRest, task_keeps}
 
 -- `with_ids` replaces the ids of the present task, and keeps the ids of every other task
 pub ids_here : (s : TaskSession) (ids : Ids) → HasSixteen s → ids_of (with_ids s ids) s.present ≡ ids
@@ -79,24 +81,29 @@ module _ (old : QuotaRun) (going : IsGoingQuotas old) where
   abbrev before : TaskRun
   before = present_run old.session old.heap
 
-  pub present_kept : (c : Command) (reply : Reply) (ids : Ids) (heap : QuotaState) → TaskStep before c reply (task_run old.session.present ids heap)
-      → IsKept before (task_run old.session.present ids heap)
-  present_kept c reply ids heap s = task_kept before (task_run old.session.present ids heap) going.rules
-      (going.tied old.session.present (going.sixteen).present) reply c s
+  abbrev now : ℕ
+  now = old.session.present
+
+  pub present_going : IsGoingObjects (task_calls now) before
+  present_going = record { ready = going.rules; tied = going.tied now going.sixteen.present }
+
+  pub rest_kept : (c : Command) (reply : Reply) (ids : Ids) (heap : QuotaState) → TaskStep now before c reply (task_run ids heap) → KeepsRest now old.heap heap
+  rest_kept c reply ids heap s = (turn (task_calls now) (task_keeps now) before (task_run ids heap) going.rules reply c s).1
 
   steps : (c : Command) (reply : Reply) (new : QuotaRun) → StepsPresent old c reply new → IsGoingQuotas new
   steps c reply new s = (
-      let kept = present_kept c reply s.ids new.heap s.step in
+      let rest = rest_kept c reply s.ids new.heap s.step in
+      let tied = (still_ready (task_calls now) (task_keeps now) before (task_run s.ids new.heap) c reply present_going s.step).tied in
       subst IsGoingQuotas (sym s.whole) (record {
-        opened = kept.rest.rules.opened;
-        settings = going.settings ∙ ap (λ p. Some p) (sym kept.rest.profile);
-        rules = kept.rest.rules;
+        opened = rest.rules.opened;
+        settings = going.settings ∙ ap (λ p. Some p) (sym rest.profile);
+        rules = rest.rules;
         sixteen = with_ids_sixteen old.session s.ids going.sixteen;
-        tied = λ task lt. elim (cases_eq task old.session.present) [
+        tied = λ task lt. elim (cases_eq task now) [
           | inl is ↦ subst (λ t. AreTiedTo (ids_of (with_ids old.session s.ids) t) (objects_by new.heap t)) (sym is)
-              (subst (λ (i : Ids). AreTiedTo i (objects_by new.heap old.session.present)) (sym (ids_here old.session s.ids going.sixteen)) kept.tied)
+              (subst (λ (i : Ids). AreTiedTo i (objects_by new.heap now)) (sym (ids_here old.session s.ids going.sixteen)) tied)
           | inr ne ↦ subst (λ (i : Ids). AreTiedTo i (objects_by new.heap task)) (sym (ids_there old.session s.ids task ne))
-              (subst (λ (o : Objects). AreTiedTo (ids_of old.session task) o) (sym (kept.rest.others task ne)) (going.tied task lt))
+              (subst (λ (o : Objects). AreTiedTo (ids_of old.session task) o) (sym (rest.others task ne)) (going.tied task lt))
         ];
       }))
 

@@ -35,7 +35,7 @@ use Rattle.quota_session.specs.Playing.{BeginsTasks, BeginsQuotas, RunsQuotas, q
 use Rattle.quota_session.specs.QuotaRun.{IsGoingQuotas, QuotaRun, QuotaStep, SetsQuota, StepsPresent, TaskSession, ids_of, needs_of, present_run}
 use Rattle.quota_session.specs.QuotaRun.{quota_fault, with_ids}
 use Rattle.quota_session.specs.TaskRun.{TaskRun, task_run}
-use Rattle.quota_session.proofs.RunInvariant.{below, ids_here, ids_there, present_kept, still_going}
+use Rattle.quota_session.proofs.RunInvariant.{below, ids_here, ids_there, rest_kept, present_going, still_going}
 use Rattle.quota_session.proofs.OpenLemmas.{all_same, begins_going}
 use Rattle.quota_session.proofs.OwnTask.{IsOwnReply, shown}
 
@@ -53,10 +53,10 @@ module _ (old : QuotaRun) (going : IsGoingQuotas old) where
   -- a call of the present task
   module _ (c : Command) (reply : Reply) (new : QuotaRun) (s : StepsPresent old c reply new) where
     abbrev then_ : TaskRun
-    then_ = task_run now s.ids new.heap
+    then_ = task_run s.ids new.heap
 
-    said_so : IsOwnReply (present_run old.session old.heap) then_ going.rules (going.tied now (going.sixteen).present) t.objects refl reply c
-    said_so = shown (present_run old.session old.heap) then_ going.rules (going.tied now (going.sixteen).present) t.objects refl reply c s.step
+    said_so : IsOwnReply now (present_run old.session old.heap) then_ (present_going old going) t.objects refl reply c
+    said_so = shown now (present_run old.session old.heap) then_ (present_going old going) t.objects refl reply c s.step
 
     objects_at : (u : ℕ) → objects_by_id (ids_of (with_ids old.session s.ids) u) (objects_by new.heap u)
         ≡ cond (nat_eq u now) (task_leaves t now c) (t.objects u)
@@ -66,14 +66,14 @@ module _ (old : QuotaRun) (going : IsGoingQuotas old) where
           ∙ ap (λ (i : Ids). objects_by_id i (objects_by new.heap now)) (ids_here old.session s.ids going.sixteen)
           ∙ said_so.left ∙ sym (ap (λ b. cond b (task_leaves t now c) (t.objects u)) (eq_yes u now is))
       | inr ne ↦
-          (λ i. objects_by_id (ids_there old.session s.ids u ne i) ((present_kept old going c reply s.ids new.heap s.step).rest.others u ne i))
+          (λ i. objects_by_id (ids_there old.session s.ids u ne i) ((rest_kept old going c reply s.ids new.heap s.step).others u ne i))
           ∙ sym (ap (λ b. cond b (task_leaves t now c) (t.objects u)) (eq_no u now ne))
     ]
 
     pub call_after : tasks_of new ≡ after_item t (calls now c)
     call_after = ap tasks_of s.whole ∙ (λ i. record {
-      profile = (present_kept old going c reply s.ids new.heap s.step).rest.profile i;
-      quotas = (present_kept old going c reply s.ids new.heap s.step).rest.quotas i;
+      profile = (rest_kept old going c reply s.ids new.heap s.step).profile i;
+      quotas = (rest_kept old going c reply s.ids new.heap s.step).quotas i;
       objects = λ u. objects_at u i;
     })
 

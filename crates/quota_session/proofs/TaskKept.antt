@@ -1,30 +1,24 @@
--- What each command of a task keeps: the heap keeps its settings, quotas and rules, the task's ids name its objects, and no other task's objects change.
+-- What each call for a task does to the task's objects, and what it keeps: the heap keeps its settings, quotas and rules, and no other task's objects change.
 use Rattle.std.proofs.Common.{◌≡◌, ◌≢◌, ℕ, List, Some, None, length, replicate, sym, ◌∙◌, ap, refl, subst}
-use Rattle.std.specs.Prelude.{Option, option_map, Result, Ok, Err, codes}
-use Rattle.std.specs.Option.{MatchOption}
+use Rattle.std.specs.Prelude.{Option, option_map, Result, Ok, Err}
 use Rattle.std.specs.FinMap.{get, insert, remove}
 use Rattle.cf_base.specs.declared.answers.AccessFault.{AccessFault}
+use Rattle.cf_base.specs.declared.answers.AccessFault.TheVariants as access
 use Rattle.cf_base.specs.declared.answers.Freed.{Freed}
 use Rattle.cf_base.specs.declared.answers.Handle.{Handle}
 use Rattle.cf_base.specs.declared.answers.Refusal.{Refusal}
-use Rattle.cf_io.specs.Texts.{Reply}
 use Rattle.cf_lemmas.proofs.MapValues.{get-map_values}
 use Rattle.cf_model.specs.Steps.{Position, number_of}
-use Rattle.id_table.specs.Ids.{Ids}
+use Rattle.object_model.proofs.CallerLemmas.{FreesOn, IsAccessFault, KeepsObjects, MallocsOn, WritesOn, malloc_refused}
 use Rattle.page_model.specs.Bytes.{written}
-use Rattle.page_model.specs.Held.{Objects, Placed, objects}
+use Rattle.page_model.specs.Held.{Placed, objects}
 use Rattle.page_model.specs.Paging.{class_for}
 use Rattle.page_model.proofs.CallerLemmas.{length-written}
 use Rattle.quota_heap.specs.State.{KeepsTasks, QuotaState, held_by, objects_by}
-use Rattle.quota_heap.specs.Steps.{FreesOfTask, AddsObjectOfTask, IsMallocStep, IsWriteStep, WritesForTask}
+use Rattle.quota_heap.specs.Steps.{FreesOfTask, AddsObjectOfTask, IsFault, IsMallocStep, IsWriteStep, WritesForTask}
 use Rattle.quota_model.proofs.CallerLemmas.{objects_rewritten, others_rewritten, others_kept, others_stay, own_freed, own_objects}
 use Rattle.quota_model.specs.Refusals.{task_paging}
-use Rattle.run_model.specs.Steps.{ids_given, Stays}
-use Rattle.script_reader.specs.declared.command.Command.{Command}
-use Rattle.script_reader.specs.declared.command.Command.TheVariants as command
-use Rattle.id_table.specs.Ties.{AreTiedTo}
-use Rattle.id_table.proofs.CallerLemmas.{tied_less, tied_more, tied_same}
-use Rattle.quota_session.specs.TaskRun.{FreesIdOfTask, MallocsForTask, TaskRun, TaskStep, WritesIdOfTask}
+use Rattle.quota_session.specs.TaskRun.{TaskRun, task_calls}
 
 -- the heap keeps its settings and quotas, and a call of one task leaves the objects of the others
 pub record KeepsRest (task : ℕ) (old new : QuotaState) : Type 0 where
@@ -32,11 +26,6 @@ pub record KeepsRest (task : ℕ) (old new : QuotaState) : Type 0 where
   pub profile : new.profile ≡ old.profile
   pub quotas : new.quotas ≡ old.quotas
   pub others : (u : ℕ) → u ≢ task → objects_by new u ≡ objects_by old u
-
--- `KeepsRest`, and the ids of the task name its objects
-pub record IsKept (old new : TaskRun) : Type 0 where
-  pub rest : KeepsRest old.task old.heap new.heap
-  pub tied : AreTiedTo new.ids (objects_by new.heap old.task)
 
 -- the bytes of object h of a task are those of what the task holds under h
 pub bytes_by : (s : QuotaState) (task h : ℕ) (o : Option Placed) → get (held_by s task) h ≡ o → get (objects_by s task) h
@@ -100,73 +89,47 @@ module _ (old new : QuotaState) (rules : KeepsTasks old) (kept : KeepsTasks new)
     pub written_found : get (objects_by old task) position.number ≡ Some (w.object).bytes
     written_found = bytes_by old task position.number (Some w.object) w.found
 
-module _ (old new : TaskRun) (rules : KeepsTasks old.heap) (tied : AreTiedTo old.ids (objects_by old.heap old.task)) (reply : Reply) where
-  abbrev TiedBy : Ids → Objects → Type 0
-  TiedBy ids m = AreTiedTo ids m
+pub fault_on : (s : QuotaState) (task : ℕ) (p : Position) (count : ℕ) (e : AccessFault) → IsFault s task p count e → IsAccessFault (objects_by s task) p count e
+fault_on s task p count access.Unknown none = bytes_by s task p.number None none
+fault_on s task p count access.Range past = (past.object.bytes, bytes_by s task p.number (Some past.object) past.found, past.past)
 
-  same : new ≡ old → IsKept old new
-  same is = subst (λ (s : TaskRun). IsKept old s) (sym is) (record { rest = rest_same old.task old.heap old.heap rules refl; tied = tied })
+-- what each call does to the task's objects, and what it keeps
+module _ (task : ℕ) (old new : QuotaState) (rules : KeepsTasks old) where
+  refused_rest : new ≡ old → (objects_by new task ≡ objects_by old task) × KeepsRest task old new
+  refused_rest still = (ap (λ (s : QuotaState). objects_by s task) still, rest_same task old new rules still)
 
-  -- if neither the heap nor the ids change, all is kept
-  unchanged : (ids : Ids) → new.ids ≡ ids → ids ≡ old.ids → new.heap ≡ old.heap → IsKept old new
-  unchanged ids a b is = record {
-    rest = rest_same old.task old.heap new.heap rules is;
-    tied = subst (λ (i : Ids). TiedBy i (objects_by new.heap old.task)) (sym (a ∙ b))
-        (subst (λ (s : QuotaState). TiedBy old.ids (objects_by s old.task)) (sym is) tied);
-  }
+  malloc_on : (n : ℕ) (answer : Result Handle Refusal) → IsMallocStep old task n answer new → KeepsTasks new
+      → MallocsOn (objects_by old task) n answer (objects_by new task) × KeepsRest task old new
+  malloc_on n (Ok h) g kept =
+      ((given_unused old new rules kept task h.0 n g, given_objects old new rules kept task h.0 n g), given_rest old new rules kept task h.0 n g)
+  malloc_on n (Err e) (cause, still) kept = refused_rest still
 
-  mallocs : (id n : ℕ) → get old.ids id ≡ None → MallocsForTask old id n reply new → IsKept old new
-  mallocs id n free m = by_answer m.answer m.step m.ids
-    where
-      by_answer : (r : Result Handle Refusal) → IsMallocStep old.heap old.task n r new.heap → new.ids ≡ ids_given old.ids id r → IsKept old new
-      by_answer (Ok h) g is = record {
-        rest = given_rest old.heap new.heap rules m.rules old.task h.0 n g;
-        tied = subst (λ (i : Ids). TiedBy i (objects_by new.heap old.task)) (sym is)
-            (subst (TiedBy (insert old.ids id h.0)) (sym (given_objects old.heap new.heap rules m.rules old.task h.0 n g))
-            (tied_more old.ids (objects_by old.heap old.task) tied id h.0 (replicate n 0) free
-            (given_unused old.heap new.heap rules m.rules old.task h.0 n g)));
-      }
-      by_answer (Err e) (cause, still) is = unchanged old.ids is refl still
+  free_on : (h : ℕ) (fault : Option ⊥) (freed : Freed) → FreesOfTask old task h freed new → KeepsTasks new
+      → FreesOn (objects_by old task) h fault (objects_by new task) × KeepsRest task old new
+  free_on h None freed f kept = (freed_objects old new rules kept task h freed f, freed_rest old new rules kept task h freed f)
+  free_on h (Some e) freed f kept = absurd e
 
-  frees : (id h : ℕ) → get old.ids id ≡ Some h → FreesIdOfTask old id h reply new → IsKept old new
-  frees id h live f = record {
-    rest = freed_rest old.heap new.heap rules f.rules old.task h f.freed f.step;
-    tied = subst (λ (i : Ids). TiedBy i (objects_by new.heap old.task)) (sym f.ids)
-        (subst (TiedBy (remove old.ids id)) (sym (freed_objects old.heap new.heap rules f.rules old.task h f.freed f.step))
-        (tied_less old.ids (objects_by old.heap old.task) tied id h live));
-  }
+  write_on : (p : Position) (bytes : List ℕ) (answer : Result Unit AccessFault) → IsWriteStep old task p bytes answer new → KeepsTasks new
+      → WritesOn (objects_by old task) p bytes answer (objects_by new task) × KeepsRest task old new
+  write_on p bytes (Ok u) w kept = (
+    (w.object.bytes, written_found old new rules kept task p bytes w, w.within, written_objects old new rules kept task p bytes w),
+    written_rest old new rules kept task p bytes w,
+  )
+  write_on p bytes (Err e) (cause, still) kept =
+      (let r = refused_rest still in ((fault_on old task p (length bytes) e cause, r.0), r.1))
 
-  writes : (position : Position) (bytes : List ℕ) → WritesIdOfTask old position bytes reply new → IsKept old new
-  writes position bytes w = by_answer w.answer w.step
-    where
-      by_answer : (r : Result Unit AccessFault) → IsWriteStep old.heap old.task position bytes r new.heap → IsKept old new
-      by_answer (Ok u) step = record {
-        rest = written_rest old.heap new.heap rules w.rules old.task position bytes step;
-        tied = subst (λ (i : Ids). TiedBy i (objects_by new.heap old.task)) (sym w.ids)
-            (subst (TiedBy old.ids) (sym (written_objects old.heap new.heap rules w.rules old.task position bytes step))
-            (tied_same old.ids (objects_by old.heap old.task) tied position.number (step.object).bytes _
-            (written_found old.heap new.heap rules w.rules old.task position bytes step)));
-      }
-      by_answer (Err e) (cause, still) = unchanged old.ids w.ids refl still
-
-  pub task_kept : (c : Command) → TaskStep old c reply new → IsKept old new
-  task_kept (command.Malloc id bytes) step = go (get old.ids id) refl step
-    where
-      go : (o : Option ℕ) → get old.ids id ≡ o → MatchOption o (MallocsForTask old id bytes reply new) (λ h. Stays old (codes "live") reply new)
-          → IsKept old new
-      go None free m = mallocs id bytes free m
-      go (Some h) live s = same s.1
-  task_kept (command.Free id) step = go (get old.ids id) refl step
-    where
-      go : (o : Option ℕ) → get old.ids id ≡ o → MatchOption o (Stays old (codes "unknown") reply new) (λ h. FreesIdOfTask old id h reply new)
-          → IsKept old new
-      go None free s = same s.1
-      go (Some h) live f = frees id h live f
-  task_kept (command.Write id at bytes) step = go (get old.ids id) step
-    where
-      go : (o : Option ℕ) → MatchOption o (Stays old (codes "unknown") reply new)
-          (λ h. WritesIdOfTask old (record { number = h; from = at }) bytes reply new)
-          → IsKept old new
-      go None s = same s.1
-      go (Some h) w = writes _ _ w
-  task_kept c step = same step.1
+pub task_keeps : (task : ℕ) → KeepsObjects (task_calls task) (KeepsRest task)
+task_keeps task = record {
+  ready = λ old new rest. rest.rules;
+  same = λ s rules. rest_same task s s rules refl;
+  mallocs = λ old new n answer rules m. malloc_on task old new rules n answer m.0 m.1;
+  frees = λ old new h fault rules f. free_on task old new rules h fault f.0 f.1 f.2;
+  writes = λ old new p bytes answer rules w. write_on task old new rules p bytes answer w.0 w.1;
+  others = λ old new c reply rules step. (
+      let r = refused_rest task old.heap new.heap rules (ap (λ (s : TaskRun). s.heap) step.1) in
+      (ap (λ (s : TaskRun). s.ids) step.1, r.0, r.1));
+  given = λ h. refl;
+  refused = malloc_refused;
+  freed = refl;
+  kept = λ e. absurd e;
+}

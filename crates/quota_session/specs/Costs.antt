@@ -25,14 +25,14 @@ abbrev pub object_free_steps : QuotaState → Option Placed → ℕ
 object_free_steps s None = 0
 object_free_steps s (Some x) = most_of_free (slot_for (task_paging s.profile) (length x.bytes))
 
--- the most steps of a command of one task; all but `m`, `f`, `w` and `r` take none
-abbrev pub task_steps : TaskRun → Command → ℕ
-task_steps s (Malloc id bytes) = id_malloc_steps s.ids id
-task_steps s (Free id) = object_free_steps s.heap (task_object s id)
-task_steps s (Write id from bytes) = id_access_steps s.ids id from (length bytes)
-task_steps s (Read id from count) = id_access_steps s.ids id from count
-task_steps s command = 0
+-- the most steps of a command of the task `task`; all but `m`, `f`, `w` and `r` take none
+abbrev pub task_steps : ℕ → TaskRun → Command → ℕ
+task_steps task s (Malloc id bytes) = id_malloc_steps s.ids id
+task_steps task s (Free id) = object_free_steps s.heap (task_object task s id)
+task_steps task s (Write id from bytes) = id_access_steps s.ids id from (length bytes)
+task_steps task s (Read id from count) = id_access_steps s.ids id from count
+task_steps task s command = 0
 
 -- the most steps of any command of a run: `m`, `f`, `w` and `r` are those of the present task
 abbrev pub most_tasks_steps : QuotaRun → Command → ℕ
-most_tasks_steps s command = task_steps (present_run s.session s.heap) command
+most_tasks_steps s command = task_steps s.session.present (present_run s.session s.heap) command

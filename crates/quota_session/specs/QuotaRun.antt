@@ -73,9 +73,9 @@ pub record IsGoingQuotas (s : QuotaRun) : Type 0 where
   pub sixteen : HasSixteen s.session
   pub tied : AreTasksTied s.session s.heap
 
--- the part of a run that a command of the present task uses: the task, its ids, and the heap
+-- the part of a run that a command of the present task uses: its ids, and the heap
 abbrev pub present_run : TaskSession → QuotaState → TaskRun
-present_run session heap = task_run session.present (ids_of session session.present) heap
+present_run session heap = task_run (ids_of session session.present) heap
 
 -- the session s, but the present task's ids are `ids`
 abbrev pub with_ids : TaskSession → Ids → TaskSession
@@ -85,7 +85,7 @@ with_ids s ids = record s { ids = slice_set s.ids s.present ids }
 -- The rest of the session and the settings stay the same.
 pub record StepsPresent (old : QuotaRun) (command : Command) (reply : Reply) (new : QuotaRun) : Type 0 where
   pub ids : Ids
-  pub step : TaskStep (present_run old.session old.heap) command reply (task_run old.session.present ids new.heap)
+  pub step : TaskStep old.session.present (present_run old.session old.heap) command reply (task_run ids new.heap)
   pub whole : new ≡ record old { session = with_ids old.session ids; heap = new.heap }
 
 -- `t`: the run after `task` became the present task

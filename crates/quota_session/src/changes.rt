@@ -7,11 +7,12 @@ ghost use Rattle.cf_io.specs.Texts.{said};
 ghost use Rattle.cf_session.specs.Apply.{outcome_in};
 ghost use Rattle.cf_session.specs.Short.{short_text};
 ghost use Rattle.quota_heap.specs.State.{objects_by};
-ghost use Rattle.run_model.specs.Replies.{read_text};
+ghost use Rattle.object_model.specs.ObjectRun.{object_bytes};
+ghost use Rattle.script_laws.specs.IdBytes.{read_shown};
 ghost use Rattle.script_reader.specs.declared.command.Command.TheVariants.{Malloc, Free, Write};
 ghost use Rattle.id_table.specs.Ties.{AreTiedTo};
 ghost use Rattle.quota_session.specs.Costs.{id_access_steps, id_malloc_steps, object_free_steps};
-ghost use Rattle.quota_session.specs.TaskRun.{TaskStep, task_object, task_run};
+ghost use Rattle.quota_session.specs.TaskRun.{TaskStep, task_calls, task_object, task_run};
 
 use cf_io::Line;
 use cf_session::{Outcome, Short, fault_reply, push_bytes, push_short, refusal_reply};
@@ -32,7 +33,7 @@ pub(crate) fn malloc(
     requires opened { IsTrue heap.old.is_open }
     requires sixteen { task < 16 }
     requires room { steps.old ≤ 2 ^ 63 }
-    ensures step { TaskStep (task_run task ids.old heap.old) (Malloc id bytes) (said (short_text result)) (task_run task ids.new heap.new) }
+    ensures step { TaskStep task (task_run ids.old heap.old) (Malloc id bytes) (said (short_text result)) (task_run ids.new heap.new) }
     ensures steps { RoseAtMost steps.old steps.new (id_malloc_steps ids.old id) }
 {
     if ids.handle(id).is_some() {
@@ -60,8 +61,8 @@ pub(crate) fn free(
     requires sixteen { task < 16 }
     requires tied { AreTiedTo ids.old (objects_by heap.old task) }
     requires room { steps.old ≤ 2 ^ 63 }
-    ensures step { TaskStep (task_run task ids.old heap.old) (Free id) (said (short_text result)) (task_run task ids.new heap.new) }
-    ensures steps { RoseAtMost steps.old steps.new (object_free_steps heap.old (task_object (task_run task ids.old heap.old) id)) }
+    ensures step { TaskStep task (task_run ids.old heap.old) (Free id) (said (short_text result)) (task_run ids.new heap.new) }
+    ensures steps { RoseAtMost steps.old steps.new (object_free_steps heap.old (task_object task (task_run ids.old heap.old) id)) }
 {
     let Some(h) = ids.handle(id) else {
         return Short::Unknown;
@@ -87,7 +88,7 @@ pub(crate) fn write(
     requires opened { IsTrue heap.old.is_open }
     requires sixteen { task < 16 }
     requires room { steps.old ≤ 2 ^ 63 }
-    ensures step { TaskStep (task_run task ids.now heap.old) (Write id at bytes.now) (said (short_text result)) (task_run task ids.now heap.new) }
+    ensures step { TaskStep task (task_run ids.now heap.old) (Write id at bytes.now) (said (short_text result)) (task_run ids.now heap.new) }
     ensures steps { RoseAtMost steps.old steps.new (id_access_steps ids.now id at (length bytes.now)) }
 {
     let Some(h) = ids.handle(id) else {
@@ -117,7 +118,7 @@ pub(crate) fn read(
     requires count { steps.old ≤ 2 ^ 63 }
     requires few { length buffer.old ≤ 4096 }
     requires empty { line.old ≡ [] }
-    ensures text { line.new ≡ read_text (task_object (task_run task ids.now heap.now) id) at (length buffer.old) }
+    ensures text { line.new ≡ read_shown (object_bytes (task_calls task) (task_run ids.now heap.now) id) at (length buffer.old) }
     ensures room { length line.new < line_capacity }
     ensures outcome { result ≡ outcome_in line.new }
     ensures steps { RoseAtMost steps.old steps.new (id_access_steps ids.now id at (length buffer.old)) }

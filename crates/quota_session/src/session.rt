@@ -255,7 +255,7 @@ fn build_reply_present(
         (owned_command c.entry) (said line.new) (quota_run settings (tasks_session records.new) heap.new) }
     ensures room { length line.new < line_capacity }
     ensures outcome { result ≡ outcome_in line.new }
-    ensures steps { RoseAtMost steps.old steps.new (task_steps (present_run (tasks_session records.old) heap.old) (owned_command c.entry)) }
+    ensures steps { RoseAtMost steps.old steps.new (task_steps records.old.present (present_run (tasks_session records.old) heap.old) (owned_command c.entry)) }
 {
     let task = records.present;
     let ids = &mut records.ids[task as usize];
@@ -282,9 +282,9 @@ fn build_reply_task(
     requires buffer { length buffer.old ≡ 4096 }
     requires count { steps.old ≤ 2 ^ 63 }
     requires empty { line.old ≡ [] }
-    ensures speaks { BuildsReply TaskStep (task_run task ids.old heap.old) (owned_command c.entry) (task_run task ids.new heap.new) line.new }
+    ensures speaks { BuildsReply (TaskStep task) (task_run ids.old heap.old) (owned_command c.entry) (task_run ids.new heap.new) line.new }
     ensures outcome { result ≡ outcome_in line.new }
-    ensures steps { RoseAtMost steps.old steps.new (task_steps (task_run task ids.old heap.old) (owned_command c.entry)) }
+    ensures steps { RoseAtMost steps.old steps.new (task_steps task (task_run ids.old heap.old) (owned_command c.entry)) }
 {
     match c {
         CommandRef::Malloc { id, bytes } => {

@@ -21,6 +21,7 @@ use Rattle.slice_model.specs.State.{Idle, IsKept, Plan, Sliced}
 use Rattle.slice_model.specs.declared.answers.SliceFault.{SliceFault}
 use Rattle.slice_model.specs.declared.answers.SliceRefusal.{SliceRefusal}
 use Rattle.slice_model.proofs.CallerLemmas.{answered, can_give, can_remove, can_slice, free_answered, kept_begun, order_happens}
+use Rattle.sliced_heap.specs.Access.{access_fault}
 use Rattle.sliced_heap.specs.Shown.{KeepsRules, SlicedState, plan_in, working_in}
 use Rattle.slice_session.specs.SliceRun.{Does}
 use Rattle.slice_session.proofs.WordsThere.{does_there, rewrites_there, written_there}
@@ -101,17 +102,17 @@ module _ (s : SlicedState) (rules : KeepsRules s) where
       )
 
   pub write_there : (h from : ℕ) (bytes : List ℕ) → AreBytes bytes
-      → (answer : Option AccessFault) × (new : SlicedState) × Does s (Write (record { number = h; from = from }) bytes answer) new
+      → (answer : Result Unit AccessFault) × (new : SlicedState) × Does s (Write (record { number = h; from = from }) bytes (access_fault answer)) new
   write_there h from bytes are = elim (there_or_not s.held h) [
     | inr none ↦ (
-      Some access.Unknown,
+      Err access.Unknown,
       s,
       stands (Write (record { number = h; from = from }) bytes (Some access.Unknown))
           ((get-map_values (λ (x : Placed). x.bytes) s.held h ∙ ap (option_map (λ (x : Placed). x.bytes)) none, refl), refl),
     )
     | inl (x, found) ↦ elim (cases_lt (length x.bytes) (from + length bytes)) [
       | inl past ↦ (
-        Some access.Range,
+        Err access.Range,
         s,
         stands (Write (record { number = h; from = from }) bytes (Some access.Range)) (((x.bytes, bytes_held s.held h x found, past), refl), refl),
       )
@@ -119,7 +120,7 @@ module _ (s : SlicedState) (rules : KeepsRules s) where
           let v = written x.bytes from bytes in
           let w = written_there plan rules.plan s.held s.job kept h x found from (length bytes) within s.words v rules.region in
           let new : Sliced = record { held = insert s.held h (record { place = x.place; bytes = v }); job = s.job } in (
-            None,
+            Ok tt,
             working_with s new w.0 s.order,
             does (Write (record { number = h; from = from }) bytes None) new w.0 s.order (
               record {

@@ -1,5 +1,4 @@
 -- For the law `replies_show_their_causes`: if the reply to a malloc or free on a sliced heap names a cause of refusal, the cause holds, for a malloc also
-use Rattle.slice_session.proofs.Steps.{refused}
 -- conversely; `busy` means that a job is pending.
 use Rattle.std.proofs.Common.{◌≡◌, ◌≢◌, ℕ, List, [], ◌∷◌, Some, None, get_or, refl, sym, ◌∙◌, ap, subst, ap₂}
 use Rattle.std.specs.Prelude.{Option, Result, Ok, Err, codes, nat_eq, if◌then◌else◌, Bool}
@@ -18,9 +17,11 @@ use Rattle.slice_model.specs.declared.answers.SliceRefusal.{SliceRefusal}
 use Rattle.slice_model.specs.declared.answers.SliceRefusal.TheVariants as refusal
 use Rattle.slice_model.proofs.CallerLemmas.{given_or_refused, one_cause}
 use Rattle.sliced_heap.specs.Shown.{SlicedState, plan_in, working_in, StaysOpen}
-use Rattle.slice_session.specs.SliceRun.{Does, FreesSliced, IsGoingSliced, MallocsSliced, SliceRun, SliceStep}
+use Rattle.object_model.proofs.CallerLemmas.{refused}
+use Rattle.object_model.specs.ObjectRun.{FreesId, MallocsId, ids_without}
+use Rattle.slice_session.specs.SliceRun.{Does, IsGoingSliced, SliceRun, SliceStep}
 use Rattle.run_model.specs.Steps.{Stays, ids_given}
-use Rattle.slice_session.specs.SliceRun.{ids_without, slice_free_text, slice_malloc_text, slice_run}
+use Rattle.slice_session.specs.SliceRun.{slice_free_text, slice_malloc_text, slice_run, sliced_calls}
 use Rattle.cf_base.specs.Settings.{Profile}
 
 -- a heap from its fields
@@ -70,28 +71,28 @@ same_fault a e is = sym (sym (fault_shown (Some e)) ∙ ap (first fault_in) is �
 
 module _ (old new : SliceRun) (id : ℕ) where
   -- a malloc for an id that isn't live, and a free of one that is
-  mallocs_at : (n : ℕ) (reply : Reply) → get old.ids id ≡ None → SliceStep old (command.Malloc id n) reply new → MallocsSliced old id n reply new
+  mallocs_at : (n : ℕ) (reply : Reply) → get old.ids id ≡ None → SliceStep old (command.Malloc id n) reply new → MallocsId sliced_calls old id n reply new
   mallocs_at n reply none step = go (get old.ids id) none step
     where
-      go : (o : Option ℕ) → o ≡ None → MatchOption o (MallocsSliced old id n reply new) (λ h. Stays old (codes "live") reply new)
-          → MallocsSliced old id n reply new
+      go : (o : Option ℕ) → o ≡ None → MatchOption o (MallocsId sliced_calls old id n reply new) (λ h. Stays old (codes "live") reply new)
+          → MallocsId sliced_calls old id n reply new
       go None is m = m
       go (Some h) is s = absurd (let z : Some h ≡ None = is in cc)
 
-  frees_at : (h : ℕ) (reply : Reply) → get old.ids id ≡ Some h → SliceStep old (command.Free id) reply new → FreesSliced old id h reply new
+  frees_at : (h : ℕ) (reply : Reply) → get old.ids id ≡ Some h → SliceStep old (command.Free id) reply new → FreesId sliced_calls old id h reply new
   frees_at h reply live step = go (get old.ids id) live step
     where
-      go : (o : Option ℕ) → o ≡ Some h → MatchOption o (Stays old (codes "unknown") reply new) (λ q. FreesSliced old id q reply new)
-          → FreesSliced old id h reply new
+      go : (o : Option ℕ) → o ≡ Some h → MatchOption o (Stays old (codes "unknown") reply new) (λ q. FreesId sliced_calls old id q reply new)
+          → FreesId sliced_calls old id h reply new
       go None is s = absurd (let z : ◌≡◌ {A = Option ℕ} None (Some h) = is in cc)
-      go (Some q) is f = (let e : q ≡ h = (let z : Some q ≡ Some h = is in cc) in subst (λ k. FreesSliced old id k reply new) e f)
+      go (Some q) is f = (let e : q ≡ h = (let z : Some q ≡ Some h = is in cc) in subst (λ k. FreesId sliced_calls old id k reply new) e f)
 
   pub malloc_cause : (n : ℕ) (e : SliceRefusal) → get old.ids id ≡ None → SliceStep old (command.Malloc id n) (said (slice_malloc_text (Err e))) new
       → IsRefusedBy (plan_in old.heap) (working_in old.heap).state n e × (new ≡ old)
   malloc_cause n e none step =
       let m = mallocs_at n _ none step in
       let is : m.answer ≡ Err e = same_refusal m.answer e m.reply_is in
-      let d = subst (λ (a : Result Handle SliceRefusal). Does old.heap (Malloc n a) new.heap) is m.does in
+      let d = subst (λ (a : Result Handle SliceRefusal). Does old.heap (Malloc n a) new.heap) is m.step in
       let ids : new.ids ≡ old.ids = m.ids ∙ ap (ids_given old.ids id) is in
       (d.happens.0, ap₂ slice_run ids (heap_same old.heap new.heap d.stays d.happens.1 d.ordered.1))
 
@@ -100,7 +101,7 @@ module _ (old new : SliceRun) (id : ℕ) where
   free_cause h e live step =
       let f = frees_at h _ live step in
       let is : f.answer ≡ Some e = same_fault f.answer e f.reply_is in
-      let d = subst (λ (a : Option SliceFault). Does old.heap (Free h a) new.heap) is f.does in
+      let d = subst (λ (a : Option SliceFault). Does old.heap (Free h a) new.heap) is f.step in
       let ids : new.ids ≡ old.ids = f.ids ∙ ap (ids_without old.ids id) is in
       (d.happens.0, ap₂ slice_run ids (heap_same old.heap new.heap d.stays d.happens.1 d.ordered.1))
 
@@ -108,11 +109,11 @@ module _ (old new : SliceRun) (id : ℕ) where
   pub cause_shown : (n : ℕ) (e : SliceRefusal) (reply : Reply) → IsGoingSliced old → get old.ids id ≡ None
       → IsRefusedBy (plan_in old.heap) (working_in old.heap).state n e → SliceStep old (command.Malloc id n) reply new
       → reply ≡ said (slice_malloc_text (Err e))
-  cause_shown n e reply going none cause step = (let m = mallocs_at n reply none step in go m.answer m.does m.reply_is)
+  cause_shown n e reply going none cause step = (let m = mallocs_at n reply none step in go m.answer m.step m.reply_is)
     where
       go : (a : Result Handle SliceRefusal) → Does old.heap (Malloc n a) new.heap → reply ≡ said (slice_malloc_text a)
           → reply ≡ said (slice_malloc_text (Err e))
-      go (Ok h) d is = absurd (given_or_refused (plan_in old.heap) going.rules.plan (working_in old.heap).state going.rules.consistent.kept
+      go (Ok h) d is = absurd (given_or_refused (plan_in old.heap) going.ready.rules.plan (working_in old.heap).state going.ready.rules.consistent.kept
           (record { number = h.0; length = n }) (working_in new.heap).state d.happens.gives e cause)
       go (Err f) d is = is ∙ ap (λ (f : SliceRefusal). said (slice_malloc_text (Err f)))
           (one_cause (plan_in old.heap) (working_in old.heap).state n f e d.happens.0 cause)
@@ -123,9 +124,9 @@ module _ (old new : SliceRun) (id : ℕ) where
   busy_malloc_cause law n going step = go (get old.ids id) refl step
     where
       go : (o : Option ℕ) → get old.ids id ≡ o
-          → MatchOption o (MallocsSliced old id n (said (codes "busy")) new) (λ h. Stays old (codes "live") (said (codes "busy")) new)
+          → MatchOption o (MallocsId sliced_calls old id n (said (codes "busy")) new) (λ h. Stays old (codes "live") (said (codes "busy")) new)
           → old.heap.job ≢ Idle
-      go None none m = law (plan_in old.heap) (working_in old.heap).state n going.rules.plan going.rules.consistent.kept
+      go None none m = law (plan_in old.heap) (working_in old.heap).state n going.ready.rules.plan going.ready.rules.consistent.kept
           (malloc_cause n refusal.Busy none step).0
       go (Some h) live s = absurd (let z : ◌≡◌ {A = Option SliceRefusal} (Some refusal.Busy) None = ap (first refusal_in) s.0 in cc)
 
@@ -133,7 +134,7 @@ module _ (old new : SliceRun) (id : ℕ) where
   busy_free_cause step = go (get old.ids id) refl step
     where
       go : (o : Option ℕ) → get old.ids id ≡ o
-          → MatchOption o (Stays old (codes "unknown") (said (codes "busy")) new) (λ h. FreesSliced old id h (said (codes "busy")) new)
+          → MatchOption o (Stays old (codes "unknown") (said (codes "busy")) new) (λ h. FreesId sliced_calls old id h (said (codes "busy")) new)
           → old.heap.job ≢ Idle
       go None none s = absurd (let z : Some fault.Busy ≡ Some fault.Unknown = ap (first fault_in) s.0 in cc)
       go (Some h) live f = (free_cause h fault.Busy live step).0.pending

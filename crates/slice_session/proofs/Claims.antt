@@ -10,10 +10,11 @@ use Rattle.script_loop.specs.Semantics.{RunBy}
 use Rattle.script_reader.specs.Items.{Item, asks, bad, starts}
 use Rattle.sliced_heap.specs.Shown.{working_in}
 use Rattle.slice_session.specs.Playing.{BeginsSliced, BeginsSlices, RunsSliced, SlicePlay, first_heap, run_of_play, slices}
-use Rattle.slice_session.specs.SliceRun.{IsGoingSliced, SliceRun, SliceStep}
+use Rattle.slice_session.specs.SliceRun.{IsGoingSliced, SliceRun, SliceStep, sliced_calls}
 use Rattle.slice_session.proofs.OpenLemmas.{begins_going}
 use Rattle.slice_session.proofs.Plays.{play_seen}
-use Rattle.slice_session.proofs.RunInvariant.{still_going}
+use Rattle.object_model.proofs.CallerLemmas.{still_going}
+use Rattle.slice_session.proofs.RunInvariant.{sliced_keeps}
 use Rattle.run_model.specs.ById.{objects_by_id}
 use Rattle.run_model.proofs.CallerLemmas.{none_by_id}
 use Rattle.slice_session.specs.ShownSlices.{ShownSlices, slices_opened}
@@ -45,7 +46,7 @@ module _ (quantum : ℕ) where
   )
   item_met None (asks c) reply new goes step = ((step.0, ap shown_at step.1), subst GoesOn (sym step.1) tt)
   item_met (Some s) (asks c) reply new goes step =
-      let on = still_going s step.0 goes reply c step.1 in (
+      let on = still_going sliced_calls sliced_keeps s step.0 c reply goes step.1 in (
         (shown step.0, answered s step.0 goes on reply c step.1, ap shown_at step.2),
         subst GoesOn (sym step.2) on,
       )

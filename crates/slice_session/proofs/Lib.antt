@@ -4,7 +4,6 @@ pub mod OpenLemmas
 pub mod WordsThere
 pub mod CallResults
 pub mod CommandSteps
-pub mod ReadBack
 pub mod Causes
 pub mod Plays
 pub mod Filled

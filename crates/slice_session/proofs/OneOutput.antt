@@ -1,10 +1,12 @@
 -- For `one_sliced_output`: two runs over one script in mode `slice` have the same replies, with each word that `p` prints, and end in the same state.
-use Rattle.std.proofs.Common.{◌≡◌, ℕ, List, [], ◌∷◌, Option, Some, None, length, sym, ◌∙◌, ap, subst}
-use Rattle.std.specs.Prelude.{codes, option_map}
+use Rattle.std.proofs.Common.{◌≡◌, ℕ, List, [], ◌∷◌, Option, Some, None, length, sym, ◌∙◌, ap, refl, subst}
+use Rattle.std.specs.Prelude.{Result, Ok, Err, codes, option_map}
 use Rattle.std.specs.Option.{MatchOption}
 use Rattle.std.specs.FinMap.{get}
 use Rattle.cf_base.specs.Settings.{Profile}
+use Rattle.cf_base.specs.declared.answers.AccessFault.{AccessFault}
 use Rattle.cf_io.specs.Texts.{Reply, said, with_number}
+use Rattle.cf_model.specs.Steps.{Position}
 use Rattle.run_model.specs.Plays.{PlayRun, PlayStep}
 use Rattle.script_loop.specs.Semantics.{RunBy}
 use Rattle.script_reader.specs.Items.{Item, asks, bad, starts}
@@ -13,14 +15,18 @@ use Rattle.script_reader.specs.declared.command.Command.TheVariants as command
 use Rattle.slice_model.specs.State.{Plan, left_of}
 use Rattle.slice_model.specs.Runs.{HeapWithWords}
 use Rattle.slice_model.proofs.CallerLemmas.{one_free, one_malloc, one_slice, one_write}
+use Rattle.sliced_heap.specs.Access.{access_fault}
 use Rattle.sliced_heap.specs.Shown.{SlicedState, StaysOpen, plan_in, working_in}
 use Rattle.slice_session.specs.Playing.{BeginsSliced, BeginsSlices, RunsSliced, SlicePlay, run_of_play, slices}
-use Rattle.slice_session.specs.SliceRun.{FreesSliced, IsGoingSliced, MallocsSliced, SliceRun, SliceStep, StepsSliced, WritesSliced}
+use Rattle.object_model.specs.ObjectRun.{FreesId, MallocsId, WritesId, ids_without}
+use Rattle.slice_session.specs.SliceRun.{IsGoingSliced, SliceRun, SliceStep, StepsSliced}
+use Rattle.run_model.specs.Replies.{write_text}
 use Rattle.run_model.specs.Steps.{Stays, ids_given}
-use Rattle.slice_session.specs.SliceRun.{ids_without, slice_free_text, slice_malloc_text, slice_write_text}
+use Rattle.slice_session.specs.SliceRun.{slice_free_text, slice_malloc_text, sliced_calls}
 use Rattle.slice_session.proofs.OpenLemmas.{begins_going}
 use Rattle.slice_session.proofs.Plays.{play_seen}
-use Rattle.slice_session.proofs.RunInvariant.{still_going}
+use Rattle.object_model.proofs.CallerLemmas.{still_going}
+use Rattle.slice_session.proofs.RunInvariant.{sliced_keeps}
 use Rattle.slice_session.proofs.Claims.{GoesOn}
 
 same_heap : (old a b : SlicedState) → StaysOpen old a → StaysOpen old b → working_in a ≡ working_in b → a.order ≡ b.order → b ≡ a
@@ -37,6 +43,15 @@ same_heap old a b x y w order = λ i. record {
 same_run : (a b : SliceRun) → b.ids ≡ a.ids → b.heap ≡ a.heap → b ≡ a
 same_run a b e f = λ i. record { ids = e i; heap = f i }
 
+-- the reply to a write, by its fault
+abbrev fault_text : Option AccessFault → List ℕ
+fault_text None = codes "ok"
+fault_text (Some e) = write_text (Err e)
+
+text_is : (answer : Result Unit AccessFault) → write_text answer ≡ fault_text (access_fault answer)
+text_is (Ok u) = refl
+text_is (Err e) = refl
+
 -- ---- one command
 
 module _ (old new next : SliceRun) (going : IsGoingSliced old) where
@@ -49,63 +64,63 @@ module _ (old new next : SliceRun) (going : IsGoingSliced old) where
   words_long : StaysOpen old.heap new.heap → StaysOpen old.heap next.heap → length new.heap.words ≡ length next.heap.words
   words_long a b = a.region ∙ sym b.region
 
-  malloc_once : (id n : ℕ) (reply other : Reply) → MallocsSliced old id n reply new → MallocsSliced old id n other next → Same reply other
+  malloc_once : (id n : ℕ) (reply other : Reply) → MallocsId sliced_calls old id n reply new → MallocsId sliced_calls old id n other next → Same reply other
   malloc_once id n reply other g f =
-      let (answer, working, order) = one_malloc plan going.rules.plan (working_in old.heap) (working_in new.heap) (working_in next.heap) old.heap.order
-      new.heap.order next.heap.order going.rules.consistent (words_long g.does.stays f.does.stays) n g.answer f.answer g.does.ordered f.does.ordered in (
+      let (answer, working, order) = one_malloc plan going.ready.rules.plan (working_in old.heap) (working_in new.heap) (working_in next.heap) old.heap.order
+      new.heap.order next.heap.order going.ready.rules.consistent (words_long g.step.stays f.step.stays) n g.answer f.answer g.step.ordered f.step.ordered in (
         f.reply_is ∙ ap (λ a. said (slice_malloc_text a)) (sym answer) ∙ sym g.reply_is,
         same_run new next (f.ids ∙ ap (ids_given old.ids id) (sym answer) ∙ sym g.ids)
-            (same_heap old.heap new.heap next.heap g.does.stays f.does.stays working order),
+            (same_heap old.heap new.heap next.heap g.step.stays f.step.stays working order),
       )
 
-  free_once : (id h : ℕ) (reply other : Reply) → FreesSliced old id h reply new → FreesSliced old id h other next → Same reply other
+  free_once : (id h : ℕ) (reply other : Reply) → FreesId sliced_calls old id h reply new → FreesId sliced_calls old id h other next → Same reply other
   free_once id h reply other g f =
-      let (answer, working, order) = one_free plan going.rules.plan (working_in old.heap) (working_in new.heap) (working_in next.heap) old.heap.order
-      new.heap.order next.heap.order going.rules.consistent (words_long g.does.stays f.does.stays) h g.answer f.answer g.does.ordered f.does.ordered in (
+      let (answer, working, order) = one_free plan going.ready.rules.plan (working_in old.heap) (working_in new.heap) (working_in next.heap) old.heap.order
+      new.heap.order next.heap.order going.ready.rules.consistent (words_long g.step.stays f.step.stays) h g.answer f.answer g.step.ordered f.step.ordered in (
         f.reply_is ∙ ap (λ a. said (slice_free_text a)) (sym answer) ∙ sym g.reply_is,
         same_run new next (f.ids ∙ ap (ids_without old.ids id) (sym answer) ∙ sym g.ids)
-            (same_heap old.heap new.heap next.heap g.does.stays f.does.stays working order),
+            (same_heap old.heap new.heap next.heap g.step.stays f.step.stays working order),
       )
 
   slice_once : (reply other : Reply) → StepsSliced old reply new → StepsSliced old other next → Same reply other
   slice_once reply other g f =
-      let (working, order) = one_slice plan going.rules.plan (working_in old.heap) (working_in new.heap) (working_in next.heap) old.heap.order
-      new.heap.order next.heap.order going.rules.consistent (words_long g.does.stays f.does.stays) g.does.ordered f.does.ordered in
+      let (working, order) = one_slice plan going.ready.rules.plan (working_in old.heap) (working_in new.heap) (working_in next.heap) old.heap.order
+      new.heap.order next.heap.order going.ready.rules.consistent (words_long g.does.stays f.does.stays) g.does.ordered f.does.ordered in
       let heap = same_heap old.heap new.heap next.heap g.does.stays f.does.stays working order in (
         f.reply_is ∙ ap (λ (h : SlicedState). said (with_number (codes "left ") (left_of (plan_in h) (working_in h).state))) heap ∙ sym g.reply_is,
         same_run new next (f.ids ∙ sym g.ids) heap,
       )
 
-  write_once : (h from : ℕ) (bytes : List ℕ) (reply other : Reply) → WritesSliced old h from bytes reply new → WritesSliced old h from bytes other next
-      → Same reply other
-  write_once h from bytes reply other g f =
-      let (answer, working, order) = one_write plan going.rules.plan (working_in old.heap) (working_in new.heap) (working_in next.heap) old.heap.order
-      new.heap.order next.heap.order going.rules.consistent (words_long g.does.stays f.does.stays) (record { number = h; from = from }) bytes
-      g.answer f.answer g.does.ordered f.does.ordered in (
-        f.reply_is ∙ ap (λ a. said (slice_write_text a)) (sym answer) ∙ sym g.reply_is,
-        same_run new next (f.ids ∙ sym g.ids) (same_heap old.heap new.heap next.heap g.does.stays f.does.stays working order),
+  write_once : (position : Position) (bytes : List ℕ) (reply other : Reply) → WritesId sliced_calls old position bytes reply new
+      → WritesId sliced_calls old position bytes other next → Same reply other
+  write_once position bytes reply other g f =
+      let (answer, working, order) = one_write plan going.ready.rules.plan (working_in old.heap) (working_in new.heap) (working_in next.heap) old.heap.order
+      new.heap.order next.heap.order going.ready.rules.consistent (words_long g.step.stays f.step.stays)
+      (record { number = position.number; from = position.from }) bytes (access_fault g.answer) (access_fault f.answer) g.step.ordered f.step.ordered in (
+        f.reply_is ∙ ap said (text_is f.answer ∙ ap fault_text (sym answer) ∙ sym (text_is g.answer)) ∙ sym g.reply_is,
+        same_run new next (f.ids ∙ sym g.ids) (same_heap old.heap new.heap next.heap g.step.stays f.step.stays working order),
       )
 
   stays_once : (text : List ℕ) (reply other : Reply) → Stays old text reply new → Stays old text other next → Same reply other
   stays_once text reply other g f = (f.0 ∙ sym g.0, f.1 ∙ sym g.1)
 
   malloc_at : (o : Option ℕ) (id n : ℕ) (reply other : Reply)
-      → MatchOption o (MallocsSliced old id n reply new) (λ h. Stays old (codes "live") reply new)
-      → MatchOption o (MallocsSliced old id n other next) (λ h. Stays old (codes "live") other next) → Same reply other
+      → MatchOption o (MallocsId sliced_calls old id n reply new) (λ h. Stays old (codes "live") reply new)
+      → MatchOption o (MallocsId sliced_calls old id n other next) (λ h. Stays old (codes "live") other next) → Same reply other
   malloc_at None id n reply other g f = malloc_once id n reply other g f
   malloc_at (Some h) id n reply other g f = stays_once (codes "live") reply other g f
 
   free_at : (o : Option ℕ) (id : ℕ) (reply other : Reply)
-      → MatchOption o (Stays old (codes "unknown") reply new) (λ h. FreesSliced old id h reply new)
-      → MatchOption o (Stays old (codes "unknown") other next) (λ h. FreesSliced old id h other next) → Same reply other
+      → MatchOption o (Stays old (codes "unknown") reply new) (λ h. FreesId sliced_calls old id h reply new)
+      → MatchOption o (Stays old (codes "unknown") other next) (λ h. FreesId sliced_calls old id h other next) → Same reply other
   free_at None id reply other g f = stays_once (codes "unknown") reply other g f
   free_at (Some h) id reply other g f = free_once id h reply other g f
 
   write_at : (o : Option ℕ) (from : ℕ) (bytes : List ℕ) (reply other : Reply)
-      → MatchOption o (Stays old (codes "unknown") reply new) (λ h. WritesSliced old h from bytes reply new)
-      → MatchOption o (Stays old (codes "unknown") other next) (λ h. WritesSliced old h from bytes other next) → Same reply other
+      → MatchOption o (Stays old (codes "unknown") reply new) (λ h. WritesId sliced_calls old (record { number = h; from = from }) bytes reply new)
+      → MatchOption o (Stays old (codes "unknown") other next) (λ h. WritesId sliced_calls old (record { number = h; from = from }) bytes other next) → Same reply other
   write_at None from bytes reply other g f = stays_once (codes "unknown") reply other g f
-  write_at (Some h) from bytes reply other g f = write_once h from bytes reply other g f
+  write_at (Some h) from bytes reply other g f = write_once (record { number = h; from = from }) bytes reply other g f
 
   one_step : (c : Command) (reply other : Reply) → SliceStep old c reply new → SliceStep old c other next → Same reply other
   one_step (command.Malloc id n) reply other g f = malloc_at (get old.ids id) id n reply other g f
@@ -132,7 +147,7 @@ module _ (quantum : ℕ) where
   item_once None (asks c) reply other mid also goes g f = (f.0 ∙ sym g.0, f.1 ∙ sym g.1, subst GoesOn (sym g.1) tt)
   item_once (Some old) (asks c) reply other mid also goes (s, step, is) (t, step', is') =
       let (same, state) = one_step old s t goes c reply other step step' in
-      (same, is' ∙ ap Some state ∙ sym is, subst GoesOn (sym is) (still_going old s goes reply c step))
+      (same, is' ∙ ap Some state ∙ sym is, subst GoesOn (sym is) (still_going sliced_calls sliced_keeps old s c reply goes step))
   item_once old (bad n) reply other mid also goes g f = (f.0 ∙ sym g.0, f.1 ∙ sym g.1, subst GoesOn (sym g.1) goes)
 
   run_once : (items : List Item) (old : Option SliceRun) (replies others : List Reply) (end last : Option SliceRun) → GoesOn old

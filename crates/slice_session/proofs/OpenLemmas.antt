@@ -25,8 +25,7 @@ no_objects = map_values-empty (λ (x : Placed). x.bytes)
 -- a run is in progress after its `heap` line
 pub begins_going : (quantum : ℕ) (p : Profile) (s : SliceRun) → BeginsSliced quantum p s → IsGoingSliced s
 begins_going quantum p s b = record {
-  opened = subst (λ (h : SlicedState). IsTrue h.is_open) (sym b.heap) refl;
-  rules = b.rules;
+  ready = record { opened = subst (λ (h : SlicedState). IsTrue h.is_open) (sym b.heap) refl; rules = b.rules };
   tied = none_tied s.ids (objects s.heap.held) b.ids (ap (λ (h : SlicedState). objects h.held) b.heap ∙ no_objects);
 }
 

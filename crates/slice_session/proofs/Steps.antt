@@ -9,20 +9,19 @@ use Rattle.std.specs.FinMap.{get, insert, len, remove}
 use Rattle.cf_base.specs.Classes.{need}
 use Rattle.cf_base.specs.Settings.{Profile}
 use Rattle.cf_base.specs.declared.answers.AccessFault.{AccessFault}
-use Rattle.cf_base.specs.declared.answers.AccessFault.TheVariants as access
 use Rattle.cf_base.specs.declared.answers.Handle.{Handle}
 use Rattle.cf_io.specs.Texts.{Reply, said, with_number}
 use Rattle.cf_lemmas.proofs.MapValues.{get-map_values}
 use Rattle.cf_lemmas.proofs.Maps.{get_removed}
 use Rattle.cf_lemmas.proofs.Renaming.{CountAlike}
 use Rattle.cf_lemmas.proofs.Sums.{insert_again}
-use Rattle.cf_lemmas.proofs.Tests.{eq_no, eq_yes, le_no, le_yes, lt_no, lt_yes}
+use Rattle.cf_lemmas.proofs.Tests.{eq_no, eq_yes, lt_no, lt_yes}
 use Rattle.page_model.specs.Arrangement.{live, objects_on, pages_for, pages_needed_with}
 use Rattle.page_model.specs.Bytes.{written}
 use Rattle.page_model.specs.Held.{Held, Objects, Placed, objects}
 use Rattle.page_model.specs.Paging.{Paging, class_for, page_of, slots_of}
 use Rattle.page_model.proofs.CallerLemmas.{class_fits, lacks_room_at_one, len-objects, length-written, objects_on-exchanged}
-use Rattle.run_model.specs.Replies.{peek_text, read_text}
+use Rattle.run_model.specs.Replies.{peek_text}
 use Rattle.script_reader.specs.declared.command.Command.{Command}
 use Rattle.script_reader.specs.declared.command.Command.TheVariants as command
 use Rattle.slice_model.specs.declared.answers.SliceFault.{SliceFault}
@@ -34,16 +33,19 @@ use Rattle.slice_model.specs.Runs.{Event, Free, Malloc, Step, Write}
 use Rattle.slice_model.specs.State.{Clear, Idle, IsKept, Job, Move, Sliced, job_slot, left_of, with_slot}
 use Rattle.slice_model.specs.Steps.{AddsObject, IsRefusedBy}
 use Rattle.slice_model.proofs.CallerLemmas.{given_or_refused, kept_begun, lacking_is_no_place, no_place_is_lacking, objects_sliced}
+use Rattle.sliced_heap.specs.Access.{access_fault}
 use Rattle.sliced_heap.specs.Shown.{SlicedState, plan_in, working_in}
-use Rattle.slice_session.specs.SliceRun.{Does, FreesSliced, IsGoingSliced, MallocsSliced, SliceRun, SliceStep, StepsSliced, WritesSliced}
-use Rattle.run_model.specs.Steps.{Stays, ids_given}
-use Rattle.slice_session.specs.SliceRun.{ids_without, slice_free_text, slice_malloc_text, slice_write_text, sliced_object_of}
-use Rattle.slice_session.proofs.RunInvariant.{on_map}
+use Rattle.object_model.specs.ObjectRun.{WritesId}
+use Rattle.object_model.proofs.CallerLemmas.{bytes_by_id, free_by_id, malloc_by_id, refused, taken_unless, write_by_id}
+use Rattle.slice_session.specs.SliceRun.{Does, IsGoingSliced, SliceRun, SliceStep, StepsSliced}
+use Rattle.run_model.specs.Steps.{Stays}
+use Rattle.slice_session.specs.SliceRun.{slice_free_text, slice_malloc_text, sliced_calls}
+use Rattle.slice_session.proofs.RunInvariant.{sliced_keeps}
 use Rattle.run_model.specs.ById.{objects_by_id}
 use Rattle.script_laws.specs.IdBytes.{read_shown}
-use Rattle.script_laws.specs.RepliesById.{ok_or, put_unless, write_fault, write_leaves, write_said}
-use Rattle.script_laws.proofs.CallerLemmas.{live_alike, needed_with_alike, read_same}
-use Rattle.run_model.proofs.CallerLemmas.{by_id_changed, by_id_counts, by_id_given, by_id_gone, gone_by_id, live_by_id}
+use Rattle.script_laws.specs.RepliesById.{ok_or, put_unless}
+use Rattle.script_laws.proofs.CallerLemmas.{live_alike, needed_with_alike}
+use Rattle.run_model.proofs.CallerLemmas.{by_id_counts}
 use Rattle.slice_session.specs.ShownSlices.{ShownJob, ShownSlices, after_slice, job_takes, needed_beside, noted, words_left}
 use Rattle.slice_session.specs.SliceHeadline.{AnswersSliced, after, after_free, after_malloc, slice_line, slice_malloc_line, slice_fault, slice_refusal, with_objects}
 use Rattle.slice_session.proofs.Filled.{live_all}
@@ -61,10 +63,6 @@ abbrev pub refusal_by : (size proxy space busy : Bool) → Option SliceRefusal
 refusal_by size proxy space busy =
     cond size (Some refusal.Size) (cond proxy (Some refusal.Proxy) (cond space (Some refusal.Space) (cond busy (Some refusal.Busy) None)))
 
-abbrev pub refused : Result Handle SliceRefusal → Option SliceRefusal
-refused (Ok h) = None
-refused (Err e) = Some e
-
 module _ (s : SliceRun) (going : IsGoingSliced s) where
   abbrev p : Paging
   p = (plan_in s.heap).paging
@@ -78,15 +76,11 @@ module _ (s : SliceRun) (going : IsGoingSliced s) where
   counts : CountAlike (objects s.heap.held) (by_id s)
   counts = by_id_counts s.ids (objects s.heap.held) going.tied
 
-  pub counted : AreCounted s.heap.profile s.heap.quantum going.rules.plan (by_id s) s.heap.held
+  pub counted : AreCounted s.heap.profile s.heap.quantum going.ready.rules.plan (by_id s) s.heap.held
   counted c = live_alike p (objects m) (by_id s) counts c
 
   len_is : len (by_id s) ≡ len m
   len_is = counts.count ∙ len-objects m
-
-  -- the bytes of an id
-  pub found : (id h : ℕ) → get s.ids id ≡ Some h → (v : List ℕ) × (get (objects s.heap.held) h ≡ Some v) × (get (by_id s) id ≡ Some v)
-  found id h named = (let v = going.tied.named id h named in (v.0, v.1, live_by_id s.ids (objects m) id h v.0 named v.1))
 
   -- the taken slots, with one more for an object, need the pages that the objects need with the slot of the job
   beside_is : (n : ℕ) → needed_beside (shown s) n ≡ pages_needed_with (plan_in s.heap).paging (objects (with_slot (plan_in s.heap) s.heap.held (job_slot s.heap.job))) n
@@ -97,7 +91,7 @@ module _ (s : SliceRun) (going : IsGoingSliced s) where
           ≡ live p (objects (with_slot (plan_in s.heap) m q)) c
       each None e c = (let a = counted c in omega arith)
       each (Some k) e c = ap (λ n. n + job_takes (job_shown p m (Some k)) c) (counted c)
-          ∙ sym (live_all (plan_in s.heap) going.rules.plan state going.rules.consistent.kept k e c)
+          ∙ sym (live_all (plan_in s.heap) going.ready.rules.plan state going.ready.rules.consistent.kept k e c)
 
   module _ (n : ℕ) where
     abbrev size_test : Bool
@@ -134,20 +128,20 @@ module _ (s : SliceRun) (going : IsGoingSliced s) where
         let yes = lt_yes s.heap.profile.pages (pages_needed_with p (by_id s) n) (omega arith) in
         λ i. refusal_by (fits_so why.fits i) (few_so why.few i) (yes i) busy_test
     refusal_shown refusal.Busy why =
-        let kept = going.rules.consistent.kept in
-        let lt = class_fits p going.rules.plan.paging n why.fits in
-        let over = (lacks_room_at_one p going.rules.plan.paging going.rules.plan.ones (with_slot (plan_in s.heap) m (job_slot s.heap.job)) kept.sound n lt).0
-        (no_place_is_lacking (plan_in s.heap) going.rules.plan state kept (class_for p n) lt why.lacking) in
+        let kept = going.ready.rules.consistent.kept in
+        let lt = class_fits p going.ready.rules.plan.paging n why.fits in
+        let over = (lacks_room_at_one p going.ready.rules.plan.paging going.ready.rules.plan.ones (with_slot (plan_in s.heap) m (job_slot s.heap.job)) kept.sound n lt).0
+        (no_place_is_lacking (plan_in s.heap) going.ready.rules.plan state kept (class_for p n) lt why.lacking) in
         let e = beside_is n in
         let yes = lt_yes s.heap.profile.pages (needed_beside (shown s) n) (omega arith) in
         λ i. refusal_by (fits_so why.fits i) (few_so why.few i) (within_so why.within i) (yes i)
 
     given_shown : (h : ℕ) (new : Sliced) → AddsObject (plan_in s.heap) state (record { number = h; length = n }) new → slice_refusal (shown s) n ≡ None
     given_shown h new g =
-        let kept = going.rules.consistent.kept in
-        let plan = going.rules.plan in
-        let never = given_or_refused (plan_in s.heap) going.rules.plan state going.rules.consistent.kept (record { number = h; length = n }) new g in
-        let lt = class_fits p going.rules.plan.paging n g.fits in
+        let kept = going.ready.rules.consistent.kept in
+        let plan = going.ready.rules.plan in
+        let never = given_or_refused (plan_in s.heap) going.ready.rules.plan state going.ready.rules.consistent.kept (record { number = h; length = n }) new g in
+        let lt = class_fits p going.ready.rules.plan.paging n g.fits in
         let within : pages_needed_with p (objects m) n ≤ s.heap.profile.pages = elim (cases_lt s.heap.profile.pages (pages_needed_with p (objects m) n)) [
           | inr le ↦ le
           | inl over ↦ absurd (never refusal.Space (record { fits = g.fits; few = g.few; over = over }))
@@ -158,9 +152,9 @@ module _ (s : SliceRun) (going : IsGoingSliced s) where
             fits = g.fits;
             few = g.few;
             within = within;
-            lacking = lacking_is_no_place (plan_in s.heap) going.rules.plan state going.rules.consistent.kept (class_for p n)
-                ((lacks_room_at_one p going.rules.plan.paging going.rules.plan.ones (with_slot (plan_in s.heap) m (job_slot s.heap.job))
-                (going.rules.consistent.kept).sound n lt).1 (let e = beside_is n in omega arith));
+            lacking = lacking_is_no_place (plan_in s.heap) going.ready.rules.plan state going.ready.rules.consistent.kept (class_for p n)
+                ((lacks_room_at_one p going.ready.rules.plan.paging going.ready.rules.plan.ones (with_slot (plan_in s.heap) m (job_slot s.heap.job))
+                (going.ready.rules.consistent.kept).sound n lt).1 (let e = beside_is n in omega arith));
           }))
         ] in
         let no' = lt_no s.heap.profile.pages (needed_beside (shown s) n) room in
@@ -189,41 +183,29 @@ module _ (old new : SliceRun) (going : IsGoingSliced old) (later : IsGoingSliced
   Answered c = (reply ≡ said (slice_line t c)) × (shown new ≡ after t c)
 
   -- the counts of the new objects, under the old settings
-  counted_new : new.heap.profile ≡ s → new.heap.quantum ≡ q → AreCounted s q going.rules.plan (by_id new) new.heap.held
+  counted_new : new.heap.profile ≡ s → new.heap.quantum ≡ q → AreCounted s q going.ready.rules.plan (by_id new) new.heap.held
   counted_new same quantum c = subst (λ (f : Profile). live (plan_by f q).paging (by_id new) c ≡ live (plan_by f q).paging (objects new.heap.held) c) same
       (counted new later c)
 
-  malloc_is : (id n : ℕ) → get old.ids id ≡ None → (answer : Result Handle SliceRefusal) → Does old.heap (Malloc n answer) new.heap
-      → new.ids ≡ ids_given old.ids id answer → shown new ≡ after_malloc None (refused answer) t id n
-  malloc_is id n none (Ok h) d ids =
-      let o = on_map old new going (Malloc n (Ok h)) d in
-      let objects_are : by_id new ≡ insert (by_id old) id (replicate n 0) =
-      (λ i. objects_by_id (ids i) (o.1 i)) ∙ by_id_given old.ids (objects old.heap.held) going.tied id h.0 (replicate n 0) o.0 in
-      stays_shown old new (Malloc n (Ok h)) d
-      ∙ sym (malloc_noted s q going.rules.plan (by_id new) (working_in old.heap).state (working_in new.heap).state going.rules.consistent.kept
+  malloc_is : (id n : ℕ) (answer : Result Handle SliceRefusal) → Does old.heap (Malloc n answer) new.heap
+      → by_id new ≡ put_unless (refused answer) (by_id old) id (replicate n 0) → shown new ≡ after_malloc None (refused answer) t id n
+  malloc_is id n (Ok h) d left = stays_shown old new (Malloc n (Ok h)) d
+      ∙ sym (malloc_noted s q going.ready.rules.plan (by_id new) (working_in old.heap).state (working_in new.heap).state going.ready.rules.consistent.kept
       (record { number = h.0; length = n }) d.happens.gives (counted_new d.stays.profile d.stays.quantum))
-      ∙ ap (λ o. noted (record { heap = heap_with s o; quantum = q; job = t.job })) objects_are
-  malloc_is id n none (Err e) d ids =
-      stays_shown old new (Malloc n (Err e)) d
-      ∙ (λ i. state_shown s q (objects_by_id (ids i) (objects ((d.happens.1 i).state).held)) (d.happens.1 i).state)
+      ∙ ap (λ o. noted (record { heap = heap_with s o; quantum = q; job = t.job })) left
+  malloc_is id n (Err e) d left = stays_shown old new (Malloc n (Err e)) d ∙ (λ i. state_shown s q (left i) (d.happens.1 i).state)
 
-  malloc_answered : (id n : ℕ) → (o : Option ℕ) → get old.ids id ≡ o
-      → MatchOption o (MallocsSliced old id n reply new) (λ h. Stays old (codes "live") reply new) → Answered (command.Malloc id n)
-  malloc_answered id n None none st =
-      let no' = gone_by_id old.ids (objects old.heap.held) id none in
-      let stated = answer_shown old going n st.answer new.heap st.does in (
-        st.reply_is ∙ ap said (text_is st.answer ∙ sym (ap (λ o. slice_malloc_line o t n) no' ∙ ap (ok_or (λ e. slice_malloc_text (Err e))) stated)),
-        malloc_is id n none st.answer st.does st.ids ∙ sym (λ i. after_malloc (no' i) (stated i) t id n),
-      )
-    where
-      text_is : (answer : Result Handle SliceRefusal) → slice_malloc_text answer ≡ ok_or (λ e. slice_malloc_text (Err e)) (refused answer)
-      text_is (Ok h) = refl
-      text_is (Err e) = refl
-  malloc_answered id n (Some h) named st =
-      let v = found old going id h named in (
-        st.0 ∙ sym (ap (λ o. said (slice_malloc_line o t n)) v.2),
-        ap shown st.1 ∙ sym (ap (λ o. after_malloc o (slice_refusal t n) t id n) v.2),
-      )
+  text_is : (answer : Result Handle SliceRefusal) → slice_malloc_text answer ≡ ok_or (λ e. slice_malloc_text (Err e)) (refused answer)
+  text_is (Ok h) = refl
+  text_is (Err e) = refl
+
+  malloc_answered : (id n : ℕ) → SliceStep old (command.Malloc id n) reply new → Answered (command.Malloc id n)
+  malloc_answered id n step = malloc_by_id sliced_calls sliced_keeps old new going reply id n step
+      (λ v live st. (st.0 ∙ sym (ap (λ o. said (slice_malloc_line o t n)) live), ap shown st.1 ∙ sym (ap (λ o. after_malloc o (slice_refusal t n) t id n) live)))
+      (λ none st left. (let stated = answer_shown old going n st.answer new.heap st.step in (
+        st.reply_is ∙ ap said (text_is st.answer ∙ sym (ap (λ o. slice_malloc_line o t n) none ∙ ap (ok_or (λ e. slice_malloc_text (Err e))) stated)),
+        malloc_is id n st.answer st.step left ∙ sym (λ i. after_malloc (none i) (stated i) t id n),
+      )))
 
   -- the command `f`
   job_is_none : old.heap.job ≡ Idle → t.job ≡ None
@@ -237,63 +219,53 @@ module _ (old new : SliceRun) (going : IsGoingSliced old) (later : IsGoingSliced
       go (Clear k) ne = (job_of (plan_by s q).paging old.heap.held k, refl)
       go (Move h k) ne = (job_of (plan_by s q).paging old.heap.held k, refl)
 
-  freed_is : (id h : ℕ) (v : List ℕ) → get old.ids id ≡ Some h → get (objects old.heap.held) h ≡ Some v → (d : Does old.heap (Free h None) new.heap)
-      → new.ids ≡ remove old.ids id → shown new ≡ after_free (Some v) None t id
-  freed_is id h v named there d ids =
+  freed_is : (id h : ℕ) (v : List ℕ) → get (objects old.heap.held) h ≡ Some v → (d : Does old.heap (Free h None) new.heap)
+      → by_id new ≡ remove (by_id old) id → shown new ≡ after_free (Some v) None t id
+  freed_is id h v there d left =
       let r = d.happens.removes in
-      let plan = going.rules.plan in
+      let plan = going.ready.rules.plan in
       let kept : IsKept (plan_in old.heap) (record { held = old.heap.held; job = Idle }) =
-      subst (λ j. IsKept (plan_in old.heap) (record { held = old.heap.held; job = j })) r.idle going.rules.consistent.kept in
-      let o = on_map old new going (Free h None) d in
-      let objects_are : by_id new ≡ remove (by_id old) id =
-      (λ i. objects_by_id (ids i) (o.1 i)) ∙ by_id_gone old.ids (objects old.heap.held) going.tied id h named in
-      let kept' = kept_begun (plan_in old.heap) going.rules.plan old.heap.held kept h r.freed r.found r.moved r.moves r.begun r.begins in
+      subst (λ j. IsKept (plan_in old.heap) (record { held = old.heap.held; job = j })) r.idle going.ready.rules.consistent.kept in
+      let kept' = kept_begun (plan_in old.heap) plan old.heap.held kept h r.freed r.found r.moved r.moves r.begun r.begins in
       let same : objects r.begun.held ≡ objects new.heap.held = sym (objects_sliced (plan_in old.heap) r.begun (working_in new.heap).state r.slice) in
-      let counted_begun : AreCounted s q going.rules.plan (by_id new) r.begun.held =
+      let counted_begun : AreCounted s q plan (by_id new) r.begun.held =
       λ c. counted_new d.stays.profile d.stays.quantum c ∙ ap (λ o. live (plan_by s q).paging o c) (sym same) in
       let bytes : Some r.freed.bytes ≡ Some v =
       sym (get-map_values (λ (x : Placed). x.bytes) old.heap.held h ∙ ap (option_map (λ (x : Placed). x.bytes)) r.found) ∙ there in
       let bytes_are : r.freed.bytes ≡ v = cc in
       stays_shown old new (Free h None) d
-      ∙ sym (slice_shown s q going.rules.plan (by_id new) r.begun (working_in new.heap).state kept' r.slice counted_begun)
-      ∙ ap after_slice (sym (free_noted s q going.rules.plan (by_id new) old.heap.held kept h r.freed r.found r.moved r.moves r.begun r.begins counted_begun))
+      ∙ sym (slice_shown s q plan (by_id new) r.begun (working_in new.heap).state kept' r.slice counted_begun)
+      ∙ ap after_slice (sym (free_noted s q plan (by_id new) old.heap.held kept h r.freed r.found r.moved r.moves r.begun r.begins counted_begun))
       ∙ (λ i. after_slice (noted (record {
-        heap = heap_with s (objects_are i);
+        heap = heap_with s (left i);
         quantum = q;
         job = Some (record { class = class_for (plan_by s q).paging (length (bytes_are i)); done = 0; filled = false });
       })))
 
-  free_shown : (id h : ℕ) (v : List ℕ) → get old.ids id ≡ Some h → get (objects old.heap.held) h ≡ Some v → (answer : Option SliceFault)
-      → Does old.heap (Free h answer) new.heap → new.ids ≡ ids_without old.ids id answer
-      → (answer ≡ slice_fault (Some v) t.job) × (shown new ≡ after_free (Some v) t.job t id)
-  free_shown id h v named there None d ids =
+  free_shown : (id h : ℕ) (v : List ℕ) → get (objects old.heap.held) h ≡ Some v → (answer : Option SliceFault) → Does old.heap (Free h answer) new.heap
+      → by_id new ≡ taken_unless answer (by_id old) id → (answer ≡ slice_fault (Some v) t.job) × (shown new ≡ after_free (Some v) t.job t id)
+  free_shown id h v there None d left =
       let idle = job_is_none d.happens.removes.idle in
-      (sym (ap (slice_fault (Some v)) idle), freed_is id h v named there d ids ∙ sym (ap (λ j. after_free (Some v) j t id) idle))
-  free_shown id h v named there (Some fault.Unknown) d ids = absurd (
+      (sym (ap (slice_fault (Some v)) idle), freed_is id h v there d left ∙ sym (ap (λ j. after_free (Some v) j t id) idle))
+  free_shown id h v there (Some fault.Unknown) d left = absurd (
       let none = get-map_values (λ (x : Placed). x.bytes) old.heap.held h ∙ ap (option_map (λ (x : Placed). x.bytes)) d.happens.0 in
       let e : Some v ≡ None = sym there ∙ none in
       cc)
-  free_shown id h v named there (Some fault.Busy) d ids =
+  free_shown id h v there (Some fault.Busy) d left =
       let j = job_is_some d.happens.0.pending in (
         sym (ap (slice_fault (Some v)) j.1),
-        stays_shown old new (Free h (Some fault.Busy)) d
-            ∙ (λ i. state_shown s q (objects_by_id (ids i) (objects ((d.happens.1 i).state).held)) (d.happens.1 i).state)
+        stays_shown old new (Free h (Some fault.Busy)) d ∙ (λ i. state_shown s q (left i) (d.happens.1 i).state)
             ∙ sym (ap (λ j. after_free (Some v) j t id) j.1),
       )
 
-  free_answered : (id : ℕ) → (o : Option ℕ) → get old.ids id ≡ o
-      → MatchOption o (Stays old (codes "unknown") reply new) (λ h. FreesSliced old id h reply new) → Answered (command.Free id)
-  free_answered id None none st =
-      let no' = gone_by_id old.ids (objects old.heap.held) id none in (
-        st.0 ∙ sym (ap (λ o. said (slice_free_text (slice_fault o t.job))) no'),
-        ap shown st.1 ∙ sym (ap (λ o. after_free o t.job t id) no'),
-      )
-  free_answered id (Some h) named st =
-      let v = found old going id h named in
-      let stated = free_shown id h v.0 named v.1 st.answer st.does st.ids in (
-        st.reply_is ∙ ap (λ a. said (slice_free_text a)) stated.0 ∙ sym (ap (λ o. said (slice_free_text (slice_fault o t.job))) v.2),
-        stated.1 ∙ sym (ap (λ o. after_free o t.job t id) v.2),
-      )
+  free_answered : (id : ℕ) → SliceStep old (command.Free id) reply new → Answered (command.Free id)
+  free_answered id step = free_by_id sliced_calls sliced_keeps old new going reply id step
+      (λ none st.
+      (st.0 ∙ sym (ap (λ o. said (slice_free_text (slice_fault o t.job))) none), ap shown st.1 ∙ sym (ap (λ o. after_free o t.job t id) none)))
+      (λ h v there live st left. (let stated = free_shown id h v there st.answer st.step left in (
+        st.reply_is ∙ ap (λ a. said (slice_free_text a)) stated.0 ∙ sym (ap (λ o. said (slice_free_text (slice_fault o t.job))) live),
+        stated.1 ∙ sym (ap (λ o. after_free o t.job t id) live),
+      )))
 
   -- the command `w`: it makes, frees and moves no object, so the job stays as it is shown
   same_job : (h : ℕ) (x : Placed) (bytes : List ℕ) → get old.heap.held h ≡ Some x → length bytes ≡ length x.bytes
@@ -317,59 +289,25 @@ module _ (old new : SliceRun) (going : IsGoingSliced old) (later : IsGoingSliced
             nat_le (slots_of (plan_by s q).paging k.class) (n + 1);
       })) (on_same k.class (page_of (plan_by s q).paging k.address))
 
-  write_shown : (id h from : ℕ) (bytes v : List ℕ) → get old.ids id ≡ Some h → get (objects old.heap.held) h ≡ Some v → (answer : Option AccessFault)
-      → Does old.heap (Write (record { number = h; from = from }) bytes answer) new.heap → new.ids ≡ old.ids
-      → (slice_write_text answer ≡ write_said (Some v) from (length bytes))
-      × (shown new ≡ with_objects t (put_unless (write_fault v from (length bytes)) (by_id old) id (written v from bytes)))
-  write_shown id h from bytes v named there None d ids =
-      let o = on_map old new going (Write (record { number = h; from = from }) bytes None) d in
-      let is : Some o.0 ≡ Some v = sym o.1 ∙ there in
-      let same : o.0 ≡ v = cc in
+  write_shown : (h from : ℕ) (bytes : List ℕ) (answer : Result Unit AccessFault)
+      → Does old.heap (Write (record { number = h; from = from }) bytes (access_fault answer)) new.heap → shown new ≡ with_objects t (by_id new)
+  write_shown h from bytes (Ok u) d =
       let w = d.happens in
-      let len = ap (λ (b : List ℕ). length b) same in
-      let within = o.2 in
-      let fits : from + length bytes ≤ length v = omega arith in
-      let yes : write_fault v from (length bytes) ≡ None =
-      ap (λ b. cond b None (Some access.Range)) (le_yes (from + length bytes) (length v) fits) in
-      let objects_are : by_id new ≡ insert (by_id old) id (written v from bytes) =
-      (λ i. objects_by_id (ids i) (o.3 i)) ∙ ap (λ (b : List ℕ). objects_by_id old.ids (insert (objects old.heap.held) h (written b from bytes))) same
-      ∙ by_id_changed old.ids (objects old.heap.held) going.tied id h named (written v from bytes) in
-      let job = same_job h w.object (written w.object.bytes from bytes) w.found (length-written w.object.bytes from bytes w.fits) w.state in (
-        sym (ap (ok_or (λ e. slice_write_text (Some e))) yes),
-        stays_shown old new (Write (record { number = h; from = from }) bytes None) d
-            ∙ (λ i. record { heap = heap_with s (objects_are i); quantum = q; job = job i })
-            ∙ sym (ap (λ f. with_objects t (put_unless f (by_id old) id (written v from bytes))) yes),
-      )
-  write_shown id h from bytes v named there (Some access.Unknown) d ids =
-      absurd (let e : Some v ≡ None = sym there ∙ d.happens.0 in cc)
-  write_shown id h from bytes v named there (Some access.Range) d ids =
-      let o = d.happens.0 in
-      let is : Some o.0 ≡ Some v = sym o.1 ∙ there in
-      let same : o.0 ≡ v = cc in
-      let len = ap (λ (b : List ℕ). length b) same in
-      let beyond = o.2 in
-      let past : length v < from + length bytes = omega arith in
-      let no' : write_fault v from (length bytes) ≡ Some access.Range =
-      ap (λ b. cond b None (Some access.Range)) (le_no (from + length bytes) (length v) past) in (
-        sym (ap (ok_or (λ e. slice_write_text (Some e))) no'),
-        stays_shown old new (Write (record { number = h; from = from }) bytes (Some access.Range)) d
-            ∙ (λ i. state_shown s q (objects_by_id (ids i) (objects ((d.happens.1 i).state).held)) (d.happens.1 i).state)
-            ∙ sym (ap (λ f. with_objects t (put_unless f (by_id old) id (written v from bytes))) no'),
-      )
+      let job = same_job h w.object (written w.object.bytes from bytes) w.found (length-written w.object.bytes from bytes w.fits) w.state in
+      stays_shown old new (Write (record { number = h; from = from }) bytes None) d
+      ∙ (λ i. record { heap = heap_with s (by_id new); quantum = q; job = job i })
+  write_shown h from bytes (Err e) d = stays_shown old new (Write (record { number = h; from = from }) bytes (Some e)) d
+      ∙ (λ i. state_shown s q (by_id new) (d.happens.1 i).state)
 
-  write_answered : (id from : ℕ) (bytes : List ℕ) → (o : Option ℕ) → get old.ids id ≡ o
-      → MatchOption o (Stays old (codes "unknown") reply new) (λ h. WritesSliced old h from bytes reply new) → Answered (command.Write id from bytes)
-  write_answered id from bytes None none st =
-      let no' = gone_by_id old.ids (objects old.heap.held) id none in (
-        st.0 ∙ sym (ap (λ o. said (write_said o from (length bytes))) no'),
-        ap shown st.1 ∙ sym (ap (λ o. with_objects t (write_leaves o (by_id old) (record { id = id; at = from; bytes = bytes }))) no'),
-      )
-  write_answered id from bytes (Some h) named st =
-      let v = found old going id h named in
-      let stated = write_shown id h from bytes v.0 named v.1 st.answer st.does st.ids in (
-        st.reply_is ∙ ap said (stated.0 ∙ sym (ap (λ o. write_said o from (length bytes)) v.2)),
-        stated.1 ∙ sym (ap (λ o. with_objects t (write_leaves o (by_id old) (record { id = id; at = from; bytes = bytes }))) v.2),
-      )
+  write_answered : (id from : ℕ) (bytes : List ℕ) → SliceStep old (command.Write id from bytes) reply new → Answered (command.Write id from bytes)
+  write_answered id from bytes step =
+      let w = write_by_id sliced_calls sliced_keeps old new going reply id from bytes step in
+      (w.0, go (get old.ids id) step ∙ ap (with_objects t) w.1)
+    where
+      go : (o : Option ℕ) → MatchOption o (Stays old (codes "unknown") reply new)
+          (λ h. WritesId sliced_calls old (record { number = h; from = from }) bytes reply new) → shown new ≡ with_objects t (by_id new)
+      go None st = ap shown st.1 ∙ ap (λ (r : SliceRun). with_objects t (by_id r)) (sym st.1)
+      go (Some h) st = write_shown h from bytes st.answer st.step
 
   -- the command `s`
   slice_answered : StepsSliced old reply new → Answered command.Slice
@@ -381,29 +319,15 @@ module _ (old new : SliceRun) (going : IsGoingSliced old) (later : IsGoingSliced
       let is : shown new ≡ after_slice t =
       stays_shown old new Step d
       ∙ ap (λ o. state_shown s q o (working_in new.heap).state) same
-      ∙ sym (slice_shown s q going.rules.plan (by_id old) (working_in old.heap).state (working_in new.heap).state going.rules.consistent.kept slice
+      ∙ sym (slice_shown s q going.ready.rules.plan (by_id old) (working_in old.heap).state (working_in new.heap).state going.ready.rules.consistent.kept slice
       (counted old going)) in
       let left : left_of (plan_in new.heap) (working_in new.heap).state ≡ words_left (shown new) =
-      sym (left_shown new.heap.profile new.heap.quantum later.rules.plan (by_id new) (working_in new.heap).state (job_slot new.heap.job)) in
+      sym (left_shown new.heap.profile new.heap.quantum later.ready.rules.plan (by_id new) (working_in new.heap).state (job_slot new.heap.job)) in
       (st.reply_is ∙ ap (λ n. said (with_number (codes "left ") n)) (left ∙ ap words_left is), is)
-
-  -- the command `r`
-  read_answered : (id from count : ℕ) → reply ≡ said (read_text (sliced_object_of old id) from count) → new ≡ old → Answered (command.Read id from count)
-  read_answered id from count r same = (
-    r ∙ ap said (read_same (sliced_object_of old id) from count ∙ ap (λ o. read_shown o from count) (bytes_same (get old.ids id) refl)),
-    ap shown same,
-  )
-    where
-      bytes_same : (o : Option ℕ) → get old.ids id ≡ o → option_map (λ (x : Placed). x.bytes) (elim o [ None ↦ None | Some h ↦ get old.heap.held h ])
-          ≡ get (by_id old) id
-      bytes_same None none = sym (gone_by_id old.ids (objects old.heap.held) id none)
-      bytes_same (Some h) named =
-          let v = found old going id h named in
-          sym (get-map_values (λ (x : Placed). x.bytes) old.heap.held h) ∙ v.1 ∙ sym v.2
 
   -- the command `p`
   peek_answered : (word : ℕ) → reply ≡ said (peek_text (slice_get old.heap.words word)) → new ≡ old → AnswersSliced t (command.Peek word) reply (shown new)
-  peek_answered word r same = (let region = going.rules.region in elim (cases_lt word (s.pages * s.page_words)) [
+  peek_answered word r same = (let region = going.ready.rules.region in elim (cases_lt word (s.pages * s.page_words)) [
     | inl lt ↦ (
       slice_index old.heap.words word,
       r ∙ ap (λ o. said (peek_text o)) (slice_get-get_or old.heap.words word 0 (omega arith)
@@ -420,10 +344,11 @@ module _ (old new : SliceRun) (going : IsGoingSliced old) (later : IsGoingSliced
 
   -- each command
   pub answered : (c : Command) → SliceStep old c reply new → AnswersSliced (shown old) c reply (shown new)
-  answered (command.Malloc id n) step = malloc_answered id n (get old.ids id) refl step
-  answered (command.Free id) step = free_answered id (get old.ids id) refl step
-  answered (command.Write id from bytes) step = write_answered id from bytes (get old.ids id) refl step
+  answered (command.Malloc id n) step = malloc_answered id n step
+  answered (command.Free id) step = free_answered id step
+  answered (command.Write id from bytes) step = write_answered id from bytes step
   answered command.Slice step = slice_answered step
-  answered (command.Read id from count) step = read_answered id from count step.0 step.1
+  answered (command.Read id from count) step =
+      (step.0 ∙ ap (λ o. said (read_shown o from count)) (bytes_by_id sliced_calls old going id), ap shown step.1)
   answered (command.Peek word) step = peek_answered word step.0 step.1
   answered c step = (step.0, ap shown step.1)

@@ -1,5 +1,5 @@
 -- For `wrong_sliced_replies_fall_short`: the right replies to the small script meet the claim, and wrong ones don't.
-use Rattle.std.proofs.Common.{◌≡◌, ℕ, true, List, [], ◌∷◌, Option, Some, None, length, replicate, get_or, sym, ◌∙◌, ap, refl, subst, inl, inr}
+use Rattle.std.proofs.Common.{◌≡◌, ℕ, true, List, [], ◌∷◌, Option, Some, None, drop, length, replicate, get_or, sym, ◌∙◌, ap, refl, subst, inl, inr}
 use Rattle.std.specs.Prelude.{codes}
 use Rattle.std.proofs.lemmas.Bool.{cases_eq}
 use Rattle.std.specs.Fmt.{digits}
@@ -85,26 +85,8 @@ before : (old : ShownSlices) (c : Command) (text : List ℕ) (new : ShownSlices)
     → replies_from 8 (Some new) rest ≡ replies → replies_from 8 (Some old) (asks c ∷ rest) ≡ said text ∷ replies
 before old c text new rest replies step more = (λ i. said (step.0 i) ∷ replies_from 8 (Some (step.1 i)) rest) ∙ ap (λ l. said text ∷ l) more
 
-abbrev rest7 : List Item
-rest7 = asks (Malloc 4 176) ∷ []
-
-abbrev rest6 : List Item
-rest6 = asks (Malloc 3 504) ∷ rest7
-
-abbrev rest5 : List Item
-rest5 = asks (Free 1) ∷ rest6
-
-abbrev rest4 : List Item
-rest4 = asks Slice ∷ rest5
-
-abbrev rest3 : List Item
-rest3 = asks (Free 2) ∷ rest4
-
-abbrev rest2 : List Item
-rest2 = asks (Malloc 2 176) ∷ rest3
-
 abbrev script : List Item
-script = starts settings ∷ asks (Malloc 1 176) ∷ rest2
+script = starts settings ∷ asks (Malloc 1 176) ∷ asks (Malloc 2 176) ∷ asks (Free 2) ∷ asks Slice ∷ asks (Free 1) ∷ asks (Malloc 3 504) ∷ asks (Malloc 4 176) ∷ []
 
 asked : items (codes "heap 2 512 1 8\nm 1 176\nm 2 176\nf 2\ns\nf 1\nm 3 504\nm 4 176\n") true ≡ script
 unfolding decode_pairs
@@ -115,12 +97,12 @@ right = small_sliced_replies (codes "ok") (codes "left 7") (codes "busy") (codes
 
 replies_are : replies_from 8 None script ≡ right
 replies_are = ap (λ l. said (codes "ok") ∷ l)
-    (before (with empty None) (Malloc 1 176) (codes "ok") (with o1 None) rest2 _ step1
-    (before (with o1 None) (Malloc 2 176) (codes "ok") (with o2 None) rest3 _ step2
-    (before (with o2 None) (Free 2) (codes "ok") (with o1 (job 8)) rest4 _ step3
-    (before (with o1 (job 8)) Slice (codes "left 7") (with o1 (job 16)) rest5 _ step4
-    (before (with o1 (job 16)) (Free 1) (codes "busy") (with o1 (job 16)) rest6 _ step5
-    (before (with o1 (job 16)) (Malloc 3 504) (codes "ok") (with o3 (job 16)) rest7 _ step6
+    (before (with empty None) (Malloc 1 176) (codes "ok") (with o1 None) (drop 2 script) _ step1
+    (before (with o1 None) (Malloc 2 176) (codes "ok") (with o2 None) (drop 3 script) _ step2
+    (before (with o2 None) (Free 2) (codes "ok") (with o1 (job 8)) (drop 4 script) _ step3
+    (before (with o1 (job 8)) Slice (codes "left 7") (with o1 (job 16)) (drop 5 script) _ step4
+    (before (with o1 (job 16)) (Free 1) (codes "busy") (with o1 (job 16)) (drop 6 script) _ step5
+    (before (with o1 (job 16)) (Malloc 3 504) (codes "ok") (with o3 (job 16)) (drop 7 script) _ step6
     (before (with o3 (job 16)) (Malloc 4 176) (codes "busy") (with o3 (job 16)) [] _ step7 refl)))))))
 
 pub right_meets : MeetsSmallSliced (small_sliced_replies (codes "ok") (codes "left 7") (codes "busy") (codes "ok") (codes "busy"))

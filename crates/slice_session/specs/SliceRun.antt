@@ -1,19 +1,16 @@
--- A session over a sliced heap: its state, and for each command the reply, the state after it, and the most steps.
+-- A session over a sliced heap: its state, the calls of its heap, and for each command the reply, the state after it, and the most steps.
 use Rattle.std.specs.Prelude.{◌≡◌, ℕ, ◌+◌, IsTrue, List, Option, Some, None, Result, Ok, Err, codes, length, slice_get}
-use Rattle.std.specs.Option.{MatchOption}
-use Rattle.std.specs.FinMap.{get, remove}
-use Rattle.cf_base.specs.declared.answers.AccessFault.{AccessFault}
 use Rattle.cf_base.specs.declared.answers.Handle.{Handle}
 use Rattle.cf_base.specs.declared.answers.Refusal.TheVariants as shown
 use Rattle.cf_io.specs.Texts.{Reply, said, with_number}
 use Rattle.cf_model.specs.Costs.{words_touched}
 use Rattle.id_table.specs.Ids.{Ids}
-use Rattle.page_model.specs.Held.{Objects, Placed, objects}
-use Rattle.run_model.specs.Replies.{malloc_text, peek_text, read_text, write_text}
-use Rattle.run_model.specs.Steps.{Stays, ids_given}
+use Rattle.object_model.specs.ObjectRun.{Calls, IsGoingObjects, ObjectRun, ObjectStep, object_run}
+use Rattle.page_model.specs.Held.{objects}
+use Rattle.run_model.specs.Replies.{malloc_text, peek_text}
+use Rattle.run_model.specs.Steps.{Stays}
 use Rattle.script_reader.specs.declared.command.Command.{Command}
 use Rattle.script_reader.specs.declared.command.Command.TheVariants as command
-use Rattle.id_table.specs.Ties.{AreTiedTo}
 use Rattle.slice_model.specs.Ordered.{HappensInOrder}
 use Rattle.slice_model.specs.Runs.{Event, Happens, Malloc, Free, Step, Write}
 use Rattle.slice_model.specs.State.{left_of}
@@ -21,30 +18,16 @@ use Rattle.slice_model.specs.declared.answers.SliceFault.{SliceFault}
 use Rattle.slice_model.specs.declared.answers.SliceFault.TheVariants as fault
 use Rattle.slice_model.specs.declared.answers.SliceRefusal.{SliceRefusal}
 use Rattle.slice_model.specs.declared.answers.SliceRefusal.TheVariants as refusal
+use Rattle.sliced_heap.specs.Access.{access_fault}
 use Rattle.sliced_heap.specs.Shown.{KeepsRules, SlicedState, StaysOpen, plan_in, working_in}
 
 -- the live ids with the handles that they name, and the heap
-pub record SliceRun : Type 0 where
-  pub ids : Ids
-  pub heap : SlicedState
+abbrev pub SliceRun : Type 0
+SliceRun = ObjectRun SlicedState
 
 -- the run with these live ids on this heap
 abbrev pub slice_run : Ids → SlicedState → SliceRun
-slice_run ids heap = record { ids = ids; heap = heap }
-
--- the objects of a run: a map from the numbers of their handles to their bytes
-abbrev pub live_in : SliceRun → Objects
-live_in s = objects s.heap.held
-
--- a state of a run: the heap is open and keeps its rules, and the ids name its objects, each once
-pub record IsGoingSliced (s : SliceRun) : Type 0 where
-  pub opened : IsTrue s.heap.is_open
-  pub rules : KeepsRules s.heap
-  pub tied : AreTiedTo s.ids (live_in s)
-
--- the object that an id names, if it is live
-abbrev pub sliced_object_of : SliceRun → ℕ → Option Placed
-sliced_object_of s id = elim (get s.ids id) [ None ↦ None | Some h ↦ get s.heap.held h ]
+slice_run ids heap = object_run ids heap
 
 -- the reply to `m`: as on every manager, and `busy` if the heap refuses because of the pending job
 abbrev pub slice_malloc_text : Result Handle SliceRefusal → List ℕ
@@ -60,16 +43,6 @@ slice_free_text None = codes "ok"
 slice_free_text (Some fault.Unknown) = codes "unknown"
 slice_free_text (Some fault.Busy) = codes "busy"
 
--- the reply to `w`, by the heap's fault; None if the bytes were written
-abbrev pub slice_write_text : Option AccessFault → List ℕ
-slice_write_text None = write_text (Ok tt)
-slice_write_text (Some e) = write_text (Err e)
-
--- the ids after a free of an id: the id is no longer live, or the heap refused and the ids are unchanged
-abbrev pub ids_without : Ids → ℕ → Option SliceFault → Ids
-ids_without ids id None = remove ids id
-ids_without ids id (Some e) = ids
-
 -- The heap did this call, `event`: its objects, job and words change as in `Happens`, its order as in `HappensInOrder`, and it stays open with its settings
 -- and its quantum.
 pub record Does (old : SlicedState) (event : Event) (new : SlicedState) : Type 0 where
@@ -77,19 +50,10 @@ pub record Does (old : SlicedState) (event : Event) (new : SlicedState) : Type 0
   pub ordered : HappensInOrder (plan_in old) (working_in old) event (working_in new) old.order new.order
   pub stays : StaysOpen old new
 
--- a malloc for an id that isn't live: the heap adds an object and the id names it, or the heap refuses; the reply shows which
-pub record MallocsSliced (old : SliceRun) (id bytes : ℕ) (reply : Reply) (new : SliceRun) : Type 0 where
-  pub answer : Result Handle SliceRefusal
-  pub does : Does old.heap (Malloc bytes answer) new.heap
-  pub ids : new.ids ≡ ids_given old.ids id answer
-  pub reply_is : reply ≡ said (slice_malloc_text answer)
-
--- a free of a live id, which names h: the heap frees the object h and does the first slice of a job, or refuses; the reply shows which
-pub record FreesSliced (old : SliceRun) (id h : ℕ) (reply : Reply) (new : SliceRun) : Type 0 where
-  pub answer : Option SliceFault
-  pub does : Does old.heap (Free h answer) new.heap
-  pub ids : new.ids ≡ ids_without old.ids id answer
-  pub reply_is : reply ≡ said (slice_free_text answer)
+-- the heap is open and keeps its rules
+pub record IsReadySliced (s : SlicedState) : Type 0 where
+  pub opened : IsTrue s.is_open
+  pub rules : KeepsRules s
 
 -- `s`: the heap does a slice of the pending job, if there is one; the reply is `left` and the words that a job then has still to do, 0 if none is pending
 pub record StepsSliced (old : SliceRun) (reply : Reply) (new : SliceRun) : Type 0 where
@@ -97,28 +61,32 @@ pub record StepsSliced (old : SliceRun) (reply : Reply) (new : SliceRun) : Type 
   pub ids : new.ids ≡ old.ids
   pub reply_is : reply ≡ said (with_number (codes "left ") (left_of (plan_in new.heap) (working_in new.heap).state))
 
--- a write into the live object h from byte `from` on: the heap replaces the bytes, or refuses; the reply shows which
-pub record WritesSliced (old : SliceRun) (h from : ℕ) (bytes : List ℕ) (reply : Reply) (new : SliceRun) : Type 0 where
-  pub answer : Option AccessFault
-  pub does : Does old.heap (Write (record { number = h; from = from }) bytes answer) new.heap
-  pub ids : new.ids ≡ old.ids
-  pub reply_is : reply ≡ said (slice_write_text answer)
+-- the commands that name no object: `s`; `p`, whose reply is a word of the region; and those of other modes, with the reply `none`
+abbrev pub OthersSliced : SliceRun → Command → Reply → SliceRun → Type 0
+OthersSliced old command.Slice reply new = StepsSliced old reply new
+OthersSliced old (command.Peek word) reply new = Stays old (peek_text (slice_get old.heap.words word)) reply new
+OthersSliced old other reply new = Stays old (codes "none") reply new
 
--- the reply to a command that changes nothing: to `r` the bytes of the object, also while it is in motion; to `p` a word of the region; else `none`
-abbrev pub sliced_shown : SliceRun → Command → Reply
-sliced_shown s (command.Read id from count) = said (read_text (sliced_object_of s id) from count)
-sliced_shown s (command.Peek word) = said (peek_text (slice_get s.heap.words word))
-sliced_shown s other = said (codes "none")
+-- the calls of a sliced heap
+abbrev pub sliced_calls : Calls SlicedState SliceRefusal SliceFault
+sliced_calls = record {
+  is_ready = IsReadySliced;
+  objects = λ s. objects s.held;
+  mallocs = λ old bytes answer new. Does old (Malloc bytes answer) new;
+  frees = λ old h fault new. Does old (Free h fault) new;
+  writes = λ old position bytes answer new. Does old (Write (record { number = position.number; from = position.from }) bytes (access_fault answer)) new;
+  malloc_text = slice_malloc_text;
+  free_text = slice_free_text;
+  others = OthersSliced;
+}
+
+-- a state of a run: the heap is ready, and the ids name its objects, each once
+abbrev pub IsGoingSliced : SliceRun → Type 0
+IsGoingSliced = IsGoingObjects sliced_calls
 
 -- One command: the run before it, its reply, and the run after it.
 abbrev pub SliceStep : SliceRun → Command → Reply → SliceRun → Type 0
-SliceStep old (command.Malloc id bytes) reply new =
-    MatchOption (get old.ids id) (MallocsSliced old id bytes reply new) (λ h. Stays old (codes "live") reply new)
-SliceStep old (command.Free id) reply new = MatchOption (get old.ids id) (Stays old (codes "unknown") reply new) (λ h. FreesSliced old id h reply new)
-SliceStep old command.Slice reply new = StepsSliced old reply new
-SliceStep old (command.Write id from bytes) reply new =
-    MatchOption (get old.ids id) (Stays old (codes "unknown") reply new) (λ h. WritesSliced old h from bytes reply new)
-SliceStep old other reply new = (reply ≡ sliced_shown old other) × (new ≡ old)
+SliceStep = ObjectStep sliced_calls
 
 -- The most steps of a command, with slices of at most `quantum` words. Only the heap's call takes steps.
 abbrev pub most_steps : ℕ → Command → ℕ

@@ -6,12 +6,14 @@ ghost use Rattle.cf_io.specs.Texts.{said};
 ghost use Rattle.cf_session.specs.Apply.{outcome_in};
 ghost use Rattle.cf_session.specs.Short.{short_text};
 ghost use Rattle.cf_model.specs.Costs.{words_touched};
-ghost use Rattle.run_model.specs.Replies.{peek_text, read_text};
+ghost use Rattle.object_model.specs.ObjectRun.{object_bytes};
+ghost use Rattle.run_model.specs.Replies.{peek_text};
+ghost use Rattle.script_laws.specs.IdBytes.{read_shown};
 ghost use Rattle.script_reader.specs.declared.command.Command.TheVariants.{Malloc, Free, Slice, Write};
 ghost use Rattle.script_loop.specs.Applying.{BuildsReply};
 ghost use Rattle.sliced_heap.specs.Shown.{KeepsRules};
 ghost use Rattle.step_ledger.specs.Counting.{RoseAtMost};
-ghost use Rattle.slice_session.specs.SliceRun.{SliceStep, slice_free_text, slice_malloc_text, slice_run, sliced_object_of};
+ghost use Rattle.slice_session.specs.SliceRun.{SliceStep, slice_free_text, slice_malloc_text, slice_run, sliced_calls};
 
 use cf_io::{Line, push_field};
 use cf_session::{Outcome, Short, fault_reply, push_bytes, push_short};
@@ -126,7 +128,7 @@ pub(crate) fn read(
     requires rules { KeepsRules heap.now }
     requires few { length buffer.old ≤ 4096 }
     requires empty { line.old ≡ [] }
-    ensures text { line.new ≡ read_text (sliced_object_of (slice_run ids.now heap.now) id) at (length buffer.old) }
+    ensures text { line.new ≡ read_shown (object_bytes sliced_calls (slice_run ids.now heap.now) id) at (length buffer.old) }
     ensures room { length line.new < line_capacity }
     ensures outcome { result ≡ outcome_in line.new }
     ensures bound { RoseAtMost steps.old steps.new (2 + words_touched at (length buffer.old)) }

@@ -1,5 +1,7 @@
-use Rattle.large_session.proofs.RunInvariant.{still_going}
-use Rattle.large_session.proofs.Turns.{begins_going, begins_large, step_exists}
+use Rattle.object_model.proofs.CallerLemmas.{step_exists, still_going}
+use Rattle.large_session.specs.LargeRun.{large_calls}
+use Rattle.large_session.proofs.RunInvariant.{large_keeps}
+use Rattle.large_session.proofs.Turns.{begins_going, begins_large, large_there}
 use Rattle.large_session.proofs.laws.each_command_has_its_turn.Goals as goal
 
 pub returns-clause-begins : goal.returns-clause-begins
@@ -9,7 +11,7 @@ pub returns-clause-begun : goal.returns-clause-begun
 returns-clause-begun c = begins_going
 
 pub returns-clause-answered : goal.returns-clause-answered
-returns-clause-answered c = step_exists
+returns-clause-answered c = step_exists large_calls large_there
 
 pub returns-clause-going : goal.returns-clause-going
-returns-clause-going c = λ old new command reply going step. still_going old new going reply command step
+returns-clause-going c = still_going large_calls large_keeps

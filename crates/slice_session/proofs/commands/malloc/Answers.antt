@@ -10,7 +10,7 @@ returns-in-Ok-clause-step c =
     (no_handle c.handle.result _ c.handle.ensures.found (sym c.is_some.ensures ∙ c.if-is_some.false))
     (record {
       answer = Ok c.in-Ok.h;
-      does = record { happens = c.in-Ok.ensures.step; ordered = c.in-Ok.ensures.ordered; stays = c.malloc.ensures.same };
+      step = record { happens = c.in-Ok.ensures.step; ordered = c.in-Ok.ensures.ordered; stays = c.malloc.ensures.same };
       ids = c.bind.ensures;
       reply_is = refl;
     })

@@ -1,6 +1,8 @@
-use Rattle.slice_session.proofs.RunInvariant.{still_going}
+use Rattle.object_model.proofs.CallerLemmas.{step_exists, still_going}
+use Rattle.slice_session.specs.SliceRun.{sliced_calls}
+use Rattle.slice_session.proofs.RunInvariant.{sliced_keeps}
 use Rattle.slice_session.proofs.OpenLemmas.{begins_going}
-use Rattle.slice_session.proofs.CommandSteps.{begins_sliced, step_exists}
+use Rattle.slice_session.proofs.CommandSteps.{begins_sliced, sliced_there}
 use Rattle.slice_session.proofs.laws.each_command_has_its_turn.Goals as goal
 
 pub returns-clause-begins : goal.returns-clause-begins
@@ -10,7 +12,7 @@ pub returns-clause-begun : goal.returns-clause-begun
 returns-clause-begun c = begins_going
 
 pub returns-clause-answered : goal.returns-clause-answered
-returns-clause-answered c = step_exists
+returns-clause-answered c = step_exists sliced_calls sliced_there
 
 pub returns-clause-going : goal.returns-clause-going
-returns-clause-going c = λ old new command reply going step. still_going old new going reply command step
+returns-clause-going c = still_going sliced_calls sliced_keeps

@@ -3,8 +3,8 @@ use Rattle.large_session.proofs.OpenReply.{kind_kept}
 use Rattle.large_session.proofs.mode_handler.LargeHandlerModeHandlerLargeHeap.answer.Goals as goal
 
 pub returns-clause-plan : goal.returns-clause-plan
-returns-clause-plan g c = kind_kept _ _ c.in_ok-apply_ref.ensures.step.0.reply (owned_command c.args.command) c.in_ok-apply_ref.ensures.step.0.turns
+returns-clause-plan g c = kind_kept _ _ (owned_command c.args.command) c.in_ok-apply_ref.ensures.step.0.reply c.requires.going c.in_ok-apply_ref.ensures.step.0.turns
 
 pub returns-in_err-apply_ref-clause-plan : goal.returns-in_err-apply_ref-clause-plan
-returns-in_err-apply_ref-clause-plan g c = kind_kept _ _ c.in_err-apply_ref.ensures.step.turns.reply (owned_command c.args.command)
+returns-in_err-apply_ref-clause-plan g c = kind_kept _ _ (owned_command c.args.command) c.in_err-apply_ref.ensures.step.turns.reply c.requires.going
     c.in_err-apply_ref.ensures.step.turns.turn

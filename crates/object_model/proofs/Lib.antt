@@ -1,0 +1,5 @@
+pub mod Turns
+pub mod StepsThere
+pub mod ReadTexts
+pub mod ById
+pub mod CallerLemmas
