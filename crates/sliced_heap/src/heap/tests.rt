@@ -31,6 +31,8 @@ fn region_of(open: &OpenHeap) -> &Region {
         quantum,
         live,
         needed,
+        asked,
+        taken,
         region,
         tables,
         lists,
@@ -47,6 +49,8 @@ fn region_of(open: &OpenHeap) -> &Region {
     let _classes: &Classes = classes;
     let _live: &[u32; CLASSES] = live;
     let _needed: &u32 = needed;
+    let _asked: &u64 = asked;
+    let _taken: &u64 = taken;
     let region: &Region = region;
     let _maps: &SlotMaps = maps;
     let _lists: &ClassLists = lists;
