@@ -10,7 +10,7 @@
  *   libnorphuen_nonmoving.a  Compact-fit, non-moving: a free may exchange entries of a block table. Lends nothing, since
  *                            an object's words are not side by side
  *   libnorphuen_tlsf.a       TLSF, for comparison: blocks in place of pages. No object moves or changes its length
- *   libnorphuen_sliced.a     Compact-fit, moving, with frees in slices of a set length: "Frees in slices" below. Lends nothing
+ *   libnorphuen_sliced.a     Compact-fit, moving, with frees in slices of a set length: "Frees in slices" below
  *   libnorphuen_tasks.a      Compact-fit, moving, shared by sixteen tasks with quotas: "Heaps of tasks" below. Lends nothing
  *
  * Each has names and a type of heap of its own: nph_open and nph_heap, nph_nm_open and nph_nm_heap, nph_tlsf_open and
@@ -63,7 +63,7 @@ extern "C" {
 typedef struct nph_heap { void *at; uint32_t last; bool is_open; bool is_lent; } nph_heap;
 typedef struct nph_nm_heap { void *at; uint32_t last; bool is_open; bool is_lent; } nph_nm_heap;
 typedef struct nph_tlsf_heap { void *at; uint32_t last; bool is_open; bool is_lent; } nph_tlsf_heap;
-typedef struct nph_sliced_heap { void *at; uint32_t last; bool is_open; } nph_sliced_heap;
+typedef struct nph_sliced_heap { void *at; uint32_t last; bool is_open; bool is_lent; } nph_sliced_heap;
 typedef struct nph_tasks_heap { void *at; uint32_t last; bool is_open; } nph_tasks_heap;
 
 /* A closed heap, to initialize or to assign. A static heap is closed without it; with it gcc -pedantic warns. */
@@ -77,7 +77,7 @@ typedef struct nph_tasks_heap { void *at; uint32_t last; bool is_open; } nph_tas
 #define NPH_HEAP (nph_heap){ NULL, 0, false, false }
 #define NPH_NM_HEAP (nph_nm_heap){ NULL, 0, false, false }
 #define NPH_TLSF_HEAP (nph_tlsf_heap){ NULL, 0, false, false }
-#define NPH_SLICED_HEAP (nph_sliced_heap){ NULL, 0, false }
+#define NPH_SLICED_HEAP (nph_sliced_heap){ NULL, 0, false, false }
 #define NPH_TASKS_HEAP (nph_tasks_heap){ NULL, 0, false }
 #endif
 
@@ -101,7 +101,8 @@ typedef enum nph_status {
     NPH_REGION = 15,     /* the same: pages * page_bytes is at most 67108864 */
     NPH_NOT_LENT = 16,   /* nph_return: the heap is not lent */
     NPH_ENTRIES = 17,    /* nph_pages_needed: there are more than 64 needs */
-    NPH_BUSY = 18,       /* nph_sliced_free: a job is pending; nph_sliced_malloc: no slot is left but that of the pending job */
+    NPH_BUSY = 18,       /* nph_sliced_free, nph_sliced_lend: a job is pending; nph_sliced_malloc: no slot is left but that of the
+                            pending job */
     NPH_QUANTUM = 19     /* nph_sliced_open: a quantum is 1 to 16384 words */
 } nph_status;
 
@@ -368,8 +369,32 @@ NPH_CALL nph_status nph_sliced_length(nph_sliced_heap *heap, uint32_t handle, ui
 /* Returns what nph_sliced_malloc of `bytes` bytes would return now. Makes no object. */
 NPH_CALL nph_status nph_sliced_has_room(nph_sliced_heap *heap, uint32_t bytes);
 
-/* Writes the steps of the last call on the heap, but for nph_sliced_left, nph_sliced_moving and this call, which take none. */
+/* As nph_slot_words. A free of the object begins a job of as many words, to clear its slot or to move another object there. */
+NPH_CALL nph_status nph_sliced_slot_words(nph_sliced_heap *heap, uint32_t handle, uint32_t *words);
+
+/* As nph_class_of. */
+NPH_CALL nph_status nph_sliced_class_of(nph_sliced_heap *heap, uint32_t bytes, uint32_t *size_class);
+
+/* As nph_figures. The slot of a pending job counts as used: its page is one of the class, but it is no live object. */
+NPH_CALL nph_status nph_sliced_figures(nph_sliced_heap *heap, uint32_t size_class, nph_class *figures);
+
+/* As nph_totals. The slot of a pending job counts as taken, and its page as used, but it is no live object and asks for no bytes. */
+NPH_CALL nph_status nph_sliced_totals(nph_sliced_heap *heap, nph_heap_totals *totals);
+
+/* Writes the steps of the last call on the heap that counts them. nph_sliced_left, nph_sliced_moving, nph_sliced_figures,
+ * nph_sliced_totals, nph_sliced_lend, nph_sliced_return and this call take none, and leave the count as it was. */
 NPH_CALL nph_status nph_sliced_last_steps(nph_sliced_heap *heap, uint64_t *steps);
+
+/* As nph_place. A job that moves an object moves it to this place. It stays the same until the object is freed, or
+ * nph_sliced_moving writes it after a free or a step that began the move. */
+NPH_CALL nph_status nph_sliced_place(nph_sliced_heap *heap, uint32_t handle, uint32_t *place);
+
+/* As nph_lend; the bytes of an object are at nph_bytes(words, place). Fails with NPH_BUSY if a job is pending, since an object in
+ * motion is in two parts: call nph_sliced_step until nph_sliced_left writes 0. */
+NPH_CALL nph_status nph_sliced_lend(nph_sliced_heap *heap, uint64_t **words);
+
+/* As nph_return. */
+NPH_CALL nph_status nph_sliced_return(nph_sliced_heap *heap);
 
 /* As nph_version. */
 uint32_t nph_sliced_version(void);

@@ -9,8 +9,10 @@
 int main(void) {
     nph_sliced_heap heap = NPH_SLICED_HEAP;
     nph_needed needed;
-    uint32_t object, other, number;
-    uint64_t steps;
+    uint32_t object, other, number, place;
+    uint64_t steps, *words;
+    nph_heap_totals totals;
+    nph_class figures;
     char back[6] = "";
     MUST(nph_sliced_version() == NPH_VERSION);
     MUST(nph_sliced_step(&heap) == NPH_CLOSED);
@@ -22,7 +24,14 @@ int main(void) {
     MUST(nph_sliced_write(&heap, object, 194, "hello", 6) == NPH_OK && nph_sliced_read(&heap, object, 194, back, 6) == NPH_OK);
     MUST(strcmp(back, "hello") == 0);
     MUST(nph_sliced_length(&heap, object, &number) == NPH_OK && number == 200);
+    MUST(nph_sliced_slot_words(&heap, object, &number) == NPH_OK && number == 26);
+    MUST(nph_sliced_class_of(&heap, 200, &number) == NPH_OK && nph_sliced_figures(&heap, number, &figures) == NPH_OK);
+    MUST(figures.slot_words == 26 && figures.live == 1 && nph_sliced_place(&heap, object, &place) == NPH_OK);
+    MUST(nph_sliced_lend(&heap, &words) == NPH_OK && strcmp((char *)nph_bytes(words, place) + 194, "hello") == 0);
+    MUST(nph_sliced_step(&heap) == NPH_LENT && nph_sliced_return(&heap) == NPH_OK && nph_sliced_return(&heap) == NPH_NOT_LENT);
     MUST(nph_sliced_free(&heap, object) == NPH_OK && nph_sliced_free(&heap, object) == NPH_UNKNOWN);
+    MUST(nph_sliced_lend(&heap, &words) == NPH_BUSY && nph_sliced_totals(&heap, &totals) == NPH_OK);
+    MUST(totals.live == 1 && totals.asked == 8 && totals.taken == 8 * (4 + 26) && totals.used == 2);
     MUST(nph_sliced_left(&heap, &number) == NPH_OK && number > 4 && nph_sliced_free(&heap, other) == NPH_BUSY);
     MUST(nph_sliced_moving(&heap, &number) == NPH_OK && number == NPH_NONE);
     MUST(nph_sliced_step(&heap) == NPH_OK && nph_sliced_last_steps(&heap, &steps) == NPH_OK && steps == 4);

@@ -8,7 +8,9 @@ use Rattle.cf_base.specs.Settings.{Profile}
 use Rattle.cf_base.specs.declared.answers.AccessFault.{AccessFault}
 use Rattle.cf_base.specs.declared.answers.AccessFault.TheVariants as access
 use Rattle.cf_base.specs.declared.answers.Handle.{Handle}
+use Rattle.page_model.specs.Arrangement.{class_at}
 use Rattle.page_model.specs.Held.{Placed, objects}
+use Rattle.page_model.specs.Paging.{slot_words}
 use Rattle.page_model.proofs.CallerLemmas.{bytes_held}
 use Rattle.slice_model.specs.Runs.{Happens, Position, Free, Malloc, Read, Write}
 use Rattle.slice_model.specs.declared.answers.SliceFault.{SliceFault}
@@ -16,7 +18,8 @@ use Rattle.slice_model.specs.declared.answers.SliceFault.TheVariants as fault
 use Rattle.slice_model.specs.declared.answers.SliceRefusal.{SliceRefusal}
 use Rattle.slice_model.specs.declared.answers.SliceRefusal.TheVariants as refusal
 use Rattle.slice_model.proofs.CallerLemmas.{byte_there}
-use Rattle.sliced_heap.specs.Access.{access_fault, bytes_or_fault}
+use Rattle.sliced_heap.specs.Access.{access_fault, bytes_or_fault, place_in}
+use Rattle.sliced_heap.specs.Figures.{slot_words_in}
 use Rattle.sliced_heap.specs.Shown.{KeepsRules, SlicedState, plan_in, working_in}
 use Rattle.sliced_heap.specs.Steps.{fault_in}
 use Rattle.cf_lemmas.proofs.MapValues.{get-map_values}
@@ -25,7 +28,7 @@ use Rattle.c_base.specs.HandleRules.{AreHandles}
 use Rattle.c_base.specs.Handles.{none, number_in}
 use Rattle.c_base.proofs.Generations.{handle_small, length-raised, names_itself}
 use Rattle.c_base.proofs.HandleLaws.{first_are_handles, raised_handles}
-use Rattle.held_sliced.specs.Calls.{IsFreeCall, IsFreshHeap, IsLengthCall, IsMallocCall, IsReadCall, IsStepCall, IsWriteCall, found_code, found_number, malloc_number, raised_by}
+use Rattle.held_sliced.specs.Calls.{IsFreeCall, IsFreshHeap, IsLengthCall, IsMallocCall, IsPlaceCall, IsReadCall, IsSlotWordsCall, IsStepCall, IsWriteCall, found_code, found_number, malloc_number, raised_by}
 use Rattle.held_sliced.specs.Codes.{free_code, malloc_code}
 use Rattle.held_sliced.specs.HandleRules.{IsNewHandle, KeepsHandles}
 use Rattle.held_sliced.specs.HeldState.{HeldState}
@@ -163,6 +166,21 @@ length_is_refused old new handle before after code c k is =
     let e : option_map (λ (x : Placed). length x.bytes) (get old.heap.held (number_in old.handles handle)) ≡ None =
     ap (option_map (λ (x : Placed). length x.bytes)) (nothing old (number_in old.handles handle) k is) in
     (c.by_code ∙ ap found_code e, c.by_length ∙ ap (λ o. found_number o before) e)
+
+pub place_is_refused : (old new : HeldState) (handle before after : ℕ) (code : ℤ) → IsPlaceCall old handle before code after new → KeepsHandles old
+    → number_in old.handles handle ≡ none → (code ≡ pos 4) × (after ≡ before)
+place_is_refused old new handle before after code c k is =
+    let e : place_in old.heap.held (number_in old.handles handle) ≡ None =
+    ap (option_map (λ (x : Placed). x.place)) (nothing old (number_in old.handles handle) k is) in
+    (c.by_code ∙ ap found_code e, c.by_place ∙ ap (λ o. found_number o before) e)
+
+pub slot_words_are_refused : (old new : HeldState) (handle before after : ℕ) (code : ℤ) → IsSlotWordsCall old handle before code after new → KeepsHandles old
+    → number_in old.handles handle ≡ none → (code ≡ pos 4) × (after ≡ before)
+slot_words_are_refused old new handle before after code c k is =
+    let p = (plan_in old.heap).paging in
+    let e : slot_words_in (plan_in old.heap) old.heap.held (number_in old.handles handle) ≡ None =
+    ap (option_map (λ (x : Placed). slot_words p (class_at p x))) (nothing old (number_in old.handles handle) k is) in
+    (c.by_code ∙ ap found_code e, c.by_words ∙ ap (λ o. found_number o before) e)
 
 -- ---- a read gives the bytes of the object
 

@@ -2,9 +2,12 @@
 -- `after`), and the `code` that it returns. `answer` is the result of the heap's call, whose steps, counted from 0, are `new.steps`.
 use Rattle.std.specs.Prelude.{◌≡◌, ℕ, ℤ, pos, ◌*◌, ◌%◌, true, replicate, List, Option, Some, None, Result, Ok, Err, IsErr, length}
 use Rattle.std.specs.FinMap.{empty}
+use Rattle.cf_base.specs.Classes.{class_of}
 use Rattle.cf_base.specs.Settings.{Profile, at_bound_one}
 use Rattle.cf_base.specs.declared.answers.AccessFault.{AccessFault}
+use Rattle.cf_base.specs.declared.answers.Figures.{Figures}
 use Rattle.cf_base.specs.declared.answers.Handle.{Handle}
+use Rattle.cf_base.specs.declared.answers.Totals.{Totals}
 use Rattle.cf_base.specs.declared.kind.Layout.TheVariants.{Words}
 use Rattle.page_model.specs.Order.{first_order}
 use Rattle.page_model.specs.Paging.{first_bounds, paging_of}
@@ -13,8 +16,9 @@ use Rattle.slice_model.specs.Runs.{Event, Happens, Free, Malloc, Read, Step, Wri
 use Rattle.slice_model.specs.State.{Idle, left_of}
 use Rattle.slice_model.specs.declared.answers.SliceFault.{SliceFault}
 use Rattle.slice_model.specs.declared.answers.SliceRefusal.{SliceRefusal}
-use Rattle.sliced_heap.specs.Access.{access_fault, bytes_or_fault, length_in}
+use Rattle.sliced_heap.specs.Access.{access_fault, bytes_or_fault, length_in, place_in}
 use Rattle.sliced_heap.specs.Costs.{access_steps, free_cost, length_steps, malloc_cost, slice_cost}
+use Rattle.sliced_heap.specs.Figures.{figures_in, slot_words_in, slot_words_steps, totals_in}
 use Rattle.sliced_heap.specs.Room.{IsRoomAnswer, mover}
 use Rattle.sliced_heap.specs.Shown.{KeepsRules, SlicedState, StaysOpen, plan_in, working_in}
 use Rattle.sliced_heap.specs.Steps.{fault_in}
@@ -22,6 +26,8 @@ use Rattle.step_ledger.specs.Counting.{RoseAtMost, RoseBy}
 use Rattle.c_base.specs.Codes.{access_code}
 use Rattle.c_base.specs.HandleRules.{AreFirstHandles}
 use Rattle.c_base.specs.Handles.{handle_of, none, number_in, raised}
+use Rattle.c_base.specs.declared.answers.NphClass.{NphClass}
+use Rattle.c_base.specs.declared.answers.NphHeapTotals.{NphHeapTotals}
 use Rattle.held_sliced.specs.Codes.{free_code, malloc_code}
 use Rattle.held_sliced.specs.HeldState.{HeldState}
 use Rattle.held_sliced.specs.Most.{most_access, most_free, most_malloc, most_step}
@@ -127,12 +133,12 @@ pub record IsReadCall (old : HeldState) (handle from : ℕ) (before : List ℕ) 
   pub bound : RoseAtMost 0 new.steps (most_access from (length before))
   pub same : new.handles ≡ old.handles
 
--- the code of a call for a length: 0, or 4 (`UNKNOWN`) if the handle is not live and there is none
+-- the code of a call for a length, an address or a slot's words: 0, or 4 (`UNKNOWN`) if the handle is not live and there is none
 abbrev pub found_code : Option ℕ → ℤ
 found_code (Some n) = pos 0
 found_code None = pos 4
 
--- the caller's number after a call for a length: this, or the number before the call if there is none
+-- the caller's number after a call for a number: this, or the number before the call if there is none
 abbrev pub found_number : Option ℕ → ℕ → ℕ
 found_number (Some n) before = n
 found_number None before = before
@@ -154,7 +160,62 @@ pub record IsRoomCall (old : HeldState) (bytes : ℕ) (code : ℤ) (new : HeldSt
   pub same : new.handles ≡ old.handles
   pub exact : RoseBy 0 new.steps 1
 
--- a call of `last_steps`: it returns the steps of the last other call, but for `left` and `moving`, and changes nothing
+-- a call for the words of the slot of the object that `handle` names; the heap is unchanged
+pub record IsSlotWordsCall (old : HeldState) (handle before : ℕ) (code : ℤ) (after : ℕ) (new : HeldState) : Type 0 where
+  pub by_code : code ≡ found_code (slot_words_in (plan_in old.heap) old.heap.held (number_in old.handles handle))
+  pub by_words : after ≡ found_number (slot_words_in (plan_in old.heap) old.heap.held (number_in old.handles handle)) before
+  pub kept : new.heap ≡ old.heap
+  pub same : new.handles ≡ old.handles
+  pub exact : RoseBy 0 new.steps (slot_words_steps (slot_words_in (plan_in old.heap) old.heap.held (number_in old.handles handle)))
+
+-- a call for the address of the object that `handle` names, in words from the start of the region; the heap is unchanged
+pub record IsPlaceCall (old : HeldState) (handle before : ℕ) (code : ℤ) (after : ℕ) (new : HeldState) : Type 0 where
+  pub by_code : code ≡ found_code (place_in old.heap.held (number_in old.handles handle))
+  pub by_place : after ≡ found_number (place_in old.heap.held (number_in old.handles handle)) before
+  pub kept : new.heap ≡ old.heap
+  pub same : new.handles ≡ old.handles
+  pub exact : RoseBy 0 new.steps 1
+
+-- the code of a call for the class of a length: 0, or 1 (`SIZE`) if an object of that length needs more than a page
+abbrev pub class_code : Option ℕ → ℤ
+class_code (Some c) = pos 0
+class_code None = pos 1
+
+-- a call for the class of an object of `bytes` bytes; the heap is unchanged
+pub record IsClassCall (old : HeldState) (bytes before : ℕ) (code : ℤ) (after : ℕ) (new : HeldState) : Type 0 where
+  pub by_code : code ≡ class_code (class_of (plan_in old.heap).paging.sizes bytes)
+  pub by_class : after ≡ found_number (class_of (plan_in old.heap).paging.sizes bytes) before
+  pub kept : new.heap ≡ old.heap
+  pub same : new.handles ≡ old.handles
+  pub exact : RoseBy 0 new.steps 1
+
+-- the code of a call for the figures of a class: 4 (`UNKNOWN`) if there is no such class
+abbrev pub figures_code : Option Figures → ℤ
+figures_code (Some f) = pos 0
+figures_code None = pos 4
+
+-- the caller's structure after a call for the figures of a class; unchanged if there is no such class
+abbrev pub figures_shown : Option Figures → NphClass → NphClass
+figures_shown (Some f) before = record { slot_words = f.slot_words; slots = f.slots; live = f.live; pages = f.pages; not_full = f.not_full }
+figures_shown None before = before
+
+-- a call for the figures of a class; it changes nothing
+pub record IsFiguresCall (old : HeldState) (class : ℕ) (before : NphClass) (code : ℤ) (after : NphClass) (new : HeldState) : Type 0 where
+  pub by_code : code ≡ figures_code (figures_in (plan_in old.heap) (working_in old.heap).state class)
+  pub by_figures : after ≡ figures_shown (figures_in (plan_in old.heap) (working_in old.heap).state class) before
+  pub kept : new ≡ old
+
+-- the caller's structure after a call for the figures of the whole heap
+abbrev pub totals_shown : Totals → NphHeapTotals
+totals_shown t = record { asked = t.asked; taken = t.taken; held = t.held; live = t.live; used = t.used; free = t.free; largest = t.largest }
+
+-- a call for the figures of the whole heap; it changes nothing
+pub record IsTotalsCall (old : HeldState) (code : ℤ) (after : NphHeapTotals) (new : HeldState) : Type 0 where
+  pub by_code : code ≡ pos 0
+  pub by_totals : after ≡ totals_shown (totals_in (plan_in old.heap) (working_in old.heap).state)
+  pub kept : new ≡ old
+
+-- a call of `last_steps`: it returns the steps of the last call that counts them, and changes nothing
 pub record IsStepsCall (old : HeldState) (code : ℤ) (after : ℕ) (new : HeldState) : Type 0 where
   pub by_code : code ≡ pos 0
   pub by_steps : after ≡ old.steps

@@ -3,7 +3,7 @@ use Rattle.std.specs.Prelude.{ℕ, List, refl}
 use Rattle.std.specs.Coded.{Coded, code_by, coded×, coded_list, coded_ℕ}
 use Rattle.sliced_heap.specs.Shown.{SlicedState, sliced_code}
 
--- the state of the heap; the steps of the last call, but for `left`, `moving` and `last_steps`, which count none; and the handle of each number
+-- the state of the heap; the steps of the last call that counts them; and the handle of each number
 pub record HeldState : Type 0 where
   pub heap : SlicedState
   pub steps : ℕ

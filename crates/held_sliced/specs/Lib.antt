@@ -7,5 +7,9 @@ pub mod CallerHeap
 pub mod AtPlace
 pub mod Needed
 pub mod Sliced
+pub mod Loose
+pub mod LooseLoan
+pub mod SlicedBlock
+pub mod Written
 pub mod Loan
 pub mod Place

@@ -1,6 +1,6 @@
 -- For `HeapBlock::lend` of `sliced.rt`, which borrows the open heap that a `HeapBlock` owns: when the borrow ends, the `HeapBlock` has the same address, and
 -- the heap the state in which the borrow leaves it.
-use Rattle.std.specs.Prelude.{Some}
+use Rattle.std.specs.Prelude.{Some, None}
 use Rattle.std.specs.Borrow.{Fml, Lends, MutBor}
 use Rattle.held_sliced.specs.HeldState.{HeldState}
 use Rattle.held_sliced.specs.Sliced.{open_heap}
@@ -9,7 +9,7 @@ use Rattle.held_sliced.specs.contracts.sliced.HeapBlock.{the_row}
 
 -- the `HeapBlock` p, at the same address, after the heap there got the state h
 abbrev pub with_heap : HeapBlock → HeldState → HeapBlock
-with_heap p h = record { at = p.at; held = Some h }
+with_heap p h = record { at = p.at; held = Some h; words = None }
 
 -- s is the borrow of the `HeapBlock`, r that of the heap there: when r ends, the `HeapBlock` has the same address, and the heap has the state in which r leaves
 -- it. `Lends` of the standard library states this: its last argument computes the `HeapBlock` from the state in which r leaves the heap. `the_row` is its type.

@@ -12,7 +12,7 @@ use Rattle.c_base.specs.declared.answers.NphNeeded.{NphNeeded}
 
 -- the bytes of the block of an open heap (`Held`)
 abbrev pub held_size : ℕ
-held_size = 928
+held_size = 944
 
 -- the heap, the handles of `count` numbers, and the block of the open heap
 abbrev pub held_bytes : Profile → ℕ → BytesNeeded

@@ -1,10 +1,13 @@
 //! `Held`: an open sliced heap with the step count of its last call and the handles that C has, for a C library. Each
 //! call returns a code, and writes its other results through references.
-ghost use Rattle.std.specs.Prelude.{◌≡◌, ◌≤◌, IfSome};
+ghost use Rattle.std.specs.Prelude.{◌≡◌, ◌≤◌, IfSome, is_some};
 ghost use Rattle.cf_base.specs.Settings.{profile_of};
+ghost use Rattle.slice_model.specs.State.{job_slot};
 ghost use Rattle.held_sliced.specs.Codes.{fault_code, refusal_code};
 
-use c_base::{BUSY, DONE, Handles, PROXY, SIZE, SPACE, UNKNOWN, of_access};
+use c_base::{
+    BUSY, DONE, Handles, NphClass, NphHeapTotals, PROXY, SIZE, SPACE, UNKNOWN, of_access,
+};
 use cf_base::{Handle, Settings};
 use slice_model::{SliceFault, SliceRefusal};
 use sliced_heap::SlicedHeap;
@@ -14,8 +17,8 @@ use std::rt::Memory;
 use step_ledger::Meter;
 
 /// An open sliced heap, the steps of its last call, and the handle of each number: what C has for an object. A call on a
-/// handle that its number does not have now is a call on `NONE`, which is never live. Only `left`, `moving` and
-/// `last_steps` count no steps, and leave this number unchanged.
+/// handle that its number does not have now is a call on `NONE`, which is never live. Only `left`, `moving`, `figures`,
+/// `totals` and `last_steps` count no steps, and leave this number unchanged.
 #[derive(Drop)]
 pub struct Held {
     heap: SlicedHeap,
@@ -39,7 +42,7 @@ impl Model for Held {
 
 impl Held {
     ghost use Rattle.c_base.specs.Handles.{largest};
-    ghost use Rattle.held_sliced.specs.Calls.{IsFreeCall, IsFreshHeap, IsLeftCall, IsLengthCall, IsMallocCall, IsMovingCall, IsReadCall, IsRoomCall, IsStepCall, IsStepsCall, IsWriteCall};
+    ghost use Rattle.held_sliced.specs.Calls.{IsClassCall, IsFiguresCall, IsFreeCall, IsFreshHeap, IsLeftCall, IsLengthCall, IsMallocCall, IsMovingCall, IsPlaceCall, IsReadCall, IsRoomCall, IsSlotWordsCall, IsStepCall, IsStepsCall, IsTotalsCall, IsWriteCall};
 
     /// Opens a heap without objects, with slices of at most `quantum` words, in a block of its own. Its handles are larger
     /// than `last`. Returns `None` if out of memory.
@@ -172,6 +175,79 @@ impl Held {
         }
     }
 
+    /// Writes the words of an object's slot into `words`: those that a free of it clears. Returns `DONE`, or `UNKNOWN` if the
+    /// handle isn't live; then `words` is unchanged.
+    pub fn slot_words(&mut self, handle: u32, words: &mut u32) -> i32
+        ensures { IsSlotWordsCall self.old handle words.old result words.new self.new }
+    {
+        let number = self.handles.number_in(handle);
+        let mut meter = Meter::for_library(self.memory);
+        let answer = self.heap.slot_words(Handle(number), meter.steps());
+        self.steps = meter.lap();
+        match answer {
+            Some(n) => {
+                *words = n;
+                DONE
+            }
+            None => UNKNOWN,
+        }
+    }
+
+    /// Writes the class of an object of `bytes` bytes, numbered from 0, into `class`. Returns `DONE`, or `SIZE` if it needs
+    /// more than a page; then `class` is unchanged.
+    pub fn class_of(&mut self, bytes: u32, class: &mut u32) -> i32
+        ensures { IsClassCall self.old bytes class.old result class.new self.new }
+    {
+        let mut meter = Meter::for_library(self.memory);
+        let answer = self.heap.class_of(bytes, meter.steps());
+        self.steps = meter.lap();
+        match answer {
+            Some(c) => {
+                *class = c;
+                DONE
+            }
+            None => SIZE,
+        }
+    }
+
+    /// Writes the figures of a class, numbered from 0, into `figures`. A pending job's slot counts as used. Returns `DONE`,
+    /// or `UNKNOWN` if there is no such class; then `figures` is unchanged.
+    pub fn figures(&mut self, class: u32, figures: &mut NphClass) -> i32
+        ensures { IsFiguresCall self.old class figures.old result figures.new self.new }
+    {
+        match self.heap.figures(class) {
+            Some(f) => {
+                *figures = NphClass {
+                    slot_words: f.slot_words,
+                    slots: f.slots,
+                    live: f.live,
+                    pages: f.pages,
+                    not_full: f.not_full,
+                };
+                DONE
+            }
+            None => UNKNOWN,
+        }
+    }
+
+    /// Writes the figures of the whole heap into `totals`. A pending job's slot counts as used and as taken. Always returns
+    /// `DONE`.
+    pub fn totals(&mut self, totals: &mut NphHeapTotals) -> i32
+        ensures { IsTotalsCall self.old result totals.new self.new }
+    {
+        let all = self.heap.totals();
+        *totals = NphHeapTotals {
+            asked: all.asked,
+            taken: all.taken,
+            held: all.held,
+            live: all.live,
+            used: all.used,
+            free: all.free,
+            largest: all.largest,
+        };
+        DONE
+    }
+
     /// Returns the code that a malloc of `bytes` bytes would return now; makes no object.
     pub fn has_room(&mut self, bytes: u32) -> i32
         ensures { IsRoomCall self.old bytes result self.new }
@@ -191,6 +267,31 @@ impl Held {
     {
         *steps = self.steps;
         DONE
+    }
+
+    /// Writes the address of an object into `place`, in words from the start of the region. A job that moves the object moves
+    /// it there. Returns `DONE`, or `UNKNOWN` if the handle isn't live; then `place` is unchanged.
+    pub fn place(&mut self, handle: u32, place: &mut u32) -> i32
+        ensures { IsPlaceCall self.old handle place.old result place.new self.new }
+    {
+        let number = self.handles.number_in(handle);
+        let mut meter = Meter::for_library(self.memory);
+        let answer = self.heap.place(Handle(number), meter.steps());
+        self.steps = meter.lap();
+        match answer {
+            Some(at) => {
+                *place = at;
+                DONE
+            }
+            None => UNKNOWN,
+        }
+    }
+
+    /// Returns whether a job is pending.
+    pub(crate) fn has_job(&self) -> bool
+        ensures { result ≡ is_some (job_slot self.now.heap.job) }
+    {
+        self.heap.has_job()
     }
 
     /// The largest handle that a number has.

@@ -6,7 +6,7 @@ ghost use Rattle.cf_base.specs.Settings.{Profile};
 ghost use Rattle.page_model.specs.Held.{Placed};
 ghost use Rattle.sliced_heap.specs.Shown.{working_in};
 ghost use Rattle.c_base.specs.Handles.{none, number_in};
-ghost use Rattle.held_sliced.specs.Calls.{IsFreeCall, IsFreshHeap, IsLengthCall, IsMallocCall, IsReadCall, IsStepCall, IsWriteCall};
+ghost use Rattle.held_sliced.specs.Calls.{IsFreeCall, IsFreshHeap, IsLengthCall, IsMallocCall, IsPlaceCall, IsReadCall, IsSlotWordsCall, IsStepCall, IsWriteCall};
 ghost use Rattle.held_sliced.specs.HandleRules.{IsNewHandle, KeepsHandles};
 ghost use Rattle.held_sliced.specs.HeldState.{HeldState};
 
@@ -37,6 +37,10 @@ pub fn a_stale_handle_is_refused()
     ensures read { (old new : HeldState) (handle from : ℕ) (before after : List ℕ) (code : ℤ) → IsReadCall old handle from before code after new
         → KeepsHandles old → number_in old.handles handle ≡ none → (code ≡ pos 4) × (after ≡ before) }
     ensures length { (old new : HeldState) (handle before after : ℕ) (code : ℤ) → IsLengthCall old handle before code after new
+        → KeepsHandles old → number_in old.handles handle ≡ none → (code ≡ pos 4) × (after ≡ before) }
+    ensures place { (old new : HeldState) (handle before after : ℕ) (code : ℤ) → IsPlaceCall old handle before code after new
+        → KeepsHandles old → number_in old.handles handle ≡ none → (code ≡ pos 4) × (after ≡ before) }
+    ensures slot_words { (old new : HeldState) (handle before after : ℕ) (code : ℤ) → IsSlotWordsCall old handle before code after new
         → KeepsHandles old → number_in old.handles handle ≡ none → (code ≡ pos 4) × (after ≡ before) }
 {}
 

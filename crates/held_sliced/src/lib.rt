@@ -4,7 +4,8 @@
 
 mod held;
 pub mod laws;
+mod loose;
 pub mod most;
 pub mod sliced;
 
-pub use c_base::{CLOSED, NphNeeded, VERSION};
+pub use c_base::{NphClass, NphHeapTotals, NphNeeded, VERSION};

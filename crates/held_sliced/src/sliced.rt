@@ -1,14 +1,20 @@
-//! `NphHeap` for the sliced heap: what a caller in C has for its heap, open or closed; and in it `HeapBlock`, which owns
-//! the open heap.
+//! `NphHeap` for the sliced heap: what a caller in C has for its heap, open, lent or closed; and in it `HeapBlock`, which
+//! owns the open heap.
 ghost use Rattle.std.specs.Prelude.{◌≡◌, Option, Some, None, IsSome, is_some};
 ghost use Rattle.std.specs.Borrow.{sem};
 ghost use Rattle.std.specs.Coded.{coded_option};
-ghost use Rattle.c_base.specs.HeapBlock.{place_owns};
+ghost use Rattle.held_sliced.specs.CallerHeap.{heap_of, lent_now, opened_now};
 ghost use Rattle.held_sliced.specs.HeldState.{HeldState, held_code};
 ghost use Rattle.held_sliced.specs.Sliced.{open_heap};
+ghost use Rattle.held_sliced.specs.SlicedBlock.{sliced_owns, maybe_ptr_code};
+ghost use denote.RawPtr.{Ptr};
 
 use crate::held::Held;
-use c_base::{DONE, MEMORY, NphNeeded, OPEN, QUANTUM, Sealed, Unboxed, needed_with, of_setting};
+use crate::loose::{LooseHeld, all_words};
+use c_base::{
+    BUSY, CLOSED, DONE, LENT, MEMORY, NOT_LENT, NphNeeded, OPEN, QUANTUM, Sealed, Unboxed,
+    needed_with, of_setting,
+};
 use cf_base::Settings;
 use sliced_heap::SlicedHeap;
 use std::alloc::Global;
@@ -20,21 +26,23 @@ use std::rt::Memory;
 type Open = Held;
 
 /// The bytes of that block.
-const HELD_BYTES: u64 = 928;
+const HELD_BYTES: u64 = 944;
 
-const _: () = prove!(size_of::<Open>() == 928);
+const _: () = prove!(size_of::<Open>() == 944);
 
 /// The address of the block of an open heap, which the `HeapBlock` owns; or null, and then it owns nothing.
-/// `held` is the state of the heap, `None` if the address is null.
+/// `held` is the state of the heap, `None` if the address is null. `words` is the address of the region's words
+/// if the `HeapBlock` owns them apart (`sliced_owns`).
 #[repr(C)]
 #[derive(Drop)]
 pub struct HeapBlock {
     at: *mut Sealed,
     pub(crate) ghost held: { Option HeldState } by { coded_option held_code },
+    pub(crate) ghost words: { Option Ptr } by { maybe_ptr_code },
 }
 
 impl Model for HeapBlock {
-    ghost also_owns = { λ p. place_owns open_heap p.at p.held };
+    ghost also_owns = { λ p. sliced_owns p.at p.held p.words };
 }
 
 unsafe impl Send for HeapBlock {}
@@ -53,7 +61,8 @@ impl HeapBlock {
 
     /// Returns a `HeapBlock` that owns the block of this box.
     fn of(b: Box<Open>) -> HeapBlock
-        ensures { result.held ≡ Some b.value }
+        ensures held { result.held ≡ Some b.value }
+        ensures words { result.words ≡ None }
     {
         place_of(Unboxed::new(b))
     }
@@ -77,9 +86,21 @@ impl HeapBlock {
     }
 }
 
+/// Returns the `HeapBlock` with the words of the region apart, and their address.
+fn opened_of(p: HeapBlock) -> (HeapBlock, *mut u64)
+    requires { IsSome p.held }
+    ensures held { result.0.held ≡ p.held }
+    ensures words { result.0.words ≡ Some result.1 }
+{
+    let HeapBlock { at } = p;
+    let words = all_words(unsafe { &mut *(at as *mut LooseHeld) }).as_mut_ptr();
+    (HeapBlock { at }, words)
+}
+
 /// Returns a `HeapBlock` that owns the block of a heap whose box was taken apart (`Unboxed`).
 fn place_of(u: Unboxed<Open, Global>) -> HeapBlock
-    ensures { result.held ≡ Some u.value }
+    ensures held { result.held ≡ Some u.value }
+    ensures words { result.words ≡ None }
 {
     let Unboxed { alloc: _, at } = u;
     HeapBlock {
@@ -100,30 +121,39 @@ fn unboxed_of(p: HeapBlock, alloc: Global) -> Unboxed<Open, Global>
     }
 }
 
-/// A heap, open or closed, in memory of a caller in C. `shown` says that the flag is true if and only if the
-/// `HeapBlock` has a heap. `last` is the largest handle
-/// of the heaps that it had. Call `close` before it is dropped: a drop does not free the memory of an open heap.
+/// A heap in memory of a caller in C: closed, open, or lent, and then the words of its region are the caller's. `shown`
+/// and `lent_shown` say which of these the flags mean. `last` is the largest handle of the heaps that it had. Call
+/// `close` before it is dropped: a drop does not free the memory of a heap.
 #[repr(C)]
 #[derive(Drop)]
 pub struct NphHeap {
     place: HeapBlock,
     last: u32,
     is_open: bool,
-    ghost shown: { is_open ≡ is_some place.held },
+    is_lent: bool,
+    ghost shown: { is_open ≡ opened_now (heap_of place.held place.words last) },
+    ghost lent_shown: { is_lent ≡ lent_now (heap_of place.held place.words last) },
 }
 
 impl NphHeap {
     ghost use Rattle.std.specs.Prelude.{IsTrue};
     ghost use Rattle.held_sliced.specs.Needed.{IsNeededCall};
-    ghost use Rattle.held_sliced.specs.AtPlace.{IsOpenCall};
-    ghost use Rattle.held_sliced.specs.CallerHeap.{Opened, closed_by, opened_now};
+    ghost use Rattle.held_sliced.specs.AtPlace.{IsLendCall, IsOpenCall, IsReturnCall};
+    ghost use Rattle.held_sliced.specs.CallerHeap.{Opened, closed_by, refusal_code};
     ghost use Rattle.held_sliced.specs.Place.{LendsHeap, held_in};
 
-    /// Returns whether the heap is open.
+    /// Returns whether the heap is open, and not lent.
     pub fn is_open(&self) -> bool
         ensures { result ≡ opened_now (held_in self.now) }
     {
         self.is_open
+    }
+
+    /// Returns the code of a call on a heap that is not open: `LENT` or `CLOSED`.
+    pub fn refusal(&self) -> i32
+        ensures { result ≡ refusal_code (held_in self.now) }
+    {
+        if self.is_lent { LENT } else { CLOSED }
     }
 
     /// Borrows the open heap. When the borrow ends, the heap as it then is belongs to this struct again.
@@ -133,6 +163,43 @@ impl NphHeap {
         ensures value { held_in self.old ≡ Opened result.now }
     {
         self.place.lend()
+    }
+
+    /// Lends the words of the region, and writes their address into `words`: until `end_loan` they are the caller's.
+    /// The caller may read them, and write the bytes of objects (`proofs/Rights`). Returns `DONE`; else, with `words`
+    /// unchanged, `BUSY` if a job is pending, or the code of the refusal.
+    pub fn lend(&mut self, words: &mut *mut u64) -> i32
+        ensures { IsLendCall (held_in self.old) result (held_in self.new) words.old words.new }
+    {
+        if !self.is_open {
+            return self.refusal();
+        }
+        if self.place.lend().has_job() {
+            return BUSY;
+        }
+        self.is_open = false;
+        let (place, at) = opened_of(std::mem::replace(&mut self.place, HeapBlock::nowhere()));
+        self.place = place;
+        self.is_lent = true;
+        *words = at;
+        DONE
+    }
+
+    /// Ends the loan: the heap is open, with the words as the caller left them. Returns `DONE`, or `NOT_LENT` or
+    /// `CLOSED` if the heap isn't lent.
+    pub fn end_loan(&mut self) -> i32
+        ensures { IsReturnCall (held_in self.old) result (held_in self.new) }
+    {
+        if self.is_lent {
+            let _whole = self.place.lend();
+            self.is_lent = false;
+            self.is_open = true;
+            DONE
+        } else if self.is_open {
+            NOT_LENT
+        } else {
+            CLOSED
+        }
     }
 
     /// Writes into `needed` what `open` with these settings, and any quantum, asks for. Returns `DONE`, or the code of the
@@ -150,8 +217,8 @@ impl NphHeap {
     }
 
     /// Opens a heap without objects, with these settings and slices of at most `quantum` words. Returns `DONE`; else, with
-    /// nothing changed, `OPEN` if the heap is open already, the code of the first setting out of range, `QUANTUM` if the
-    /// quantum is not 1 to 16,384, or `MEMORY`. No other call of the heap allocates.
+    /// nothing changed, `LENT` or `OPEN` if the heap is lent or open already, the code of the first setting out of range,
+    /// `QUANTUM` if the quantum is not 1 to 16,384, or `MEMORY`. No other call of the heap allocates.
     pub fn open(
         &mut self,
         memory: Memory,
@@ -162,6 +229,9 @@ impl NphHeap {
     ) -> i32
         ensures { IsOpenCall (held_in self.old) pages page_bytes proxies quantum result (held_in self.new) }
     {
+        if self.is_lent {
+            return LENT;
+        }
         if self.is_open {
             return OPEN;
         }
@@ -184,15 +254,23 @@ impl NphHeap {
         }
     }
 
-    /// Closes the heap and frees its memory; does nothing if the heap isn't open.
+    /// Returns whether there is a heap, open or lent.
+    fn has_heap(&self) -> bool
+        ensures { result ≡ is_some self.now.place.held }
+    {
+        self.is_open || self.is_lent
+    }
+
+    /// Closes the heap and frees its memory, also if it is lent; does nothing if it is closed.
     pub fn close(&mut self, memory: Memory)
         ensures { held_in self.new ≡ closed_by (held_in self.old) }
     {
-        if !self.is_open {
+        if !self.has_heap() {
             return;
         }
         self.last = self.place.lend().last();
         self.is_open = false;
+        self.is_lent = false;
         let place = std::mem::replace(&mut self.place, HeapBlock::nowhere());
         drop(place.into_box(Global::new(memory)));
     }

@@ -1,21 +1,21 @@
 //! The sliced heap as a library for C. `include/norphuen.h` describes each export for C. An export calls the function of
 //! `held_sliced` that its comment names, and its contract is that function's. Each export but `nph_sliced_close` and those
 //! that take no heap returns a code: 0 (`DONE`) if the call is done, else the cause (`c_base`, file `codes`). While the
-//! heap is closed, each export but `nph_sliced_open` and `nph_sliced_close` returns `CLOSED` and changes nothing
-//! (`IsCallOnOpen`).
+//! heap is closed, each export but `nph_sliced_open` and `nph_sliced_close` returns `CLOSED` and changes nothing; while it
+//! is lent, each but `nph_sliced_return` and `nph_sliced_close` returns `LENT` and changes nothing (`IsCallOnOpen`).
 #![tactic(auto)]
 
 ghost use Rattle.std.specs.Prelude.{◌≡◌};
 ghost use Rattle.c_base.specs.Version.{version};
-ghost use Rattle.held_sliced.specs.AtPlace.{IsCallOnOpen, IsOpenCall};
+ghost use Rattle.held_sliced.specs.AtPlace.{IsCallOnOpen, IsLendCall, IsOpenCall, IsReturnCall};
 ghost use Rattle.held_sliced.specs.CallerHeap.{closed_by};
-ghost use Rattle.held_sliced.specs.Calls.{IsFreeCall, IsLeftCall, IsLengthCall, IsMallocCall, IsMovingCall, IsReadCall, IsRoomCall, IsStepCall, IsStepsCall, IsWriteCall};
+ghost use Rattle.held_sliced.specs.Calls.{IsClassCall, IsFiguresCall, IsFreeCall, IsLeftCall, IsLengthCall, IsMallocCall, IsMovingCall, IsPlaceCall, IsReadCall, IsRoomCall, IsSlotWordsCall, IsStepCall, IsStepsCall, IsTotalsCall, IsWriteCall};
 ghost use Rattle.held_sliced.specs.Most.{most_access, most_free, most_has_room, most_length, most_malloc, most_step};
 ghost use Rattle.held_sliced.specs.Needed.{IsNeededCall};
 ghost use Rattle.held_sliced.specs.Place.{held_in};
 
 use held_sliced::sliced::NphHeap;
-use held_sliced::{CLOSED, NphNeeded, VERSION, most};
+use held_sliced::{NphClass, NphHeapTotals, NphNeeded, VERSION, most};
 use std::rt::Memory;
 
 /// Opens the heap with these settings: `pages` pages of `page_bytes` bytes, at most `proxies` live objects, and slices of at
@@ -66,7 +66,7 @@ pub extern "C" fn nph_sliced_malloc(heap: &mut NphHeap, bytes: u32, handle: &mut
     if heap.is_open() {
         heap.held().malloc(bytes, handle)
     } else {
-        CLOSED
+        heap.refusal()
     }
 }
 
@@ -79,7 +79,7 @@ pub extern "C" fn nph_sliced_free(heap: &mut NphHeap, handle: u32) -> i32
     if heap.is_open() {
         heap.held().free(handle)
     } else {
-        CLOSED
+        heap.refusal()
     }
 }
 
@@ -92,7 +92,7 @@ pub extern "C" fn nph_sliced_step(heap: &mut NphHeap) -> i32
     if heap.is_open() {
         heap.held().step()
     } else {
-        CLOSED
+        heap.refusal()
     }
 }
 
@@ -105,7 +105,7 @@ pub extern "C" fn nph_sliced_left(heap: &mut NphHeap, words: &mut u32) -> i32
     if heap.is_open() {
         heap.held().left(words)
     } else {
-        CLOSED
+        heap.refusal()
     }
 }
 
@@ -118,7 +118,7 @@ pub extern "C" fn nph_sliced_moving(heap: &mut NphHeap, handle: &mut u32) -> i32
     if heap.is_open() {
         heap.held().moving(handle)
     } else {
-        CLOSED
+        heap.refusal()
     }
 }
 
@@ -131,7 +131,7 @@ pub extern "C" fn nph_sliced_write(heap: &mut NphHeap, handle: u32, at: u32, byt
     if heap.is_open() {
         heap.held().write(handle, at, bytes)
     } else {
-        CLOSED
+        heap.refusal()
     }
 }
 
@@ -144,7 +144,7 @@ pub extern "C" fn nph_sliced_read(heap: &mut NphHeap, handle: u32, at: u32, out:
     if heap.is_open() {
         heap.held().read(handle, at, out)
     } else {
-        CLOSED
+        heap.refusal()
     }
 }
 
@@ -157,7 +157,7 @@ pub extern "C" fn nph_sliced_length(heap: &mut NphHeap, handle: u32, bytes: &mut
     if heap.is_open() {
         heap.held().length(handle, bytes)
     } else {
-        CLOSED
+        heap.refusal()
     }
 }
 
@@ -170,7 +170,59 @@ pub extern "C" fn nph_sliced_has_room(heap: &mut NphHeap, bytes: u32) -> i32
     if heap.is_open() {
         heap.held().has_room(bytes)
     } else {
-        CLOSED
+        heap.refusal()
+    }
+}
+
+/// Writes the words of an object's slot into `words`, those that a free of it clears (`Held::slot_words`).
+#[unsafe(no_mangle)]
+pub extern "C" fn nph_sliced_slot_words(heap: &mut NphHeap, handle: u32, words: &mut u32) -> i32
+    ensures { IsCallOnOpen (held_in heap.old) result (held_in heap.new) (words.new ≡ words.old)
+        (λ h h2. IsSlotWordsCall h handle words.old result words.new h2) }
+{
+    if heap.is_open() {
+        heap.held().slot_words(handle, words)
+    } else {
+        heap.refusal()
+    }
+}
+
+/// Writes the size class of an object of `bytes` bytes, numbered from 0, into `class` (`Held::class_of`).
+#[unsafe(no_mangle)]
+pub extern "C" fn nph_sliced_class_of(heap: &mut NphHeap, bytes: u32, class: &mut u32) -> i32
+    ensures { IsCallOnOpen (held_in heap.old) result (held_in heap.new) (class.new ≡ class.old)
+        (λ h h2. IsClassCall h bytes class.old result class.new h2) }
+{
+    if heap.is_open() {
+        heap.held().class_of(bytes, class)
+    } else {
+        heap.refusal()
+    }
+}
+
+/// Writes the figures of a size class, numbered from 0, into `figures` (`Held::figures`).
+#[unsafe(no_mangle)]
+pub extern "C" fn nph_sliced_figures(heap: &mut NphHeap, class: u32, figures: &mut NphClass) -> i32
+    ensures { IsCallOnOpen (held_in heap.old) result (held_in heap.new) (figures.new ≡ figures.old)
+        (λ h h2. IsFiguresCall h class figures.old result figures.new h2) }
+{
+    if heap.is_open() {
+        heap.held().figures(class, figures)
+    } else {
+        heap.refusal()
+    }
+}
+
+/// Writes the figures of the whole heap into `totals` (`Held::totals`).
+#[unsafe(no_mangle)]
+pub extern "C" fn nph_sliced_totals(heap: &mut NphHeap, totals: &mut NphHeapTotals) -> i32
+    ensures { IsCallOnOpen (held_in heap.old) result (held_in heap.new) (totals.new ≡ totals.old)
+        (λ h h2. IsTotalsCall h result totals.new h2) }
+{
+    if heap.is_open() {
+        heap.held().totals(totals)
+    } else {
+        heap.refusal()
     }
 }
 
@@ -183,8 +235,39 @@ pub extern "C" fn nph_sliced_last_steps(heap: &mut NphHeap, steps: &mut u64) -> 
     if heap.is_open() {
         heap.held().last_steps(steps)
     } else {
-        CLOSED
+        heap.refusal()
     }
+}
+
+/// Writes the address of an object into `place`, in words from the start of the region (`Held::place`). The word there
+/// is the object's header, and its bytes begin at the next word.
+#[unsafe(no_mangle)]
+pub extern "C" fn nph_sliced_place(heap: &mut NphHeap, handle: u32, place: &mut u32) -> i32
+    ensures { IsCallOnOpen (held_in heap.old) result (held_in heap.new) (place.new ≡ place.old)
+        (λ h h2. IsPlaceCall h handle place.old result place.new h2) }
+{
+    if heap.is_open() {
+        heap.held().place(handle, place)
+    } else {
+        heap.refusal()
+    }
+}
+
+/// Lends the words of the region to the caller if no job is pending, and writes their address into `words`
+/// (`NphHeap::lend`). Until `nph_sliced_return` the caller may read them, and write the bytes of live objects.
+#[unsafe(no_mangle)]
+pub extern "C" fn nph_sliced_lend(heap: &mut NphHeap, words: &mut *mut u64) -> i32
+    ensures { IsLendCall (held_in heap.old) result (held_in heap.new) words.old words.new }
+{
+    heap.lend(words)
+}
+
+/// Ends the loan (`NphHeap::end_loan`).
+#[unsafe(no_mangle)]
+pub extern "C" fn nph_sliced_return(heap: &mut NphHeap) -> i32
+    ensures { IsReturnCall (held_in heap.old) result (held_in heap.new) }
+{
+    heap.end_loan()
 }
 
 /// Returns the version of this library (`VERSION`).

@@ -32,6 +32,8 @@ use Rattle.sliced_heap.specs.Layout.{IsValid, paging_at, plan_of, state_of, tabl
 use Rattle.sliced_heap.specs.Access.{HoldsBytesAt, length_in}
 use Rattle.sliced_heap.proofs.Facts.{has_place, held_bytes, no_place, plan_ok, places_are}
 use Rattle.sliced_heap.proofs.Headers.{bytes_few, head_length, holds, inside, number_low}
+use Rattle.page_model.specs.Figures.{asked_bytes, taken_bytes}
+use Rattle.sliced_heap.proofs.ByteCounts.{asked_rewritten, taken_rewritten}
 use Rattle.sliced_heap.proofs.Counts.{needed_same}
 use Rattle.sliced_heap.proofs.HeldFromWords.{place_there}
 use Rattle.sliced_heap.proofs.Preserved.{Becomes, becomes_state, becomes_valid}
@@ -153,10 +155,18 @@ module _ (h : Heap) (k : IsValid h) (q : ℕ) (x : Placed) (there : get (state_o
       counted = λ c lt. ap (λ (y : Heap). get_or y.live c 0) rest ∙ k.counted c lt ∙ sym (live_same c);
       needed = ap (λ (y : Heap). y.needed) rest ∙ k.needed ∙ sym (needed_same (paging_at h) (objects (insert m q z)) (objects m) live_same);
       within = (let now = ap (λ (y : Heap). y.needed) rest in let w = k.within in omega arith);
+      asked = ap (λ (y : Heap). y.asked) rest ∙ k.asked_all
+          ∙ sym (ap asked_bytes objects_are ∙ asked_rewritten (paging_at h) (objects m) q x.bytes (written x.bytes at bytes) some (length-written x.bytes at bytes fits));
+      taken = ap (λ (y : Heap). y.taken) rest ∙ k.taken_all
+          ∙ sym (ap (taken_bytes (paging_at h)) objects_are
+          ∙ taken_rewritten (paging_at h) (objects m) q x.bytes (written x.bytes at bytes) some (length-written x.bytes at bytes fits));
     }
 
     pub written_valid : IsValid n
     written_valid = becomes_valid h n k t becomes
+
+    pub written_held : (state_of n).held ≡ insert (state_of h).held q (record { place = x.place; bytes = written x.bytes at bytes })
+    written_held = ap (λ (s : Sliced). s.held) (becomes_state h n k t becomes)
 
     pub writes : Writes (working_of h) (record { number = q; from = at }) bytes (working_of n)
     writes = record {

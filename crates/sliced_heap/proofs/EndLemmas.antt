@@ -152,6 +152,8 @@ module _ (h : Heap) (k : IsValid h) (g : JobSlot) (at : h.job ≡ Clear g) where
       counted = λ c lt. ap (λ (z : Heap). get_or z.live c 0) rest ∙ k.counted c lt;
       needed = ap (λ (z : Heap). z.needed) rest ∙ k.needed;
       within = (let now = ap (λ (z : Heap). z.needed) rest in let w = k.within in omega arith);
+      asked = ap (λ (z : Heap). z.asked) rest ∙ k.asked_all;
+      taken = ap (λ (z : Heap). z.taken) rest ∙ k.taken_all;
     }
 
     pub idle_valid : IsValid n

@@ -8,6 +8,7 @@ use Rattle.cf_lemmas.proofs.Maps.{get_inserted, some_inserted}
 use Rattle.cf_lemmas.proofs.MapValues.{map_values-insert}
 use Rattle.class_lists.specs.PageLists.{pages_in}
 use Rattle.class_lists.specs.declared.Which.TheVariants.{NotFull}
+use Rattle.page_model.specs.Figures.{asked_bytes, taken_bytes}
 use Rattle.page_model.specs.Arrangement.{IsSound, class_at, live, not_full_pages, objects_on, pages_needed}
 use Rattle.page_model.specs.Bytes.{AreBytes}
 use Rattle.page_model.specs.Held.{Held, Placed, objects}
@@ -273,6 +274,8 @@ module _ (h : Heap) (k : IsValid h) (g : JobSlot) (at : h.job ≡ Clear g) where
           counted = λ c lt. ap (λ (z : Heap). get_or z.live c 0) rest ∙ k.counted c lt ∙ ap (λ o. live (paging_at h) o c) (sym objects_same);
           needed = ap (λ (z : Heap). z.needed) rest ∙ k.needed ∙ ap (pages_needed (paging_at h)) (sym objects_same);
           within = (let now = ap (λ (z : Heap). z.needed) rest in let w = k.within in omega arith);
+          asked = ap (λ (z : Heap). z.asked) rest ∙ k.asked_all ∙ ap asked_bytes (sym objects_same);
+          taken = ap (λ (z : Heap). z.taken) rest ∙ k.taken_all ∙ ap (taken_bytes (paging_at h)) (sym objects_same);
         }
 
         pub filled_valid : IsValid n

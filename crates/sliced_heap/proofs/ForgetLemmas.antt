@@ -10,6 +10,7 @@ use Rattle.cf_lemmas.proofs.Ranges.{one}
 use Rattle.cf_lemmas.proofs.Tests.{eq_yes}
 use Rattle.cf_lemmas.proofs.Tallies.{counted_out}
 use Rattle.page_model.specs.Arrangement.{class_at, live, pages_needed}
+use Rattle.page_model.specs.Figures.{asked_bytes, taken_bytes}
 use Rattle.page_model.specs.Held.{Held, Placed, objects}
 use Rattle.page_model.specs.Paging.{slot_words, slots_of}
 use Rattle.page_model.proofs.CallerLemmas.{bytes_held, live_taken, sound_exchanged}
@@ -23,6 +24,7 @@ use Rattle.slice_model.proofs.CallerLemmas.{no_placeholder, other_than, placehol
 use Rattle.sliced_heap.specs.Heap.{Heap}
 use Rattle.sliced_heap.specs.Layout.{IsValid, opens, order_in, paging_at, plan_of, state_of, tables_in}
 use Rattle.sliced_heap.specs.Steps.{StartsClearing}
+use Rattle.sliced_heap.proofs.ByteCounts.{asked_less, taken_less}
 use Rattle.sliced_heap.proofs.Counts.{needed_more, needed_taken}
 use Rattle.sliced_heap.proofs.Facts.{few_classes, held_bytes, paging_ok, places_are, plan_ok}
 use Rattle.sliced_heap.proofs.Headers.{in_class}
@@ -45,12 +47,14 @@ kept_vacant plan ok m kept q x there =
           (get_remove_other m q plan.proxies (λ e. ne (sym e)) ∙ none) class kept.sound;
     }
 
--- from heap h to heap n: the proxy q is released, one object of class c fewer is counted, and the job is to clear the slot at a
-pub record IsFreed (h n : Heap) (q a c : ℕ) : Type 0 where
+-- from heap h to heap n: the proxy q is released, one object of class c and of `size` bytes fewer is counted, and the job is to clear the slot at a
+pub record IsFreed (h n : Heap) (q size a c : ℕ) : Type 0 where
   pub rest : n ≡ record h {
     proxies = without_place h.proxies q;
     live = set h.live c (get_or h.live c 0 - 1);
     needed = h.needed - opens (slots h.classes.page_words h.classes.sizes c) (get_or h.live c 0 - 1);
+    asked = h.asked - size;
+    taken = h.taken - 8 * get_or h.classes.sizes c 0;
     job = Clear (fresh_slot a c);
   }
   pub handles : AreBelowLimit n.proxies
@@ -101,7 +105,16 @@ module _ (h : Heap) (k : IsValid h) (idle : h.job ≡ Idle) (q : ℕ) (x : Place
   pub needed_some : opens (slots h.classes.page_words h.classes.sizes (class_at (paging_at h) x)) (get_or h.live (class_at (paging_at h) x) 0 - 1) ≤ h.needed
   needed_some = (let e = needed_less in omega arith)
 
-  module _ (n : Heap) (g : IsFreed h n q x.place (class_at (paging_at h) x)) where
+  pub asked_some : length x.bytes ≤ h.asked
+  asked_some = (let e = asked_less h k q x there in omega arith)
+
+  words_are : get_or h.classes.sizes c 0 ≡ slot_words (paging_at h) c
+  words_are = ap (λ (t : ClassTable). get_or t.sizes c 0) k.table
+
+  pub taken_some : 8 * get_or h.classes.sizes (class_at (paging_at h) x) 0 ≤ h.taken
+  taken_some = (let e = taken_less h k q x there in let w = words_are in omega arith)
+
+  module _ (n : Heap) (g : IsFreed h n q (length x.bytes) x.place (class_at (paging_at h) x)) where
     abbrev s : Sliced
     s = record { held = remove m q; job = Clear (fresh_slot x.place c) }
 
@@ -147,6 +160,17 @@ module _ (h : Heap) (k : IsValid h) (idle : h.job ≡ Idle) (q : ℕ) (x : Place
           ap (pages_needed (paging_at h)) objects_are in
           omega arith);
       within = (let now = ap (λ (z : Heap). z.needed) g.rest in let w = k.within in omega arith);
+      asked = (
+          let e = asked_less h k q x there in
+          let now = ap (λ (z : Heap). z.asked) g.rest in
+          let all = ap asked_bytes objects_are in
+          omega arith);
+      taken = (
+          let e = taken_less h k q x there in
+          let w = words_are in
+          let now = ap (λ (z : Heap). z.taken) g.rest in
+          let all = ap (taken_bytes (paging_at h)) objects_are in
+          omega arith);
     }
 
     pub forgotten_valid : IsValid n
@@ -165,10 +189,11 @@ module _ (h : Heap) (k : IsValid h) (idle : h.job ≡ Idle) (q : ℕ) (x : Place
       order = ap order_in g.rest;
     }
 
--- the lemmas above together, for the address a and the class c as the code computes them
-pub forgets_at : (h : Heap) (k : IsValid h) → h.job ≡ Idle → (q : ℕ) (x : Placed) → get (state_of h).held q ≡ Some x → (a c : ℕ) → x.place ≡ a
-    → class_at (paging_at h) x ≡ c → (n : Heap) → IsFreed h n q a c → StartsClearing h q (fresh_slot a c) n × IsValid n
-forgets_at h k idle q x there a c at is n =
-    subst (λ a. IsFreed h n q a c → StartsClearing h q (fresh_slot a c) n × IsValid n) at
-    (subst (λ c. IsFreed h n q x.place c → StartsClearing h q (fresh_slot x.place c) n × IsValid n) is
-    (λ g. (forgets h k idle q x there n g, forgotten_valid h k idle q x there n g)))
+-- the lemmas above together, for the length, the address a and the class c as the code computes them
+pub forgets_at : (h : Heap) (k : IsValid h) → h.job ≡ Idle → (q : ℕ) (x : Placed) → get (state_of h).held q ≡ Some x → (size a c : ℕ) → length x.bytes ≡ size
+    → x.place ≡ a → class_at (paging_at h) x ≡ c → (n : Heap) → IsFreed h n q size a c → StartsClearing h q (fresh_slot a c) n × IsValid n
+forgets_at h k idle q x there size a c long at is n =
+    subst (λ size. IsFreed h n q size a c → StartsClearing h q (fresh_slot a c) n × IsValid n) long
+    (subst (λ a. IsFreed h n q (length x.bytes) a c → StartsClearing h q (fresh_slot a c) n × IsValid n) at
+    (subst (λ c. IsFreed h n q (length x.bytes) x.place c → StartsClearing h q (fresh_slot x.place c) n × IsValid n) is
+    (λ g. (forgets h k idle q x there n g, forgotten_valid h k idle q x there n g))))

@@ -4,6 +4,7 @@ pub mod HeldFromWords
 pub mod StepCounts
 pub mod Preserved
 pub mod Headers
+pub mod ByteCounts
 pub mod Places
 pub mod FindLemmas
 pub mod ForgetLemmas
@@ -14,8 +15,10 @@ pub mod SliceLemmas
 pub mod FreeLemmas
 pub mod MallocLemmas
 pub mod AccessLemmas
+pub mod LentWrite
 pub mod OpenLemmas
 pub mod OrderFacts
+pub mod FigureLemmas
 pub mod Rules
 pub mod CallerLemmas
 pub mod Moves

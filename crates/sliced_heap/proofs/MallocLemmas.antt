@@ -1,6 +1,6 @@
 -- For `malloc`: after a slot is taken and an object is bound to it and counted, the heap is valid and has the new object, as its order determines; each test
 -- for a refusal means its cause in the model.
-use Rattle.std.proofs.Common.{◌≡◌, ◌≢◌, ℕ, ◌+◌, ◌<◌, ◌≤◌, List, length, get_or, set, replicate, [], ◌∷◌, true, Some, None, Ok, arith, refl, sym, ◌∙◌, ap}
+use Rattle.std.proofs.Common.{◌≡◌, ◌≢◌, ℕ, ◌+◌, ◌*◌, ◌<◌, ◌≤◌, List, length, get_or, set, replicate, [], ◌∷◌, true, Some, None, Ok, arith, refl, sym, ◌∙◌, ap}
 use Rattle.std.proofs.Common.{subst, inl, inr}
 use Rattle.std.specs.Prelude.{◌↔◌, Bool, IsTrue, false, nat_eq, option_map}
 use Rattle.std.proofs.lemmas.Bool.{cases_lt, false≢true}
@@ -17,12 +17,13 @@ use Rattle.class_lists.specs.PageLists.{pages_in}
 use Rattle.class_lists.specs.declared.Which.TheVariants.{NotFull}
 use Rattle.page_model.specs.Arrangement.{LacksRoom, live, pages_needed, pages_needed_with}
 use Rattle.page_model.specs.Bytes.{AreBytes}
+use Rattle.page_model.specs.Figures.{asked_bytes, taken_bytes}
 use Rattle.page_model.specs.Held.{Held, Placed, objects}
 use Rattle.page_model.specs.Image.{IsOutside, Rewrites, header_word}
 use Rattle.page_model.specs.Order.{MallocFollows, TakesNext, steps_to_take}
-use Rattle.page_model.specs.Paging.{class_for, classes, slots_of}
+use Rattle.page_model.specs.Paging.{class_for, classes, slot_words, slots_of}
 use Rattle.page_model.specs.Steps.{IsFreePlace, zeros_at}
-use Rattle.page_model.proofs.CallerLemmas.{live_added, malloc_objects, malloc_places, slot_inside, zeros_are_bytes, live_few}
+use Rattle.page_model.proofs.CallerLemmas.{asked_added, live_added, malloc_objects, malloc_places, slot_inside, taken_added, zeros_are_bytes, live_few}
 use Rattle.page_model.proofs.CallerLemmas.{class_of_zeros}
 use Rattle.page_slots.specs.Tables.{AreTables, Tables}
 use Rattle.page_slots.specs.Take.{TakesAt, TakesSlot, steps_to_take as table_take}
@@ -206,6 +207,8 @@ module _ (h : Heap) (k : IsValid h) (bytes c : ℕ) (found : Some c ≡ class_of
               words = set h.words a (header_word q bytes);
               live = set h.live c (get_or h.live c 0 + 1);
               needed = h.needed + opens (slots h.classes.page_words h.classes.sizes c) (get_or h.live c 0);
+              asked = h.asked + bytes;
+              taken = h.taken + 8 * get_or h.classes.sizes c 0;
             }) where
           abbrev m : Held
           m = (state_of h).held
@@ -281,6 +284,21 @@ module _ (h : Heap) (k : IsValid h) (bytes c : ℕ) (found : Some c ≡ class_of
             needed = ap (λ (z : Heap). z.needed) rest ∙ sym (ap (pages_needed (paging_at h)) objects_are
                 ∙ needed_added (paging_at h) (objects m) q (replicate bytes 0) no_bytes ∙ ap (pages_needed_with (paging_at h) (objects m)) (length-replicate {A = ℕ} bytes 0) ∙ needed_is);
             within = (let now = ap (λ (z : Heap). z.needed) rest in omega arith);
+            asked = (
+                let add = asked_added (objects m) q (replicate bytes 0) no_bytes in
+                let all = ap asked_bytes objects_are in
+                let now = ap (λ (z : Heap). z.asked) rest in
+                let was = k.asked_all in
+                let long = length-replicate {A = ℕ} bytes 0 in
+                omega arith);
+            taken = (
+                let add = taken_added (paging_at h) (objects m) q (replicate bytes 0) no_bytes in
+                let all = ap (taken_bytes (paging_at h)) objects_are in
+                let now = ap (λ (z : Heap). z.taken) rest in
+                let was = k.taken_all in
+                let same = ap (slot_words (paging_at h)) (class_of_zeros (paging_at h) a bytes c is.1) in
+                let words : get_or h.classes.sizes c 0 ≡ slot_words (paging_at h) c = ap (λ (t : ClassTable). get_or t.sizes c 0) k.table in
+                omega arith);
           }
 
           pub given_valid : IsValid n
@@ -330,11 +348,13 @@ within_of b x y iff fails = elim (cases_lt y x) [
 ]
 
 -- heap t after the slot is taken, heap b after `bind`, heap n after `count_in`: the fields of n in terms of those of h
-module _ (h t b n : Heap) (a q c w : ℕ) (et : t ≡ record h { maps = t.maps; lists = t.lists; pool = t.pool })
+module _ (h t b n : Heap) (a q c w size : ℕ) (et : t ≡ record h { maps = t.maps; lists = t.lists; pool = t.pool })
     (eb : b ≡ record t { proxies = with_place t.proxies q a; words = set t.words a w })
     (en : n ≡ record b {
       live = set b.live c (get_or b.live c 0 + 1);
       needed = b.needed + opens (slots b.classes.page_words b.classes.sizes c) (get_or b.live c 0);
+      asked = b.asked + size;
+      taken = b.taken + 8 * get_or b.classes.sizes c 0;
     }) where
   with_tables : Tables → Heap
   with_tables u = record h {
@@ -345,6 +365,8 @@ module _ (h t b n : Heap) (a q c w : ℕ) (et : t ≡ record h { maps = t.maps; 
     words = set h.words a w;
     live = set h.live c (get_or h.live c 0 + 1);
     needed = h.needed + opens (slots h.classes.page_words h.classes.sizes c) (get_or h.live c 0);
+    asked = h.asked + size;
+    taken = h.taken + 8 * get_or h.classes.sizes c 0;
   }
 
   by_taken : n ≡ with_tables (tables_in t)
@@ -352,6 +374,8 @@ module _ (h t b n : Heap) (a q c w : ℕ) (et : t ≡ record h { maps = t.maps; 
   by_taken = en ∙ ap (λ (b : Heap). record b {
     live = set b.live c (get_or b.live c 0 + 1);
     needed = b.needed + opens (slots b.classes.page_words b.classes.sizes c) (get_or b.live c 0);
+    asked = b.asked + size;
+    taken = b.taken + 8 * get_or b.classes.sizes c 0;
   }) (eb ∙ ap (λ (t : Heap). record t { proxies = with_place t.proxies q a; words = set t.words a w }) et)
 
   pub on_taken : tables_in n ≡ tables_in t
@@ -366,6 +390,8 @@ module _ (h t b n : Heap) (a q c w : ℕ) (et : t ≡ record h { maps = t.maps; 
     words = set h.words a w;
     live = set h.live c (get_or h.live c 0 + 1);
     needed = h.needed + opens (slots h.classes.page_words h.classes.sizes c) (get_or h.live c 0);
+    asked = h.asked + size;
+    taken = h.taken + 8 * get_or h.classes.sizes c 0;
   }
   unfolding with_tables
   all_changes = by_taken ∙ ap with_tables (sym on_taken)
@@ -380,6 +406,8 @@ pub given_from : (h : Heap) (k : IsValid h) (bytes c : ℕ) → Some c ≡ class
     → n ≡ record b {
       live = set b.live c (get_or b.live c 0 + 1);
       needed = b.needed + opens (slots b.classes.page_words b.classes.sizes c) (get_or b.live c 0);
+      asked = b.asked + bytes;
+      taken = b.taken + 8 * get_or b.classes.sizes c 0;
     } → MallocsInOrder (plan_of h) (working_of h) (record { number = q; length = bytes }) (working_of n) (order_in h) (order_in n) × IsValid n
 given_from h k bytes c found ne within t b n a q taken tables et unused below eb handles front en =
     let none : get h.proxies.places q ≡ None = sym (ap (λ (z : Heap). get z.proxies.places q) et) ∙ unused in
@@ -387,8 +415,8 @@ given_from h k bytes c found ne within t b n a q taken tables et unused below eb
     let good : AreBelowLimit n.proxies = subst AreBelowLimit (sym (ap (λ (z : Heap). z.proxies) en)) handles in
     let first : h.proxies.free ≡ q ∷ n.proxies.free = sym (ap (λ (z : Heap). z.proxies.free) et) ∙ front
     ∙ ap (λ xs. q ∷ xs) (sym (ap (λ (z : Heap). z.proxies.free) en)) in
-    let on = on_taken h t b n a q c (header_word q bytes) et eb en in
-    let rest = all_changes h t b n a q c (header_word q bytes) et eb en in (
+    let on = on_taken h t b n a q c (header_word q bytes) bytes et eb en in
+    let rest = all_changes h t b n a q c (header_word q bytes) bytes et eb en in (
       given_next h k bytes c found ne within (tables_in t) a taken tables n q none low good first on rest,
       given_valid h k bytes c found ne within (tables_in t) a taken tables n q none low good first on rest,
     )

@@ -10,12 +10,13 @@ use Rattle.cf_base.specs.declared.settings.Settings.{Settings}
 use Rattle.cf_base.specs.declared.kind.Layout.TheVariants.{Words}
 use Rattle.cf_base.proofs.CallerLemmas.{are_sizes}
 use Rattle.cf_lemmas.proofs.Values.{map_values-empty}
+use Rattle.page_model.specs.Figures.{asked_bytes, taken_bytes}
 use Rattle.page_model.specs.Arrangement.{live, pages_needed}
 use Rattle.page_model.specs.Bytes.{bytes_at, held_at}
 use Rattle.page_model.specs.Held.{Placed, objects}
 use Rattle.page_model.specs.Order.{first_order}
 use Rattle.page_model.specs.Paging.{IsPaging, classes}
-use Rattle.page_model.proofs.CallerLemmas.{first_paged, sound_empty, no_objects, none_needed, none_live}
+use Rattle.page_model.proofs.CallerLemmas.{first_paged, sound_empty, no_objects, none_asked, none_needed, none_live, none_taken}
 use Rattle.size_classes.specs.Table.{ClassTable, table_of}
 use Rattle.proxy_table.specs.Proxies.{Proxies, AreBelowLimit, no_proxies}
 use Rattle.page_slots.specs.PageTables.{new_tables}
@@ -36,6 +37,8 @@ pub record IsFirst (s : Settings) (n : ℕ) (h : Heap) : Type 0 where
   pub quantum : 1 ≤ h.quantum
   pub live : h.live ≡ replicate 128 0
   pub needed : h.needed ≡ 0
+  pub none_asked : h.asked ≡ 0
+  pub none_taken : h.taken ≡ 0
   pub words : h.words ≡ replicate (h.settings.pages * h.settings.page_words) 0
   pub tables : tables_in h ≡ new_tables h.settings.pages (length h.classes.sizes)
   pub proxies : h.proxies ≡ no_proxies h.settings.proxies
@@ -113,6 +116,8 @@ module _ (s : Settings) (n : ℕ) (h : Heap) (f : IsFirst s n h) where
         ∙ sym (ap (λ o. live (paging_at h) o c) objects_are ∙ none_live (paging_at h) c));
     needed = f.needed ∙ sym (ap (pages_needed (paging_at h)) objects_are ∙ none_needed (paging_at h));
     within = (let e = f.needed in omega arith);
+    asked_all = f.none_asked ∙ sym (ap asked_bytes objects_are ∙ none_asked);
+    taken_all = f.none_taken ∙ sym (ap (taken_bytes (paging_at h)) objects_are ∙ none_taken (paging_at h));
   }
 
   -- the order lists pages and numbers in rising order

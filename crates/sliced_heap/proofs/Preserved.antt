@@ -3,6 +3,7 @@ use Rattle.std.proofs.Common.{◌≡◌, ℕ, ◌<◌, ◌≤◌, length, get_or
 use Rattle.std.specs.FinMap.{get}
 use Rattle.page_model.specs.Arrangement.{live, pages_needed}
 use Rattle.page_model.specs.Bytes.{AreBytes, AreStorable}
+use Rattle.page_model.specs.Figures.{asked_bytes, taken_bytes}
 use Rattle.page_model.specs.Held.{Placed, objects, places}
 use Rattle.page_model.specs.Paging.{classes}
 use Rattle.page_slots.specs.Occupying.{Occupies, FitPages}
@@ -33,6 +34,8 @@ pub record Becomes (h n : Heap) (s : Sliced) : Type 0 where
   pub counted : (c : ℕ) → c < classes (paging_at h) → get_or n.live c 0 ≡ live (paging_at h) (objects s.held) c
   pub needed : n.needed ≡ pages_needed (paging_at h) (objects s.held)
   pub within : n.needed ≤ h.settings.pages
+  pub asked : n.asked ≡ asked_bytes (objects s.held)
+  pub taken : n.taken ≡ taken_bytes (paging_at h) (objects s.held)
 
 -- heap n with the job of the state s; the settings, the quantum and the classes are those of heap h
 abbrev with_rest : Heap → Heap → Sliced → Heap
@@ -68,6 +71,8 @@ module _ (h n : Heap) (k : IsValid h) (s : Sliced) (b : Becomes h n s) where
     counted = λ c lt. b.counted c lt ∙ ap (λ (z : Sliced). live (paging_at h) (objects z.held) c) (sym state_is);
     needed = b.needed ∙ ap (λ (z : Sliced). pages_needed (paging_at h) (objects z.held)) (sym state_is);
     within = b.within;
+    asked_all = b.asked ∙ ap (λ (z : Sliced). asked_bytes (objects z.held)) (sym state_is);
+    taken_all = b.taken ∙ ap (λ (z : Sliced). taken_bytes (paging_at h) (objects z.held)) (sym state_is);
   }
 
   pub becomes_valid : IsValid n

@@ -45,6 +45,8 @@ pub record KeepsTables (h n : Heap) : Type 0 where
   pub classes : n.classes ≡ h.classes
   pub live : n.live ≡ h.live
   pub needed : n.needed ≡ h.needed
+  pub asked : n.asked ≡ h.asked
+  pub taken : n.taken ≡ h.taken
   pub tables : tables_in n ≡ tables_in h
   pub proxies : n.proxies ≡ h.proxies
   pub long : length n.words ≡ length h.words
@@ -77,6 +79,8 @@ module _ (h n : Heap) (k : IsValid h) (same : KeepsTables h n) (j : Job) (is : n
     counted = λ c lt. ap (λ l. get_or l c 0) same.live ∙ k.counted c lt;
     needed = same.needed ∙ k.needed;
     within = (let e = same.needed in let w = k.within in omega arith);
+    asked = same.asked ∙ k.asked_all;
+    taken = same.taken ∙ k.taken_all;
   }
 
   pub job_valid : IsValid n
@@ -208,6 +212,8 @@ module _ (h : Heap) (k : IsValid h) (j : Job) (at : h.job ≡ j) (g : JobSlot) (
     classes = refl;
     live = refl;
     needed = refl;
+    asked = refl;
+    taken = refl;
     tables = refl;
     proxies = refl;
     long = long;

@@ -39,6 +39,10 @@ find_steps (Ok s) = 2
 find_steps (Err access.Unknown) = 1
 find_steps (Err access.Range) = 2
 
+-- the address of object n of the objects m; none if it is not live
+abbrev pub place_in : Held → ℕ → Option ℕ
+place_in m n = option_map (λ (x : Placed). x.place) (get m n)
+
 -- the number of bytes of object n of the objects m; none if it is not live
 abbrev pub length_in : Held → ℕ → Option ℕ
 length_in m n = option_map (λ (x : Placed). length x.bytes) (get m n)

@@ -10,14 +10,17 @@ use Rattle.sliced_heap.specs.declared.open_heap.OpenHeap.{OpenHeap}
 use Rattle.sliced_heap.specs.declared.open_heap.Pending.{Pending}
 use Rattle.sliced_heap.specs.declared.open_heap.Pending.TheVariants as pending
 
--- An open heap: its settings; the most words of a slice; the size classes; the number of live objects of each class; the pages that these objects need; the
--- words of the region; the used slots of each page; the page lists of each class; the free pages; the addresses by number; and the pending job.
+-- An open heap: its settings; the most words of a slice; the size classes; the number of live objects of each class; the pages that these objects need; their
+-- bytes, and those of their slots; the words of the region; the used slots of each page; the page lists of each class; the free pages; the addresses by number;
+-- and the pending job.
 pub record Heap : Type 0 where
   pub settings : Settings
   pub quantum : ℕ
   pub classes : ClassTable
   pub live : List ℕ
   pub needed : ℕ
+  pub asked : ℕ
+  pub taken : ℕ
   pub words : List ℕ
   pub maps : List (List Bool)
   pub lists : PageLists
@@ -39,6 +42,8 @@ seen h = record {
   classes = h.tables.classes;
   live = h.live;
   needed = h.needed;
+  asked = h.asked;
+  taken = h.taken;
   words = h.region;
   maps = h.tables.maps.pages;
   lists = h.lists;

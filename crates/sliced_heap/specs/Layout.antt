@@ -8,6 +8,7 @@ use Rattle.cf_base.specs.declared.settings.Settings.{Settings}
 use Rattle.cf_base.specs.declared.kind.Layout.TheVariants.{Words}
 use Rattle.page_model.specs.Arrangement.{live, pages_needed}
 use Rattle.page_model.specs.Bytes.{held_at}
+use Rattle.page_model.specs.Figures.{asked_bytes, taken_bytes}
 use Rattle.page_model.specs.Held.{objects}
 use Rattle.page_model.specs.Order.{Order, first_order}
 use Rattle.page_model.specs.Paging.{Paging, classes, first_bounds, paging_of, slot_words}
@@ -73,9 +74,9 @@ opens m n = if nat_eq (n % m) 0 then 1 else 0
 
 -- The invariant of an open heap h. `kept`: the objects and the job keep the rules of the model. `words`: each word of the region is as the objects and the
 -- job determine it. `serve` and `occupied`: the tables have the used slots of the objects and of the job, and no others. `counted` and `needed`: the counts
--- are those of the objects, and the pages needed are no more than there are (`within`); `live` has 128 entries, more than any heap has classes. The others:
--- the tables and the region have the sizes of the settings, each number, live or free, is below the number of proxies (`handles`), and the quantum is at least
--- one word.
+-- are those of the objects, and the pages needed are no more than there are (`within`); `live` has 128 entries, more than any heap has classes. `asked_all` and
+-- `taken_all`: the bytes are those of the objects and of their slots. The others: the tables and the region have the sizes of the settings, each number, live or
+-- free, is below the number of proxies (`handles`), and the quantum is at least one word.
 pub record IsValid (h : Heap) : Type 0 where
   pub table : h.classes ≡ table_of h.settings.page_words Words
   pub quantum : 1 ≤ h.quantum
@@ -90,6 +91,8 @@ pub record IsValid (h : Heap) : Type 0 where
   pub counted : (c : ℕ) → c < classes (paging_at h) → slice_index h.live c ≡ live (paging_at h) (objects (state_of h).held) c
   pub needed : h.needed ≡ pages_needed (paging_at h) (objects (state_of h).held)
   pub within : h.needed ≤ h.settings.pages
+  pub asked_all : h.asked ≡ asked_bytes (objects (state_of h).held)
+  pub taken_all : h.taken ≡ taken_bytes (paging_at h) (objects (state_of h).held)
 
 -- h is a heap that was just opened with the settings s and slices of at most n words: it has no object and no job, and all its words are 0
 pub record IsNew (s : Settings) (n : ℕ) (h : Heap) : Type 0 where

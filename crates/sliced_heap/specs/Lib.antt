@@ -8,3 +8,4 @@ pub mod Halves
 pub mod Writes
 pub mod Needed
 pub mod Room
+pub mod Figures

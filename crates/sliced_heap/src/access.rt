@@ -4,7 +4,7 @@ ghost use Rattle.std.specs.Prelude.{◌≡◌, ◌+◌, ◌≤◌, if◌then◌e
 ghost use Rattle.step_ledger.specs.Counting.{RoseBy};
 ghost use Rattle.slice_model.specs.Runs.{Happens, Read, Write};
 ghost use Rattle.sliced_heap.specs.Halves.{halves_of};
-ghost use Rattle.sliced_heap.specs.Access.{IsFound, access_fault, bytes_or_fault, find_steps, length_in};
+ghost use Rattle.sliced_heap.specs.Access.{IsFound, access_fault, bytes_or_fault, find_steps, length_in, place_in};
 ghost use Rattle.sliced_heap.specs.Costs.{access_steps, length_steps};
 ghost use Rattle.sliced_heap.specs.Heap.{job_of, seen};
 ghost use Rattle.sliced_heap.specs.Layout.{IsValid, order_in, plan_of, state_of, working_of};
@@ -26,6 +26,15 @@ impl OpenHeap {
         } else {
             None
         }
+    }
+
+    /// The address of object `h`, to which a job that moves the object moves it, or `None` if the handle is not live.
+    pub fn place(&self, h: Handle, steps: &mut Steps) -> Option<u32>
+        requires { IsValid (seen self.now) }
+        ensures value { result ≡ place_in (state_of (seen self.now)).held h.0 }
+        ensures steps { RoseBy steps.old steps.new 1 }
+    {
+        self.proxies.lookup(h, steps)
     }
 
     /// The length of object `h` in bytes, or `None` if the handle is not live.

@@ -77,7 +77,7 @@ impl OpenHeap {
             unreachable!();
         };
         self.proxies.release(h, steps);
-        self.count_out(c);
+        self.count_out(c, length);
         let k = JobSlot {
             address: place,
             class: c,
@@ -87,19 +87,25 @@ impl OpenHeap {
         k
     }
 
-    /// Counts one object of class c less: in `live`, and in `needed` if the other objects of the class need
-    /// one page less.
-    fn count_out(&mut self, c: u32)
+    /// Counts one object less, of class c and of `bytes` bytes: in `live`, in `needed` if the other objects of the class
+    /// need one page less, and in the bytes asked and taken.
+    fn count_out(&mut self, c: u32, bytes: u32)
         requires class { c < length self.old.tables.classes.sizes }
         requires listed { c < length self.old.live }
         requires live { 1 ≤ slice_index self.old.live c }
         requires needed { opens (slots self.old.tables.classes.page_words self.old.tables.classes.sizes c) (slice_index self.old.live c - 1) ≤ self.old.needed }
+        requires asked { bytes ≤ self.old.asked }
+        requires taken { 8 * slice_index self.old.tables.classes.sizes c ≤ self.old.taken }
         ensures { self.new ≡ record self.old {
           live = slice_set self.old.live c (slice_index self.old.live c - 1);
           needed = self.old.needed - opens (slots self.old.tables.classes.page_words self.old.tables.classes.sizes c) (slice_index self.old.live c - 1);
+          asked = self.old.asked - bytes;
+          taken = self.old.taken - 8 * slice_index self.old.tables.classes.sizes c;
         } }
     {
         self.live[c as usize] -= 1;
         self.needed -= self.opens_page(c);
+        self.asked -= u64::from(bytes);
+        self.taken -= 8 * u64::from(self.tables.classes.slot_words(c));
     }
 }

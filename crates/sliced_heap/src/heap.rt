@@ -1,22 +1,24 @@
-//! The sliced heap, closed or open, with its public calls: malloc, `has_room`, free, `step`, `left`, `moving`, read, write,
-//! `length` and `peek`. `OpenHeap` does all the work.
+//! The sliced heap, closed or open, with its public calls: malloc, `has_room`, free, `step`, `left`, `has_job`, `moving`,
+//! read, write, `place`, `length`, `slot_words`, `class_of`, `figures`, `totals` and `peek`. `OpenHeap` does all the work.
 ghost use Rattle.std.specs.Prelude.{◌≡◌, ◌+◌, ◌*◌, ◌^◌, ◌<◌, ◌≤◌, if◌then◌else◌, is_some, length, option_map, slice_get, IsErr, IsTrue, OnErr, OnOk};
 ghost use Rattle.cf_model.specs.Costs.{words_touched};
 ghost use Rattle.slice_model.specs.Ordered.{HappensInOrder};
 ghost use Rattle.slice_model.specs.Runs.{Happens, Free, Malloc, Read, Step, Write};
-ghost use Rattle.slice_model.specs.State.{left_of};
+ghost use Rattle.slice_model.specs.State.{job_slot, left_of};
 ghost use Rattle.step_ledger.specs.Counting.{RoseAtMost, RoseBy};
-ghost use Rattle.sliced_heap.specs.Access.{access_fault, bytes_or_fault, length_in};
+ghost use Rattle.sliced_heap.specs.Access.{access_fault, bytes_or_fault, length_in, place_in};
+ghost use Rattle.cf_base.specs.Classes.{class_of};
 ghost use Rattle.cf_base.specs.Settings.{profile_of};
 ghost use Rattle.cf_base.specs.declared.answers.Handle.{Handle};
 ghost use Rattle.sliced_heap.specs.Needed.{sliced_bytes};
 ghost use Rattle.sliced_heap.specs.Costs.{access_steps, free_cost, length_steps, malloc_cost, slice_cost};
+ghost use Rattle.sliced_heap.specs.Figures.{figures_in, slot_words_in, slot_words_steps, totals_in};
 ghost use Rattle.sliced_heap.specs.Room.{IsRoomAnswer, mover};
 ghost use Rattle.sliced_heap.specs.Shown.{KeepsRules, StaysOpen, closed_state, opened_state, plan_in, working_in};
 ghost use Rattle.sliced_heap.specs.Steps.{fault_in};
 
 use crate::open_heap::OpenHeap;
-use cf_base::{AccessFault, BytesNeeded, Handle, OutOfMemory, Settings};
+use cf_base::{AccessFault, BytesNeeded, Figures, Handle, OutOfMemory, Settings, Totals};
 use slice_model::{SliceFault, SliceRefusal};
 use std::alloc::Global;
 use std::marker::Model;
@@ -168,6 +170,17 @@ impl SlicedHeap {
         }
     }
 
+    /// Returns whether a job is pending.
+    pub fn has_job(&self) -> bool
+        requires open { IsTrue self.now.is_open }
+        ensures { result ≡ is_some (job_slot self.now.job) }
+    {
+        match &self.inner {
+            Some(open) => open.has_job(),
+            None => unreachable!(),
+        }
+    }
+
     /// The object that the pending job moves; `None` if it moves none, or no job is pending.
     pub fn moving(&self) -> Option<Handle>
         requires open { IsTrue self.now.is_open }
@@ -175,6 +188,19 @@ impl SlicedHeap {
     {
         match &self.inner {
             Some(open) => open.moving(),
+            None => unreachable!(),
+        }
+    }
+
+    /// The address of object `h`, in words from the start of the region; `None` if the handle is not live. A job that moves
+    /// the object moves it to this address.
+    pub fn place(&self, h: Handle, steps: &mut Steps) -> Option<u32>
+        requires open { IsTrue self.now.is_open }
+        ensures value { result ≡ place_in self.now.held h.0 }
+        ensures steps { RoseBy steps.old steps.new 1 }
+    {
+        match &self.inner {
+            Some(open) => open.place(h, steps),
             None => unreachable!(),
         }
     }
@@ -187,6 +213,55 @@ impl SlicedHeap {
     {
         match &self.inner {
             Some(open) => open.length(h, steps),
+            None => unreachable!(),
+        }
+    }
+
+    /// The words of the slot of object `h`, which a free of it clears, also while a job moves the object; `None` if the
+    /// handle is not live.
+    pub fn slot_words(&self, h: Handle, steps: &mut Steps) -> Option<u32>
+        requires open { IsTrue self.now.is_open }
+        ensures value { result ≡ slot_words_in (plan_in self.now) self.now.held h.0 }
+        ensures steps { RoseBy steps.old steps.new (slot_words_steps result) }
+    {
+        match &self.inner {
+            Some(open) => open.slot_words(h, steps),
+            None => unreachable!(),
+        }
+    }
+
+    /// The size class of an object of `bytes` bytes, numbered from 0; `None` if it needs more than a page.
+    pub fn class_of(&self, bytes: u32, steps: &mut Steps) -> Option<u32>
+        requires open { IsTrue self.now.is_open }
+        ensures value { result ≡ class_of (plan_in self.now).paging.sizes bytes }
+        ensures steps { RoseBy steps.old steps.new 1 }
+    {
+        match &self.inner {
+            Some(open) => open.class_of(bytes, steps),
+            None => unreachable!(),
+        }
+    }
+
+    /// The figures of size class `c`; `None` if there is no such class. The slot of a pending job counts as used, but not
+    /// as live.
+    pub fn figures(&self, c: u32) -> Option<Figures>
+        requires open { IsTrue self.now.is_open }
+        ensures { result ≡ figures_in (plan_in self.now) (working_in self.now).state c }
+    {
+        match &self.inner {
+            Some(open) => open.figures(c),
+            None => unreachable!(),
+        }
+    }
+
+    /// The figures of the whole heap. The slot of a pending job counts as used, and its bytes as taken, but neither as live
+    /// nor as asked for.
+    pub fn totals(&self) -> Totals
+        requires open { IsTrue self.now.is_open }
+        ensures { result ≡ totals_in (plan_in self.now) (working_in self.now).state }
+    {
+        match &self.inner {
+            Some(open) => open.totals(),
             None => unreachable!(),
         }
     }

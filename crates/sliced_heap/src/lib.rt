@@ -5,6 +5,7 @@
 
 mod access;
 mod end;
+mod figures;
 mod fill;
 mod free;
 mod halves;

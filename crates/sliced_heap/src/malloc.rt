@@ -1,6 +1,6 @@
 //! The call `malloc` of an open sliced heap, and its counts of objects by class and of the pages that they
 //! need, by which it is refused for space; and `has_room`, which returns beforehand whether a malloc would be refused.
-ghost use Rattle.std.specs.Prelude.{◌≡◌, ◌≢◌, ◌+◌, ◌<◌, ◌≤◌, ◌↔◌, ◌∷◌, IsFalse, IsTrue, None, length, slice_index, slice_set};
+ghost use Rattle.std.specs.Prelude.{◌≡◌, ◌≢◌, ◌+◌, ◌*◌, ◌<◌, ◌≤◌, ◌↔◌, ◌∷◌, IsFalse, IsTrue, None, length, slice_index, slice_set};
 ghost use Rattle.std.specs.FinMap as map;
 ghost use Rattle.cf_base.specs.Classes.{slots};
 ghost use Rattle.step_ledger.specs.Counting.{RoseBy};
@@ -49,7 +49,7 @@ impl OpenHeap {
             return Err(SliceRefusal::Busy);
         };
         let handle = self.bind(place, bytes, steps);
-        self.count_in(c);
+        self.count_in(c, bytes);
         Ok(handle)
     }
 
@@ -137,18 +137,25 @@ impl OpenHeap {
         handle
     }
 
-    /// Counts one more object of class c: in `live`, and in `needed` if it needs one more page.
-    fn count_in(&mut self, c: u32)
+    /// Counts one more object, of class c and of `bytes` bytes: in `live`, in `needed` if it needs one more page, and in the
+    /// bytes asked and taken.
+    fn count_in(&mut self, c: u32, bytes: u32)
         requires class { c < length self.old.tables.classes.sizes }
         requires listed { c < length self.old.live }
         requires live { slice_index self.old.live c ≤ 65536 }
         requires needed { self.old.needed ≤ 4096 }
+        requires asked { self.old.asked ≤ 131072 * 65536 }
+        requires taken { self.old.taken ≤ 131072 * 65536 }
         ensures { self.new ≡ record self.old {
           live = slice_set self.old.live c (slice_index self.old.live c + 1);
           needed = self.old.needed + opens (slots self.old.tables.classes.page_words self.old.tables.classes.sizes c) (slice_index self.old.live c);
+          asked = self.old.asked + bytes;
+          taken = self.old.taken + 8 * slice_index self.old.tables.classes.sizes c;
         } }
     {
         self.needed += self.opens_page(c);
         self.live[c as usize] += 1;
+        self.asked += u64::from(bytes);
+        self.taken += 8 * u64::from(self.tables.classes.slot_words(c));
     }
 }

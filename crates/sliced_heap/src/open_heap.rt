@@ -45,7 +45,11 @@ pub struct OpenHeap {
     /// The fewest pages that hold the live objects. For each class the number of its objects is divided by
     /// the slots of a page and rounded up; these are summed.
     pub(crate) needed: u32,
-    pub(crate) region: Region,
+    /// The bytes of all live objects, and those of their slots.
+    pub(crate) asked: u64,
+    pub(crate) taken: u64,
+    /// Public, so that a holder of the heap's fields can lend its words.
+    pub region: Region,
     /// The size classes, the used slots of each page, and the free pages.
     pub(crate) tables: PageTables,
     /// The full and the partly full pages of each class.
@@ -106,6 +110,8 @@ impl OpenHeap {
             quantum,
             live: [0; CLASSES],
             needed: 0,
+            asked: 0,
+            taken: 0,
             region,
             tables,
             lists,

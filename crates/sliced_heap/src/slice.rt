@@ -1,10 +1,10 @@
 //! The call `step` of an open sliced heap, which does a slice of the pending job: it clears or moves at most a
 //! quantum of words. `left` is how many words the job has left, `moving` which object it moves.
-ghost use Rattle.std.specs.Prelude.{◌≡◌, ◌+◌, ◌-◌, ◌<◌, ◌≤◌, length, min, option_map, slice_index};
+ghost use Rattle.std.specs.Prelude.{◌≡◌, ◌+◌, ◌-◌, ◌<◌, ◌≤◌, is_some, length, min, option_map, slice_index};
 ghost use Rattle.step_ledger.specs.Counting.{RoseBy};
 ghost use Rattle.slice_model.specs.Ordered.{HappensInOrder, SlicesInOrder};
 ghost use Rattle.slice_model.specs.Runs.{Happens, Slices, Step};
-ghost use Rattle.slice_model.specs.State.{Clear, Move, left_of};
+ghost use Rattle.slice_model.specs.State.{Clear, Move, job_slot, left_of};
 ghost use Rattle.sliced_heap.specs.Costs.{job_cost, part_cost, slice_cost};
 ghost use Rattle.sliced_heap.specs.Heap.{job_of, seen};
 ghost use Rattle.sliced_heap.specs.Layout.{IsValid, order_in, plan_of, state_of, working_of};
@@ -41,6 +41,16 @@ impl OpenHeap {
             Pending::Idle => 0,
             Pending::Clear(k) => self.tables.classes.slot_words(k.class) - k.done,
             Pending::Move(_, k) => self.tables.classes.slot_words(k.class) - k.done,
+        }
+    }
+
+    /// Returns whether a job is pending.
+    pub fn has_job(&self) -> bool
+        ensures { result ≡ is_some (job_slot (job_of self.now.job)) }
+    {
+        match self.job {
+            Pending::Idle => false,
+            _ => true,
         }
     }
 

@@ -25,7 +25,7 @@ use Rattle.std.specs.contracts.prelude.GlobalAllocator.TheImpl.{ghosts}
 use Rattle.held_sliced.specs.Sliced.{open_heap as R}
 use Rattle.held_sliced.specs.contracts.sliced.HeapBlock.{the_row as P}
 use Rattle.c_base.proofs.Parts.{allocator_of, parts, parts_fit, put_together}
-use Rattle.held_sliced.proofs.Places.{place_val, place_out}
+use Rattle.held_sliced.proofs.Places.{place_val, place_out, made_whole}
 use Rattle.held_sliced.specs.contracts.sliced.unboxed_of as f
 use Rattle.held_sliced.proofs.sliced.unboxed_of.Statement.{statement}
 use Rattle.held_sliced.proofs.sliced.unboxed_of.Code as code
@@ -44,7 +44,7 @@ unboxed_of_spec 𝓤 𝓛 𝓜 𝓡 wired =
     place_out ! p y.0.4.0 some (λ x held b o e is.
     -- [the heap in its block; the allocator; nothing; the tokens]
     regoal ! (λ (us : List Val). prop (WpFn 𝓤 𝓛.H 𝓣.C 𝓣.Λ code.function us Post)) (λ i. is i ++ (first i ++ [])) refl $
-    enter ! 𝓣.C 𝓣.Λ code.function (place_val (block_ptr b o) ∷ h ∷ []) Post $ alloc_all ! (λ l. pass_all ! refl ((tt, (tt, tt)), (good, tt)) $
+    enter ! 𝓣.C 𝓣.Λ code.function (place_val (block_ptr b o) ∷ h ∷ []) Post $ alloc_all ! (λ l. pass_all ! refl ((tt, (tt, tt)), (good, tt)) $ made_whole ! tt b o x p.words $
     sets ! (of_opd ! (get_in ! (fld ! refl (stop !)) (sub ! 0 refl (whole !)))) refl (tt, tt) $
     sets ! (of_opd ! (get ! refl)) refl (tt, tt) $
     sets ! (agg ! (and_then ! (get ! refl) (and_then ! (get ! refl) (no_more !)))) refl (parts_fit R Z LZ ghosts h b o good) $

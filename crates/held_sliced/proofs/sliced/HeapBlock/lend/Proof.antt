@@ -1,6 +1,6 @@
 -- By hand, the contract of `HeapBlock::lend`: it borrows the heap at the address, and the heap as the borrow leaves it is the `HeapBlock`'s again.
 -- The proof steps through the compiled body; a comment in brackets lists what is owned at that point, in order.
-use Rattle.std.proofs.Common.{◌≡◌, ℕ, List, [], ◌∷◌, refl, sym, Some, IsSome, MutBor}
+use Rattle.std.proofs.Common.{◌≡◌, ℕ, List, [], ◌∷◌, refl, sym, Some, None, IsSome, MutBor}
 use Rattle.std.proofs.raw_atomic.Walks.{proved, leaves}
 use base.Fraction.{full_share}
 use base.Fml.{Fml, GName, ftrue, fsep, flft}
@@ -32,7 +32,7 @@ use Rattle.held_sliced.specs.contracts.sliced.HeapBlock.{the_row as R}
 use Rattle.held_sliced.specs.contracts.sliced.HeapBlock.lend as f
 use Rattle.held_sliced.proofs.sliced.HeapBlock.lend.Statement.{statement}
 use Rattle.held_sliced.proofs.sliced.HeapBlock.lend.Code as code
-use Rattle.held_sliced.proofs.Places.{place_val, place_in, place_out}
+use Rattle.held_sliced.proofs.Places.{place_val, place_in_at, place_out, made_whole}
 
 -- the rest of the `HeapBlock` while its heap is borrowed: the right to free the block, and the address
 abbrev Rest : ℕ → ℕ → ℕ → ℕ → Fml
@@ -44,8 +44,8 @@ back : {M : Type 1} {𝓤 : Ura M} (𝓛 : Logic 𝓤) (h : R.Denot) (b o rb ro 
 unfolding part_of
 back 𝓛 h b o rb ro at w =
     qed 𝓛 (‵ (part_at T full_share w b o) ∷ ‵ (Rest b o rb ro) ∷ []) ∵ move ! (1 ∷ []) $ fsplit ! $ move ! (2 ∷ 0 ∷ []) $ fjoin ! $
-    place_in ! (block_ptr b o) (Some w) $
-    rewrite ! 0 (λ (p : Ptr). ‵ (R.own_val (record { at = p; held = Some w }) (place_val (block_ptr b o) ∷ []))) (sym at) refl $ move ! (1 ∷ 0 ∷ []) $ fjoin ! $
+    place_in_at ! (block_ptr b o) (Some w) None $
+    rewrite ! 0 (λ (p : Ptr). ‵ (R.own_val (record { at = p; held = Some w; words = None }) (place_val (block_ptr b o) ∷ []))) (sym at) refl $ move ! (1 ∷ 0 ∷ []) $ fjoin ! $
     fpack ! (List Val) (λ us. fsep (cell_at full_share R.mir us rb ro) (R.own_val (with_heap h w) us)) (place_val (block_ptr b o) ∷ []) $ done !
 
 abbrev stayed : Stays f.ended.signature.params f.ended.kept
@@ -64,7 +64,7 @@ lend_spec 𝓤 𝓛 𝓜 𝓡 wired =
     split ! $ split ! $ move ! (2 ∷ []) $ split ! $ keep ! (0 ∷ 2 ∷ []) $
     enter ! _ _ _ _ _ $ alloc_all ! (λ l. pass_all ! refl ((tt, tt), tt) $
     let En = env code.Mir.locals l in
-    fsplit3 ! $ move ! (1 ∷ 2 ∷ 3 ∷ []) $ opens ! tt R rb ro (λ vs. move ! (1 ∷ []) $ place_out ! h vs some_held (λ x held b o at is.
+    fsplit3 ! $ move ! (1 ∷ 2 ∷ 3 ∷ []) $ opens ! tt R rb ro (λ vs. move ! (1 ∷ []) $ place_out ! h vs some_held (λ x held b o at is. made_whole ! tt b o x h.words $
     rewrite ! 1 (λ (ws : List Val). ‵ (cell_at full_share R.mir ws rb ro)) is refl $ fsplit ! $
     -- [the heap; the right to free its block; the `HeapBlock`; the open borrow, in three entries]
     first ! $ blocks ! $

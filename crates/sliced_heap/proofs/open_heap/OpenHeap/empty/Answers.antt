@@ -10,6 +10,8 @@ returns-clause-kept c = first_valid c.args.s.now c.args.quantum _ (record {
   quantum = c.requires.least;
   live = refl;
   needed = refl;
+  none_asked = refl;
+  none_taken = refl;
   words = c.requires.region;
   tables = λ i. record { maps = c.requires.tables.maps i; lists = c.requires.lists i; pool = c.requires.tables.pool i };
   proxies = c.requires.proxies;
@@ -25,6 +27,8 @@ returns-clause-new c = first_new c.args.s.now c.args.quantum _ (record {
   quantum = c.requires.least;
   live = refl;
   needed = refl;
+  none_asked = refl;
+  none_taken = refl;
   words = c.requires.region;
   tables = λ i. record { maps = c.requires.tables.maps i; lists = c.requires.lists i; pool = c.requires.tables.pool i };
   proxies = c.requires.proxies;

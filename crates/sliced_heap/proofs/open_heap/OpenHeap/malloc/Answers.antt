@@ -4,6 +4,7 @@ use Rattle.page_model.specs.Paging.{classes}
 use Rattle.page_slots.specs.Orders.{order_of}
 use Rattle.sliced_heap.specs.Layout.{paging_at}
 use Rattle.sliced_heap.specs.declared.open_heap.OpenHeap.{OpenHeap}
+use Rattle.sliced_heap.proofs.ByteCounts.{asked_room, taken_room}
 use Rattle.sliced_heap.proofs.Facts.{only_tables, seen_with}
 use Rattle.sliced_heap.proofs.MallocLemmas.{given_from, lacks_proxy, lacks_slot, lacks_space, lacks_takes, live_room, malloc_takes, place_inside, within_of}
 use Rattle.sliced_heap.proofs.open_heap.OpenHeap.malloc.Goals as goal
@@ -58,6 +59,18 @@ pub count_in-requires-clause-live : goal.count_in-requires-clause-live
 count_in-requires-clause-live c =
     let l = live_room (seen c.args.self.now) c.requires c.args.bytes c.in-Some.c c.in-Some.ensures.found in
     let e = ap (λ (x : OpenHeap). get_or x.live c.in-Some.c 0) c.bind-handle.ensures.whole in
+    omega arith
+
+pub count_in-requires-clause-asked : goal.count_in-requires-clause-asked
+count_in-requires-clause-asked c =
+    let l = asked_room (seen c.args.self.now) c.requires in
+    let e = ap (λ (x : OpenHeap). x.asked) c.bind-handle.ensures.whole in
+    omega arith
+
+pub count_in-requires-clause-taken : goal.count_in-requires-clause-taken
+count_in-requires-clause-taken c =
+    let l = taken_room (seen c.args.self.now) c.requires in
+    let e = ap (λ (x : OpenHeap). x.taken) c.bind-handle.ensures.whole in
     omega arith
 
 pub returns-clause-step : goal.returns-clause-step

@@ -1,0 +1,33 @@
+-- `LooseHeld`, the fields of an open sliced heap with its step count: its words, other words in their place, and which of them is a `Held` with a given state.
+use Rattle.std.specs.Prelude.{◌≡◌, ℕ, IsTrue, List, Option, Some, None, length}
+use Rattle.region.specs.Lending.{with_words}
+use Rattle.sliced_heap.specs.Shown.{IsValidIn, shown}
+use Rattle.sliced_heap.specs.declared.open_heap.OpenHeap.{OpenHeap}
+use Rattle.held_sliced.specs.HeldState.{HeldState}
+use Rattle.held_sliced.specs.declared.loose.LooseHeld.{LooseHeld}
+
+-- the words of the region; none if the heap is closed
+abbrev pub words_in : Option OpenHeap → List ℕ
+words_in o = (shown o).words
+
+abbrev pub words_of : LooseHeld → List ℕ
+words_of a = words_in a.heap.inner
+
+-- the heap with the words ws in its region
+abbrev pub region_all : OpenHeap → List ℕ → OpenHeap
+region_all h ws = record h { region = with_words h.region 0 (length h.region) ws }
+
+abbrev pub inner_all : Option OpenHeap → List ℕ → Option OpenHeap
+inner_all None ws = None
+inner_all (Some h) ws = Some (region_all h ws)
+
+abbrev pub held_all : LooseHeld → List ℕ → LooseHeld
+held_all a ws = record a { heap = record a.heap { inner = inner_all a.heap.inner ws } }
+
+-- the parts a are those of a `Held` with the state x: the heap is valid and open, and shows this state
+pub record Fits (a : LooseHeld) (x : HeldState) : Type 0 where
+  pub valid : IsValidIn a.heap.inner
+  pub open_now : IsTrue (shown a.heap.inner).is_open
+  pub heap : shown a.heap.inner ≡ x.heap
+  pub steps : a.steps ≡ x.steps
+  pub handles : a.handles ≡ x.handles
