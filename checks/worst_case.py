@@ -21,6 +21,7 @@ import os
 import re
 import subprocess
 import sys
+import typing
 from fractions import Fraction
 from pathlib import Path
 
@@ -31,27 +32,43 @@ loader = importlib.machinery.SourceFileLoader("worst_case", str(TOP / "tools/wor
 tool = importlib.util.module_from_spec(importlib.util.spec_from_loader("worst_case", loader))
 loader.exec_module(tool)
 
-LIBRARIES = ["norphuen", "norphuen_nonmoving", "norphuen_tlsf"]
-# PAGES, PAGEBYTES, K, PROXIES
-SETTINGS = [(16, 512, 1, 64), (8, 512, 3, 16), (24, 2048, 2, 200), (16, 4096, 1, 256), (4, 16384, 1, 64), (3, 131072, 1, 32)]
+# PAGES, PAGEBYTES, K, PROXIES, QUANTUM
+SETTINGS = [(16, 512, 1, 64, 7), (8, 512, 3, 16, 64), (24, 2048, 2, 200, 30), (16, 4096, 1, 256, 1000), (4, 16384, 1, 64, 1), (3, 131072, 1, 32, 16384)]
 # The setting of the column "longest seen".
-SHOWN = (16, 16384, 1, 4096)
+SHOWN = (16, 16384, 1, 4096, 256)
 NEAR = Fraction(11, 10)
+# With each of the settings the bound of an opening is within this of what was seen.
+NEAR_OPEN = Fraction(12, 10)
 # A frame on ARM64 is a multiple of 16 bytes, the lowest of which may be unused.
 UNUSED = {tool.X86: 0, tool.ARM: 8}
 # Whole slots have no words outside of blocks; a resize writes one word; a list that has its memory doesn't grow.
 SHALLOW = {("norphuen_nonmoving", tool.X86, "nph_free"), ("norphuen_nonmoving", tool.X86, "nph_resize"), ("norphuen_nonmoving", tool.ARM, "nph_resize"),
            ("norphuen", tool.ARM, "nph_open"), ("norphuen_nonmoving", tool.ARM, "nph_open"),
            ("norphuen_tlsf", tool.X86, "nph_open"), ("norphuen_tlsf", tool.ARM, "nph_open")}
-# No loop runs in these, on either processor.
-BOUNDS = {f"nph_{it}" for it in "kind most_malloc most_free most_resize most_access most_has_room most_totals most_length".split()}
-NO_LOOP = {"norphuen": BOUNDS | {"nph_slot_words", "nph_class_of", "nph_malloc", "nph_free", "nph_length", "nph_has_room", "nph_place", "nph_lend", "nph_return", "nph_version"},
-           "norphuen_nonmoving": BOUNDS | {"nph_slot_words", "nph_class_of", "nph_malloc", "nph_length", "nph_has_room", "nph_version"},
-           "norphuen_tlsf": BOUNDS | {"nph_malloc", "nph_free", "nph_length", "nph_has_room", "nph_bytes_needed", "nph_place", "nph_lend", "nph_return", "nph_version"}}
+
+
+class About(typing.NamedTuple):
+    """What the checks know of a library: its name in docs/BOUNDS.md; the program that makes its calls, with its flags; the unit of
+    its slots in words and its smallest slot in units, if it has size classes; and the calls in which no loop runs."""
+
+    short: str
+    program: str
+    flags: tuple
+    slots: tuple
+    no_loop: str
+
+
+MOST = "most_malloc most_free most_resize most_access most_has_room most_totals most_length kind version"
+LIBRARIES = {
+    "norphuen": About("cf", "worst_case.c", (), (1, 4), f"{MOST} slot_words class_of malloc free length has_room place lend return"),
+    "norphuen_nonmoving": About("nm", "worst_case.c", ("-DNPH_USE_NONMOVING",), (4, 1), f"{MOST} slot_words class_of malloc length has_room"),
+    "norphuen_tlsf": About("tlsf", "worst_case.c", ("-DNPH_USE_TLSF",), (), f"{MOST} malloc free length has_room bytes_needed place lend return"),
+    "norphuen_sliced": About("sliced", "worst_case_sliced.c", (), (1, 4),
+                             "most_malloc most_free most_step most_access most_has_room most_length version malloc free step left moving length has_room"),
+    "norphuen_tasks": About("tasks", "worst_case_tasks.c", (), (1, 4), "version malloc free length set_quota task unassigned"),
+}
 # The lengths that the notes may use (docs/BOUNDS.md).
-NAMES = "smtcwbfpnPWQ"
-# What puts a library under the short names of the header.
-USES = {"norphuen_nonmoving": ["-DNPH_USE_NONMOVING"], "norphuen_tlsf": ["-DNPH_USE_TLSF"]}
+NAMES = "smtcwbfpnqPWQS"
 failed = []
 
 
@@ -74,7 +91,7 @@ def build(room, name, library):
     Path(f"{room}/together").write_text("SECTIONS { .text : { *(.text .text.*) } }", encoding="utf-8")
     subprocess.run([f"{prefix}ld", "-r", "-T", f"{room}/together", "-o", f"{begin}.o", "--whole-archive", f"{begin}.outside.a"], check=True)
     strict = ["-std=c11", "-O2", "-Wall", "-Wextra", "-Werror", "-Iinclude"]
-    subprocess.run([compiler, *strict, *USES.get(name, []), "-static", "-no-pie", "-o", begin, "checks/worst_case.c", f"{begin}.o"], check=True)
+    subprocess.run([compiler, *strict, *LIBRARIES[name].flags, "-static", "-no-pie", "-o", begin, f"checks/{LIBRARIES[name].program}", f"{begin}.o"], check=True)
     plugin = f"{room}/count.so"
     subprocess.run(["gcc", *strict, "-shared", "-fPIC", "-o", plugin, "checks/worst_case_count.c"], check=True)
     printed = subprocess.run([f"{prefix}nm", "-n", begin], capture_output=True, text=True, check=True).stdout
@@ -102,12 +119,26 @@ def never_ran(name, library, notes, starts, ran):
                 fail(f"{name}: block {block.key} of {function.name} ran, but is left out of the bounds")
 
 
-def lengths(kind, fields, steps):
-    """The lengths of a call, by the names of the notes."""
+def class_count(slots, page_words):
+    """How many size classes a page has: each size is 9/8 of the one before, rounded up, the last one the page."""
+    unit, size = slots
+    count = 1
+    while unit * size < page_words:
+        count, size = count + 1, -(-9 * size // 8)
+    return count
+
+
+def lengths(about, kind, done, fields, steps):
+    """The lengths of a call, by the names of the notes. A refused call returns before it works on any word."""
     at = dict.fromkeys(NAMES, 0)
-    at.update({n: v for n, v in fields.items() if n in "PWQ"})
+    at.update({n: v for n, v in fields.items() if n in "PWQq"})
     at["p"] = 1 << (at["Q"] - 1).bit_length() if at["Q"] else 0
-    if kind == "free":
+    at["S"] = class_count(about.slots, at["W"]) if about.slots and at["W"] else 0
+    if kind in ("pages_needed", "admit", "least_quota"):
+        at["n"] = fields["n"]
+    if not done:
+        return at
+    if kind == "free" and "s" in fields:
         at["s"], at["m"] = fields["s"], fields["s"] if fields["moved"] else 0
     if kind == "resize":
         at["s"], at["t"] = fields["s"], min(fields["s"], fields["n"])
@@ -115,18 +146,15 @@ def lengths(kind, fields, steps):
         at["c"] = max(0, (fields["old"] + 7) // 8 - fields["bytes"] // 8)
     if kind in ("read", "write") and fields["n"]:
         at["w"] = (fields["at"] + fields["n"] - 1) // 8 - fields["at"] // 8 + 1
-        at["b"] = steps - 3 - at["w"]
-    if kind == "pages_needed":
-        at["n"] = fields["n"]
+        at["b"] = max(0, steps - 3 - at["w"])
     if kind == "totals":
         at["f"] = max(0, (steps - 3) // 2)
-    at["b"] = max(0, at["b"])
     return at
 
 
 def case_of(kind, fields):
     """The case of a call, if it has one."""
-    if kind == "free":
+    if kind == "free" and "moved" in fields:
         return "move" if fields["moved"] else "alone"
     if kind == "resize":
         return "same" if fields["s"] == fields["n"] else "move" if fields["moved"] else "alone"
@@ -136,8 +164,8 @@ def case_of(kind, fields):
 class Seen:
     """Of each kind of call the one that is nearest to its bound, the longest one, the deepest stack, and the number of calls."""
 
-    def __init__(self, bounds):
-        self.bounds, self.nearest, self.longest = bounds, {}, {}
+    def __init__(self, about, bounds):
+        self.about, self.bounds, self.nearest, self.longest, self.farthest = about, bounds, {}, {}, {}
         self.deepest, self.count, self.known = collections.Counter(), 0, {}
 
     def most(self, row, at):
@@ -159,13 +187,13 @@ class Seen:
         row = row if done and row in self.bounds else call
         self.count += 1
         self.deepest[call] = max(self.deepest[call], int(stack))
-        # A refused call has no lengths, and returns before it works on any word.
-        at = lengths(kind, fields, steps) if done else dict.fromkeys(NAMES, 0)
-        most, outside = self.most(row, at)
+        most, outside = self.most(row, lengths(self.about, kind, done, fields, steps))
         if row not in self.nearest or most * self.nearest[row][1] < self.nearest[row][0] * counted:
             self.nearest[row] = (most, counted, line.strip())
         if counted > self.longest.get(row, (0, 0))[0]:
             self.longest[row] = (counted, most)
+        if done and (row not in self.farthest or most * self.farthest[row][1] > self.farthest[row][0] * counted):
+            self.farthest[row] = (most, counted, line.strip())
         if counted > most:
             yield f"{line.strip()} takes more than its bound {most} = {tool.formula_of(self.bounds[row][0])}"
         for (what, limit), number in zip(outside, moved):
@@ -185,7 +213,7 @@ def run(command, settings, count, seed=1):
 def counted(name, library, notes, bounds, stacks, room, count):
     """What was seen in all calls, and the calls of the shown setting."""
     command, starts = build(room, name, library)
-    seen, ran, name = Seen(bounds), set(), f"{name}, {library.processor}"
+    seen, ran, name = Seen(LIBRARIES[name], bounds), set(), f"{name}, {library.processor}"
     with concurrent.futures.ThreadPoolExecutor(4) as pool:
         shown = pool.submit(run, command, SHOWN, count)
         runs = [pool.submit(run, command, settings, count, seed) for seed, settings in enumerate(SETTINGS, 1)]
@@ -207,6 +235,9 @@ def counted(name, library, notes, bounds, stacks, room, count):
             fail(f"{name}: no call of {row} is near its bound; the nearest has {most}: {line}")
         if "SHOW" in os.environ:
             print(f"{name} {row}: {most / number if number else 0:.3f} {most} {line}")
+    most, number, line = seen.farthest["nph_open"]
+    if most > NEAR_OPEN * number:
+        fail(f"{name}: an opening is far from its bound {most}: {line}")
     for export, stack in stacks.items():
         less = stack - seen.deepest[export]
         if less < 0 or less > UNUSED[library.processor] and (library.name, library.processor, export) not in SHALLOW:
@@ -246,7 +277,7 @@ def mutations(name, library, room, lines):
         """Whether a counted call is above the bound of the changed notes."""
         write(number, change)
         found = tool.Bounds(library, tool.Notes(str(file), library.processor))
-        seen = Seen({row: tool.split_cost(cost) for row, cost in found.bounds().items()})
+        seen = Seen(LIBRARIES[name], {row: tool.split_cost(cost) for row, cost in found.bounds().items()})
         return not found.problems and any(text for line in lines for text in seen.take(line))
 
     def put(place):
@@ -324,7 +355,6 @@ def clauses(name, notes):
                 fail(f"{name}: a note of {function}, block {place}, trusts {' '.join(words)} of {where}, which is not there")
 
 
-SHORT = {"norphuen": "cf", "norphuen_nonmoving": "nm", "norphuen_tlsf": "tlsf"}
 # The steps of docs/BOUNDS.md, by the contracts: of a call in each library, or in one. The other calls count none.
 STEPS = {
     "class_of": "1", "figures": "0", "last_steps": "0", "lend": "0", "place": "1", "return": "0",
@@ -338,12 +368,17 @@ STEPS = {
     **{("tlsf", call): steps for call, steps in {
         "malloc": "25", "free": "41 + s", "resize": "1", "read": "2 + w", "write": "2 + w", "length": "2", "has_room": "4",
         "totals": "3 + 2f"}.items()},
+    **{("sliced", call): steps for call, steps in {
+        "malloc": "17", "free": "23 + q", "step": "15 + q", "left": "0", "moving": "0", "read": "2 + w", "write": "2 + w", "length": "2",
+        "has_room": "1"}.items()},
+    **{("tasks", call): steps for call, steps in {
+        "malloc": "17", "free, alone": "20 + s", "free, move": "20 + s", "read": "2 + w", "write": "2 + w", "length": "2"}.items()},
 }
 
 
-def cells_of(bounds, stacks, lines):
+def cells_of(about, bounds, stacks, lines):
     """Of each call its cells in docs/BOUNDS.md: instructions, the longest call seen with its bound if that varies, stack."""
-    seen, cells = Seen(bounds), {}
+    seen, cells = Seen(about, bounds), {}
     for line in lines:
         for _ in seen.take(line):
             pass
@@ -396,7 +431,7 @@ Sums of the code that was bounded, which `tools/worst_case` prints:
 
 def steps_of(name, call):
     """The steps of a call, by its contract: those of its own library, or those of each."""
-    return STEPS.get((SHORT[name], call), STEPS.get(call, ""))
+    return STEPS.get((LIBRARIES[name].short, call), STEPS.get(call, ""))
 
 
 def rows_of(name, cells):
@@ -406,7 +441,7 @@ def rows_of(name, cells):
         found = [it for processor in tool.PROCESSORS for it in cells[name, processor].get(call, ("",) * 3)]
         rows.setdefault((steps_of(name, call), *found, call if "," in call else ""), []).append(call)
     for (*found, _), calls in rows.items():
-        yield " | ".join([f"| `{SHORT[name]}`", ", ".join(calls), *found]) + " |\n"
+        yield " | ".join([f"| `{LIBRARIES[name].short}`", ", ".join(calls), *found]) + " |\n"
 
 
 def document(cells, codes, writes):
@@ -440,14 +475,14 @@ def main():
             allocator = {export for export, row in table.items() if row["allocator"]}
             if allocator != tool.MAY_ALLOCATE:
                 fail(f"{name}, {processor}: a path leads to the allocator from {sorted(allocator)}")
-            looping = NO_LOOP[name] & {export for export, row in table.items() if row["running loops"]}
-            if looping:
-                fail(f"{name}, {processor}: {sorted(looping)[0]} has a loop")
+            for call in LIBRARIES[name].no_loop.split():
+                if table.get(f"nph_{call}", {"running loops": 0})["running loops"]:
+                    fail(f"{name}, {processor}: {call} has a loop")
             stacks = {export: row["stack"] for export, row in table.items()}
             seen, lines = counted(name, library, notes, bounds, stacks, room, int(count))
             total += seen.count
             codes[name, processor] = library.code
-            cells[name, processor] = cells_of(bounds, stacks, lines)
+            cells[name, processor] = cells_of(LIBRARIES[name], bounds, stacks, lines)
             wrong += mutations(name, library, room, lines)
             clauses(name, notes)
     wrong += unbounded(room)
