@@ -2,8 +2,10 @@
  * (worst_case.h). */
 #include "worst_case.h"
 
-/* Only a library that lends has these. */
-#ifdef NPH_USE_NONMOVING
+/* checks/worst_case.py defines HAS_CALL for each call that the library has. */
+#ifdef HAS_lend
+enum { LENDS = 1 };
+#else
 enum { LENDS = 0 };
 #undef nph_place
 #undef nph_lend
@@ -11,11 +13,11 @@ enum { LENDS = 0 };
 #define nph_place NULL
 #define nph_lend NULL
 #define nph_return NULL
-#else
-enum { LENDS = 1 };
 #endif
 /* Only a library with pages has these. */
-#ifdef NPH_USE_TLSF
+#ifdef HAS_pages_needed
+enum { PAGED = 1 };
+#else
 enum { PAGED = 0 };
 #undef nph_slot_words
 #undef nph_class_of
@@ -23,8 +25,6 @@ enum { PAGED = 0 };
 #define nph_slot_words NULL
 #define nph_class_of NULL
 #define nph_pages_needed NULL
-#else
-enum { PAGED = 1 };
 #endif
 
 enum { LIVE = 1024 };
@@ -230,7 +230,7 @@ int main(int argc, char **argv) {
         for (uint32_t n = 0; n < 64; n++) needs[n].bytes = (uint32_t)settings[1] - 8;
         call_with(settings[1], "pages_needed", (void *)nph_pages_needed, settings[2], (uint64_t)needs, 64, (uint64_t)&found), printf(" n 64 W %" PRIu32 "\n", page_words);
     }
-    if (open_or_close(true, settings) != NPH_OK) return 1;
+    OPEN_WITH_LITTLE(open_or_close(true, settings));
     draw_calls(strtoull(argv[2], NULL, 10));
     long_calls();
     while (live) release(live - 1);

@@ -28,6 +28,9 @@ volatile uint64_t instructions, ran[1 << 16];
 /* Calls and bytes of memcpy, memmove and memset, in one call of the library. */
 static uint64_t copied[3][2];
 
+/* How many blocks the allocator hands out before it is out of memory. */
+static uint32_t allocations_left = UINT32_MAX;
+
 /* The steps of the last call; 0 if the heap is closed. */
 static uint64_t last_steps(void);
 
@@ -59,7 +62,11 @@ OUTSIDE(memcpy) OUTSIDE(memmove) OUTSIDE(memset) OUTSIDE(rattle_alloc) OUTSIDE(r
 void *real_memcpy(void *to, const void *from, size_t n) { copied[0][0]++, copied[0][1] += n; return memcpy(to, from, n); }
 void *real_memmove(void *to, const void *from, size_t n) { copied[1][0]++, copied[1][1] += n; return memmove(to, from, n); }
 void *real_memset(void *to, int byte, size_t n) { copied[2][0]++, copied[2][1] += n; return memset(to, byte, n); }
-nph_block real_rattle_alloc(size_t bytes, size_t align) { nph_block b = {true, aligned_alloc(16, (bytes + 16) & ~(size_t)15)}; (void)align; return b; }
+nph_block real_rattle_alloc(size_t bytes, size_t align) {
+    if (!allocations_left) return (nph_block){false, (void *)align};
+    allocations_left--;
+    return (nph_block){true, aligned_alloc(16, (bytes + 16) & ~(size_t)15)};
+}
 nph_block real_rattle_realloc(void *at, size_t kept, size_t bytes, size_t align) {
     nph_block b = {true, realloc(at, bytes + 16)};
     (void)kept, (void)align;
@@ -98,6 +105,15 @@ static uint64_t drawn(uint64_t below) {
     z = (z ^ (z >> 27)) * 0x94d049bb133111ebu;
     return (z ^ (z >> 31)) % below;
 }
+
+/* Opens the heap by this call again and again, at first without memory, each time with memory for one block more. */
+#define OPEN_WITH_LITTLE(open) \
+    for (uint32_t blocks = 0, code = NPH_MEMORY; code == NPH_MEMORY; blocks++) { \
+        allocations_left = blocks; \
+        code = (uint32_t)(open); \
+        if (code != NPH_MEMORY && code != NPH_OK) exit(1); \
+    } \
+    allocations_left = UINT32_MAX
 
 /* A size that often fills a slot of a small or of a large class of a page of this many words. */
 static uint32_t size_for(uint32_t page_words) {

@@ -15,10 +15,12 @@ ARCHIVES has NAME.PROCESSOR.a for each library and processor. --write writes doc
 """
 import collections
 import concurrent.futures
+import functools
 import importlib.machinery
 import importlib.util
 import os
 import re
+import shutil
 import subprocess
 import sys
 import typing
@@ -67,6 +69,8 @@ LIBRARIES = {
                              "most_malloc most_free most_step most_access most_has_room most_length version malloc free step left moving length has_room"),
     "norphuen_tasks": About("tasks", "worst_case_tasks.c", (), (1, 4), "version malloc free length set_quota task unassigned"),
 }
+# Libraries that have no notes and so no bounds, which docs/BOUNDS.md says.
+NO_NOTES = []
 # The lengths that the notes may use (docs/BOUNDS.md).
 NAMES = "smtcwbfpnqPWQS"
 failed = []
@@ -91,7 +95,8 @@ def build(room, name, library):
     Path(f"{room}/together").write_text("SECTIONS { .text : { *(.text .text.*) } }", encoding="utf-8")
     subprocess.run([f"{prefix}ld", "-r", "-T", f"{room}/together", "-o", f"{begin}.o", "--whole-archive", f"{begin}.outside.a"], check=True)
     strict = ["-std=c11", "-O2", "-Wall", "-Wextra", "-Werror", "-Iinclude"]
-    subprocess.run([compiler, *strict, *LIBRARIES[name].flags, "-static", "-no-pie", "-o", begin, f"checks/{LIBRARIES[name].program}", f"{begin}.o"], check=True)
+    has = [f"-DHAS_{export.removeprefix('nph_')}" for export in library.exports]
+    subprocess.run([compiler, *strict, *LIBRARIES[name].flags, *has, "-static", "-no-pie", "-o", begin, f"checks/{LIBRARIES[name].program}", f"{begin}.o"], check=True)
     plugin = f"{room}/count.so"
     subprocess.run(["gcc", *strict, "-shared", "-fPIC", "-o", plugin, "checks/worst_case_count.c"], check=True)
     printed = subprocess.run([f"{prefix}nm", "-n", begin], capture_output=True, text=True, check=True).stdout
@@ -165,7 +170,7 @@ class Seen:
     """Of each kind of call the one that is nearest to its bound, the longest one, the deepest stack, and the number of calls."""
 
     def __init__(self, about, bounds):
-        self.about, self.bounds, self.nearest, self.longest, self.farthest = about, bounds, {}, {}, {}
+        self.about, self.bounds, self.nearest, self.longest, self.opened = about, bounds, {}, {}, {}
         self.deepest, self.count, self.known = collections.Counter(), 0, {}
 
     def most(self, row, at):
@@ -192,8 +197,9 @@ class Seen:
             self.nearest[row] = (most, counted, line.strip())
         if counted > self.longest.get(row, (0, 0))[0]:
             self.longest[row] = (counted, most)
-        if done and (row not in self.farthest or most * self.farthest[row][1] > self.farthest[row][0] * counted):
-            self.farthest[row] = (most, counted, line.strip())
+        if kind == "open" and fields["Q"]:
+            settings = (fields["P"], fields["W"], fields["Q"])
+            self.opened[settings] = max(self.opened.get(settings, (0, 0)), (counted, most))
         if counted > most:
             yield f"{line.strip()} takes more than its bound {most} = {tool.formula_of(self.bounds[row][0])}"
         for (what, limit), number in zip(outside, moved):
@@ -235,9 +241,9 @@ def counted(name, library, notes, bounds, stacks, room, count):
             fail(f"{name}: no call of {row} is near its bound; the nearest has {most}: {line}")
         if "SHOW" in os.environ:
             print(f"{name} {row}: {most / number if number else 0:.3f} {most} {line}")
-    most, number, line = seen.farthest["nph_open"]
-    if most > NEAR_OPEN * number:
-        fail(f"{name}: an opening is far from its bound {most}: {line}")
+    for (pages, words, proxies), (number, most) in seen.opened.items():
+        if most > NEAR_OPEN * number:
+            fail(f"{name}: the longest opening of {pages} pages of {words} words with {proxies} proxies takes {number}, its bound is {most}")
     for export, stack in stacks.items():
         less = stack - seen.deepest[export]
         if less < 0 or less > UNUSED[library.processor] and (library.name, library.processor, export) not in SHALLOW:
@@ -340,8 +346,21 @@ def unbounded(room):
     return len(UNBOUNDED) * len(MACHINES)
 
 
+@functools.cache
+def sources_of(crate):
+    """The text of a crate of the repository, or of the kit; None if it is the kit's and there is no kit."""
+    folder = Path(f"crates/{crate}/src")
+    if not folder.is_dir():
+        if not shutil.which("rt"):
+            return None
+        kit = Path(subprocess.run(["rt", "doc"], capture_output=True, text=True, check=True).stdout.split("\n")[0]).parent
+        folder = kit / "rattle" / crate / "src"
+    return "\n".join(path.read_text(encoding="utf-8") for path in folder.glob("**/*.rt"))
+
+
 def clauses(name, notes):
-    """Each clause that a note trusts is one of the function that it names, and the header has the words of a duty."""
+    """Each clause that a note trusts is one of the function that it names, and the header has the words of a duty. Without a kit
+    its clauses are not looked up."""
     for function, note in notes.functions.items():
         for place, (_, (where, *words)) in [*note["never"].items(), *note["jump"].items()]:
             if "/" in where:
@@ -349,8 +368,8 @@ def clauses(name, notes):
                 found = all(word in text for word in words)
             else:
                 trusted, label = words
-                sources = "\n".join(path.read_text(encoding="utf-8") for path in Path(f"crates/{where}/src").glob("**/*.rt"))
-                found = any(re.search(rf"^ *(requires|ensures) {label} ", part.partition("fn ")[0], re.M) for part in re.split(rf"fn {trusted}\b", sources)[1:])
+                sources = sources_of(where)
+                found = sources is None or any(re.search(rf"^ *(requires|ensures) {label} ", part.partition("fn ")[0], re.M) for part in re.split(rf"fn {trusted}\b", sources)[1:])
             if not found:
                 fail(f"{name}: a note of {function}, block {place}, trusts {' '.join(words)} of {where}, which is not there")
 
@@ -377,8 +396,9 @@ STEPS = {
 
 
 def cells_of(about, bounds, stacks, lines):
-    """Of each call its cells in docs/BOUNDS.md: instructions, the longest call seen with its bound if that varies, stack."""
-    seen, cells = Seen(about, bounds), {}
+    """Of each call its cells in docs/BOUNDS.md: instructions, the longest call seen with its bound if that varies, stack. And the
+    calls of which none comes near the bound."""
+    seen, cells, far = Seen(about, bounds), {}, set()
     for line in lines:
         for _ in seen.take(line):
             pass
@@ -389,9 +409,14 @@ def cells_of(about, bounds, stacks, lines):
             bound = tool.formula_of(own).replace("*", "")
             longest = f"{number:,}" if bound.isdigit() else f"{number:,} of {most:,}"
             cells[call] = (bound, longest, f"{stacks[row.split()[0]]:,}")
-    return cells
+            if most > NEAR * number:
+                far.add((about.short, call))
+    return cells, far
 
 
+# Why the longest call that was seen in the shown setting is not within NEAR of its bound.
+FAR = {
+}
 # docs/BOUNDS.md in front of its tables, and between the two.
 HEAD = """`checks/worst_case --write` writes this page, and `checks/worst_case` compares it.
 
@@ -401,7 +426,7 @@ HEAD = """`checks/worst_case --write` writes this page, and `checks/worst_case` 
 
 - "Longest": the longest call seen on 16 pages of 16 KiB with k = 1 and 4,096 proxies, and the bound for its lengths if the bound varies.
 - "Stack": bytes, with return addresses.
-- `cf` is `libnorphuen.a`, `nm` is `libnorphuen_nonmoving.a`, `tlsf` is `libnorphuen_tlsf.a`.
+- `cf` is `libnorphuen.a`, `nm` is `libnorphuen_nonmoving.a`, `tlsf` is `libnorphuen_tlsf.a`, `sliced` is `libnorphuen_sliced.a`, `tasks` is `libnorphuen_tasks.a`.
 - A free or resize moves no other object ("alone"), or one ("move"). A resize keeps its slot ("same"), or takes another.
 
 | letter | counts |
@@ -414,12 +439,17 @@ HEAD = """`checks/worst_case --write` writes this page, and `checks/worst_case` 
 | w | words that contain one of the bytes |
 | b | blocks of four words that contain the r or w words |
 | f | free blocks |
-| n | needs of `nph_pages_needed` |
-| P, W | pages, words of a page |
-| Q, p | proxies, rounded up to a power of two |
+| n | needs that the call is passed |
+| q | words of the quantum |
+| P, W, S | pages, words and size classes of a page |
+| Q, p | proxies, of each task if there are tasks, rounded up to a power of two |
 
 | library | call | steps | instructions, x86-64 | longest | stack | instructions, ARM64 | longest | stack |
 |---|---|---|---|---|---|---|---|---|
+"""
+WHY = """
+Where the longest call is not within a tenth of the bound:
+
 """
 SUMS = """
 Sums of the code that was bounded, which `tools/worst_case` prints:
@@ -448,7 +478,9 @@ def document(cells, codes, writes):
     """Compares docs/BOUNDS.md, or writes it."""
     path = Path("docs/BOUNDS.md")
     sums = [" | ".join([f"| `lib{name}.a`", *(codes[name, processor] for processor in tool.PROCESSORS)]) + " |\n" for name in LIBRARIES]
-    whole = "".join([HEAD, *(row for name in LIBRARIES for row in rows_of(name, cells)), SUMS, *sums])
+    lacking = [f"\nNo bounds are computed of `lib{name}.a`.\n" for name in NO_NOTES]
+    why = [f"- `{short}` {call}: {reason}\n" for (short, call), reason in FAR.items()]
+    whole = "".join([HEAD, *(row for name in LIBRARIES for row in rows_of(name, cells)), *([WHY, *why] if why else []), *lacking, SUMS, *sums])
     if writes:
         path.write_text(whole, encoding="utf-8")
         subprocess.run(["tools/index", "--write"], check=True)  # docs/CALLS.md has the steps too
@@ -462,7 +494,9 @@ def document(cells, codes, writes):
 
 def main():
     room, count, archives, *rest = sys.argv[1:]
-    cells, codes, total, wrong = {}, {}, 0, 0
+    cells, codes, far, total, wrong = {}, {}, set(), 0, 0
+    for name in sorted(set(re.findall(r"^(norphuen\w*) staticlib:", Path("crates.txt").read_text(encoding="utf-8"), re.M)) ^ {*LIBRARIES, *NO_NOTES}):
+        fail(f"{name} is a library of crates.txt, or of LIBRARIES or NO_NOTES, but not of both")
     for name in LIBRARIES:
         for processor in tool.PROCESSORS:
             library = tool.Library(f"{archives}/{name}.{processor}.a", name)
@@ -476,16 +510,19 @@ def main():
             if allocator != tool.MAY_ALLOCATE:
                 fail(f"{name}, {processor}: a path leads to the allocator from {sorted(allocator)}")
             for call in LIBRARIES[name].no_loop.split():
-                if table.get(f"nph_{call}", {"running loops": 0})["running loops"]:
-                    fail(f"{name}, {processor}: {call} has a loop")
+                if table.get(f"nph_{call}", {"running loops": 1})["running loops"]:
+                    fail(f"{name}, {processor}: {call} has a loop, or is not there")
             stacks = {export: row["stack"] for export, row in table.items()}
             seen, lines = counted(name, library, notes, bounds, stacks, room, int(count))
             total += seen.count
             codes[name, processor] = library.code
-            cells[name, processor] = cells_of(LIBRARIES[name], bounds, stacks, lines)
+            cells[name, processor], more = cells_of(LIBRARIES[name], bounds, stacks, lines)
+            far |= more
             wrong += mutations(name, library, room, lines)
             clauses(name, notes)
     wrong += unbounded(room)
+    for short, call in sorted(far ^ FAR.keys()):
+        fail(f"the longest {call} of {short} is not near its bound, or FAR should not say why")
     document(cells, codes, bool(rest))
     if failed:
         sys.exit(1)

@@ -159,13 +159,11 @@ static void long_calls(void) {
     release_all();
 }
 
-static void open_or_close(bool opens, const uint64_t *settings) {
-    if (opens) {
-        if (ON_HEAP(open, settings[0], settings[1], settings[3], quantum) != NPH_OK) exit(1);
-    } else {
-        make_call("close", (void *)nph_sliced_close, (uint64_t[6]){(uint64_t)&heap}, false);
-    }
+static int32_t open_or_close(bool opens, const uint64_t *settings) {
+    int32_t code = opens ? ON_HEAP(open, settings[0], settings[1], settings[3], quantum)
+                         : make_call("close", (void *)nph_sliced_close, (uint64_t[6]){(uint64_t)&heap}, false);
     printf(" P %" PRIu64 " W %" PRIu32 " Q %" PRIu64 "\n", settings[0], page_words, settings[3]);
+    return code;
 }
 
 /* Calls that a closed heap refuses. */
@@ -181,7 +179,7 @@ int main(int argc, char **argv) {
     page_words = (uint32_t)settings[1] / 8, quantum = (uint32_t)settings[4];
     refused();
     CALL("bytes_needed", nph_sliced_bytes_needed, settings[0], settings[1], settings[3], (uint64_t)&needed), printf(" W %" PRIu32 "\n", page_words);
-    open_or_close(true, settings);
+    OPEN_WITH_LITTLE(open_or_close(true, settings));
     draw_calls(strtoull(argv[2], NULL, 10));
     long_calls();
     release_all();

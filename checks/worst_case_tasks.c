@@ -78,12 +78,13 @@ static void ask(uint32_t t) {
     ASK(version, 0);
 }
 
-/* Plans with `n` needs. They are of objects that have a page each, or of drawn lengths, of which some are equal. */
+/* Plans with `n` needs, which are of drawn lengths, or all of a page: then each is compared with all sizes, and since but the first
+ * are of no object, the quota is enough. */
 static void plan(uint32_t t, uint32_t n, bool drawn_lengths) {
     static nph_need needs[NEEDS + 1];
     uint32_t pages;
     for (uint32_t i = 0; i < n; i++) {
-        needs[i] = (nph_need){page_words * 8 - 8, 1};
+        needs[i] = (nph_need){page_words * 8 - 8, i == 0};
         if (drawn_lengths) needs[i] = (nph_need){(uint32_t)drawn(500), (uint32_t)drawn(4)};
     }
     ON_HEAP(least_quota, (uint64_t)needs, n, (uint64_t)&pages), printf(" n %" PRIu32 " W %" PRIu32 "\n", n, page_words);
@@ -140,13 +141,11 @@ static void long_calls(uint32_t t, uint32_t pages) {
     plan(t, NEEDS + 1, true);
 }
 
-static void open_or_close(bool opens, const uint64_t *settings) {
-    if (opens) {
-        if (ON_HEAP(open, settings[0], settings[1], settings[3]) != NPH_OK) exit(1);
-    } else {
-        make_call("close", (void *)nph_tasks_close, (uint64_t[6]){(uint64_t)&heap}, false);
-    }
+static int32_t open_or_close(bool opens, const uint64_t *settings) {
+    int32_t code = opens ? ON_HEAP(open, settings[0], settings[1], settings[3])
+                         : make_call("close", (void *)nph_tasks_close, (uint64_t[6]){(uint64_t)&heap}, false);
     printf(" P %" PRIu64 " W %" PRIu32 " Q %" PRIu64 "\n", settings[0], page_words, settings[3]);
+    return code;
 }
 
 /* Calls that a closed heap, or one without such a task, refuses. */
@@ -162,7 +161,7 @@ int main(int argc, char **argv) {
     page_words = (uint32_t)settings[1] / 8;
     refused(0);
     CALL("bytes_needed", nph_tasks_bytes_needed, settings[0], settings[1], settings[3], (uint64_t)&needed), printf(" W %" PRIu32 "\n", page_words);
-    open_or_close(true, settings);
+    OPEN_WITH_LITTLE(open_or_close(true, settings));
     refused(TASKS);
     for (uint32_t t = 0; t < TASKS; t++) set_quota(t, (uint32_t)settings[0] / TASKS + (t < 2));
     draw_calls(strtoull(argv[2], NULL, 10), (uint32_t)settings[0]);
