@@ -1,22 +1,11 @@
-/* Makes calls on a library and prints for each its instructions and its stack. checks/worst_case compares them with the
- * bounds that tools/worst_case computes.
- *
- *   program SEED COUNT PAGES PAGEBYTES K PROXIES
- *
- * It runs under qemu, for x86-64 or ARM64. The plugin worst_case_count.c adds 1 to `instructions` for each instruction of
- * the library that runs. A line of output has a call, its code, the instructions, the bytes of stack, the steps, and what
- * its lengths follow from. The calls run on a stack of their own, which is painted before. The functions outside of the
- * library run on the stack of main. After COUNT drawn calls it makes those that are made to be long. Lines `ran OFFSET`
- * come last, for each instruction of the library that ran. */
-#include "norphuen.h"
+/* The calls of the libraries for one caller, which checks/worst_case counts under the bounds that tools/worst_case computes
+ * (worst_case.h). */
+#include "worst_case.h"
 
-#include <inttypes.h>
-#include <stdio.h>
-#include <stdlib.h>
-#include <string.h>
-
-/* Only a library that lends has these. */
-#ifdef NPH_USE_NONMOVING
+/* checks/worst_case.py defines HAS_CALL for each call that the library has. */
+#ifdef HAS_lend
+enum { LENDS = 1 };
+#else
 enum { LENDS = 0 };
 #undef nph_place
 #undef nph_lend
@@ -24,11 +13,11 @@ enum { LENDS = 0 };
 #define nph_place NULL
 #define nph_lend NULL
 #define nph_return NULL
-#else
-enum { LENDS = 1 };
 #endif
 /* Only a library with pages has these. */
-#ifdef NPH_USE_TLSF
+#ifdef HAS_pages_needed
+enum { PAGED = 1 };
+#else
 enum { PAGED = 0 };
 #undef nph_slot_words
 #undef nph_class_of
@@ -36,90 +25,26 @@ enum { PAGED = 0 };
 #define nph_slot_words NULL
 #define nph_class_of NULL
 #define nph_pages_needed NULL
-#else
-enum { PAGED = 1 };
 #endif
 
-enum { STACK = 1 << 14, LIVE = 1024 };
-static const unsigned char paints[2] = {0xa5, 0x5a};
-static _Alignas(16) unsigned char stack[STACK];
+enum { LIVE = 1024 };
 static nph_heap heap = NPH_HEAP;
-static uint64_t state;
 static uint32_t handles[LIVE], lengths[LIVE], live, page_words;
-static uint8_t buffer[1 << 17];
-static int paint;
-/* The plugin writes here: the instructions, and how often each one ran, by its distance from the library's first byte. */
-volatile uint64_t instructions, ran[1 << 16];
-/* Calls and bytes of memcpy, memmove and memset, in one call of the library. */
-static uint64_t copied[3][2];
 
-/* What the trampoline reads and writes: a function, its arguments, the stack pointers where the painted stack begins, of
- * main, and of the library, and a return address. */
-struct trampoline { uint64_t function, arguments[5], top, outer, inner, back; } trampoline;
-int32_t call_on_stack(void);
-
-#if defined(__x86_64__)
-__asm__(".text\ncall_on_stack:\n"
-        " push %rbx\n lea trampoline(%rip), %rbx\n mov %rsp, 56(%rbx)\n mov 48(%rbx), %rsp\n"
-        " mov 8(%rbx), %rdi\n mov 16(%rbx), %rsi\n mov 24(%rbx), %rdx\n mov 32(%rbx), %rcx\n mov 40(%rbx), %r8\n"
-        " call *(%rbx)\n mov trampoline+56(%rip), %rsp\n pop %rbx\n ret\n");
-#define OUTSIDE(name) \
-    __asm__(".globl outside_" #name "\noutside_" #name ":\n mov %rsp, trampoline+64(%rip)\n mov trampoline+56(%rip), %rsp\n" \
-            " call real_" #name "\n mov trampoline+64(%rip), %rsp\n ret\n");
-#elif defined(__aarch64__)
-#define AT " adrp x9, trampoline\n add x9, x9, :lo12:trampoline\n"
-__asm__(".text\ncall_on_stack:\n stp x29, x30, [sp, #-16]!\n" AT
-        " mov x10, sp\n str x10, [x9, #56]\n ldr x10, [x9, #48]\n mov sp, x10\n"
-        " ldp x11, x0, [x9]\n ldp x1, x2, [x9, #16]\n ldp x3, x4, [x9, #32]\n blr x11\n" AT
-        " ldr x10, [x9, #56]\n mov sp, x10\n ldp x29, x30, [sp], #16\n ret\n");
-#define OUTSIDE(name) \
-    __asm__(".globl outside_" #name "\noutside_" #name ":\n" AT " mov x10, sp\n stp x10, x30, [x9, #64]\n ldr x10, [x9, #56]\n mov sp, x10\n" \
-            " bl real_" #name "\n" AT " ldp x10, x30, [x9, #64]\n mov sp, x10\n ret\n");
-#endif
-OUTSIDE(memcpy) OUTSIDE(memmove) OUTSIDE(memset) OUTSIDE(rattle_alloc) OUTSIDE(rattle_realloc) OUTSIDE(rattle_dealloc)
-
-void *real_memcpy(void *to, const void *from, size_t n) { copied[0][0]++, copied[0][1] += n; return memcpy(to, from, n); }
-void *real_memmove(void *to, const void *from, size_t n) { copied[1][0]++, copied[1][1] += n; return memmove(to, from, n); }
-void *real_memset(void *to, int byte, size_t n) { copied[2][0]++, copied[2][1] += n; return memset(to, byte, n); }
-nph_block real_rattle_alloc(size_t bytes, size_t align) { nph_block b = {true, aligned_alloc(16, (bytes + 16) & ~(size_t)15)}; (void)align; return b; }
-nph_block real_rattle_realloc(void *at, size_t kept, size_t bytes, size_t align) {
-    nph_block b = {true, realloc(at, bytes + 16)};
-    (void)kept, (void)align;
-    return b;
-}
-void real_rattle_dealloc(void *at) { free(at); }
-
-/* Makes a call of the library, and prints the first words of its line. */
-static int32_t call_with(uint64_t first, const char *name, void *function, uint64_t a, uint64_t b, uint64_t c, uint64_t d) {
-    uint64_t steps = 0, counted, moved[3][2];
-    unsigned char *low = stack, *top = stack + STACK - 64;
-    int32_t code;
-    trampoline = (struct trampoline){(uint64_t)function, {first, a, b, c, d}, (uint64_t)top, 0, 0, 0};
-    instructions = 0;
-    memset(copied, 0, sizeof copied);
-    code = call_on_stack();
-    counted = instructions;
-    memcpy(moved, copied, sizeof moved);
-    for (uint64_t word; low < top && (memcpy(&word, low, 8), word == paints[paint] * 0x0101010101010101u);) low += 8;
-    while (low < top && *low == paints[paint]) low++;
-    paint ^= 1;
-    memset(stack, paints[paint], STACK);
+static uint64_t last_steps(void) {
+    uint64_t steps = 0;
     if (heap.is_open && nph_last_steps(&heap, &steps) != NPH_OK) exit(1);
-    printf("%s %" PRId32 " %" PRIu64 " %d %" PRIu64, name, function == (void *)nph_close ? 0 : code, counted, (int)(top - low), steps);
-    for (int i = 0; i < 3; i++) printf(" %" PRIu64 " %" PRIu64, moved[i][0], moved[i][1]);
-    return code;
+    return steps;
+}
+
+/* Makes a call whose first argument is this number. */
+static int32_t call_with(uint64_t first, const char *name, void *function, uint64_t a, uint64_t b, uint64_t c, uint64_t d) {
+    return make_call(name, function, (uint64_t[6]){first, a, b, c, d}, function != (void *)nph_close);
 }
 
 /* The same for a call on the heap. */
 static int32_t call(const char *name, void *function, uint64_t a, uint64_t b, uint64_t c, uint64_t d) {
     return call_with((uint64_t)&heap, name, function, a, b, c, d);
-}
-
-static uint64_t drawn(uint64_t below) {
-    uint64_t z = state += 0x9e3779b97f4a7c15u;
-    z = (z ^ (z >> 30)) * 0xbf58476d1ce4e5b9u;
-    z = (z ^ (z >> 27)) * 0x94d049bb133111ebu;
-    return (z ^ (z >> 31)) % below;
 }
 
 static int32_t make(uint32_t bytes) {
@@ -219,11 +144,7 @@ static void lend(uint32_t handle) {
 
 static void ask(uint32_t i) { ask_handle(handles[i]), lend(handles[i]), ask_heap(); }
 
-/* A size that often fills a slot of a small or of a large class. */
-static uint32_t size(void) {
-    uint64_t most = page_words * 8 - 8, part = 1 + drawn(16);
-    return (uint32_t)(drawn(4) ? drawn(most / part + 1) : most / part);
-}
+static uint32_t size(void) { return size_for(page_words); }
 
 static void draw_calls(uint64_t count) {
     for (uint64_t n = 0; n < count; n++) {
@@ -294,30 +215,26 @@ static int32_t open_or_close(bool opens, const uint64_t *settings) {
 }
 
 int main(int argc, char **argv) {
-    uint64_t settings[4];
-    if (argc != 7) return 1;
-    state = strtoull(argv[1], NULL, 10);
-    for (int i = 0; i < 4; i++) settings[i] = strtoull(argv[3 + i], NULL, 10);
+    uint64_t settings[5];
+    begin(argc, argv, settings);
     page_words = (uint32_t)settings[1] / 8;
-    memset(stack, paints[paint], STACK);
     refused(0);
     nph_needed needed;
-    call_with(settings[0], "bytes_needed", (void *)nph_bytes_needed, settings[1], settings[2], settings[3], (uint64_t)&needed), puts("");
+    call_with(settings[0], "bytes_needed", (void *)nph_bytes_needed, settings[1], settings[2], settings[3], (uint64_t)&needed), printf(" W %" PRIu32 "\n", page_words);
     if (PAGED) {
         static nph_need needs[64];
         uint32_t found;
         for (uint32_t n = 0; n < 64; n++) needs[n] = (nph_need){(37 * n + 1) % 500, 1 + n % 3};
-        for (uint64_t n = 0; n <= 64; n += 16) call_with(settings[1], "pages_needed", (void *)nph_pages_needed, settings[2], (uint64_t)needs, n, (uint64_t)&found), printf(" n %" PRIu64 "\n", n);
+        for (uint64_t n = 0; n <= 64; n += 16) call_with(settings[1], "pages_needed", (void *)nph_pages_needed, settings[2], (uint64_t)needs, n, (uint64_t)&found), printf(" n %" PRIu64 " W %" PRIu32 "\n", n, page_words);
         /* Each object has a page: so each need is compared with all sizes. */
         for (uint32_t n = 0; n < 64; n++) needs[n].bytes = (uint32_t)settings[1] - 8;
-        call_with(settings[1], "pages_needed", (void *)nph_pages_needed, settings[2], (uint64_t)needs, 64, (uint64_t)&found), puts(" n 64");
+        call_with(settings[1], "pages_needed", (void *)nph_pages_needed, settings[2], (uint64_t)needs, 64, (uint64_t)&found), printf(" n 64 W %" PRIu32 "\n", page_words);
     }
-    if (open_or_close(true, settings) != NPH_OK) return 1;
+    OPEN_WITH_LITTLE(open_or_close(true, settings));
     draw_calls(strtoull(argv[2], NULL, 10));
     long_calls();
     while (live) release(live - 1);
     open_or_close(false, settings);
-    for (size_t at = 0; at < sizeof ran / sizeof *ran; at++)
-        if (ran[at]) printf("ran %zx\n", at);
+    print_ran();
     return 0;
 }

@@ -15,12 +15,15 @@ ARCHIVES has NAME.PROCESSOR.a for each library and processor. --write writes doc
 """
 import collections
 import concurrent.futures
+import functools
 import importlib.machinery
 import importlib.util
 import os
 import re
+import shutil
 import subprocess
 import sys
+import typing
 from fractions import Fraction
 from pathlib import Path
 
@@ -31,27 +34,45 @@ loader = importlib.machinery.SourceFileLoader("worst_case", str(TOP / "tools/wor
 tool = importlib.util.module_from_spec(importlib.util.spec_from_loader("worst_case", loader))
 loader.exec_module(tool)
 
-LIBRARIES = ["norphuen", "norphuen_nonmoving", "norphuen_tlsf"]
-# PAGES, PAGEBYTES, K, PROXIES
-SETTINGS = [(16, 512, 1, 64), (8, 512, 3, 16), (24, 2048, 2, 200), (16, 4096, 1, 256), (4, 16384, 1, 64), (3, 131072, 1, 32)]
+# PAGES, PAGEBYTES, K, PROXIES, QUANTUM
+SETTINGS = [(16, 512, 1, 64, 7), (8, 512, 3, 16, 64), (24, 2048, 2, 200, 30), (16, 4096, 1, 256, 1000), (4, 16384, 1, 64, 1), (3, 131072, 1, 32, 16384)]
 # The setting of the column "longest seen".
-SHOWN = (16, 16384, 1, 4096)
+SHOWN = (16, 16384, 1, 4096, 256)
 NEAR = Fraction(11, 10)
+# With each of the settings the bound of an opening is within this of what was seen.
+NEAR_OPEN = Fraction(12, 10)
 # A frame on ARM64 is a multiple of 16 bytes, the lowest of which may be unused.
 UNUSED = {tool.X86: 0, tool.ARM: 8}
 # Whole slots have no words outside of blocks; a resize writes one word; a list that has its memory doesn't grow.
 SHALLOW = {("norphuen_nonmoving", tool.X86, "nph_free"), ("norphuen_nonmoving", tool.X86, "nph_resize"), ("norphuen_nonmoving", tool.ARM, "nph_resize"),
            ("norphuen", tool.ARM, "nph_open"), ("norphuen_nonmoving", tool.ARM, "nph_open"),
            ("norphuen_tlsf", tool.X86, "nph_open"), ("norphuen_tlsf", tool.ARM, "nph_open")}
-# No loop runs in these, on either processor.
-BOUNDS = {f"nph_{it}" for it in "kind most_malloc most_free most_resize most_access most_has_room most_totals most_length".split()}
-NO_LOOP = {"norphuen": BOUNDS | {"nph_slot_words", "nph_class_of", "nph_malloc", "nph_free", "nph_length", "nph_has_room", "nph_place", "nph_lend", "nph_return", "nph_version"},
-           "norphuen_nonmoving": BOUNDS | {"nph_slot_words", "nph_class_of", "nph_malloc", "nph_length", "nph_has_room", "nph_version"},
-           "norphuen_tlsf": BOUNDS | {"nph_malloc", "nph_free", "nph_length", "nph_has_room", "nph_bytes_needed", "nph_place", "nph_lend", "nph_return", "nph_version"}}
+
+
+class About(typing.NamedTuple):
+    """What the checks know of a library: its name in docs/BOUNDS.md; the program that makes its calls, with its flags; the unit of
+    its slots in words and its smallest slot in units, if it has size classes; and the calls in which no loop runs."""
+
+    short: str
+    program: str
+    flags: tuple
+    slots: tuple
+    no_loop: str
+
+
+MOST = "most_malloc most_free most_resize most_access most_has_room most_totals most_length kind version"
+LIBRARIES = {
+    "norphuen": About("cf", "worst_case.c", (), (1, 4), f"{MOST} slot_words class_of malloc free length has_room place lend return"),
+    "norphuen_nonmoving": About("nm", "worst_case.c", ("-DNPH_USE_NONMOVING",), (4, 1), f"{MOST} slot_words class_of malloc length has_room"),
+    "norphuen_tlsf": About("tlsf", "worst_case.c", ("-DNPH_USE_TLSF",), (), f"{MOST} malloc free length has_room bytes_needed place lend return"),
+    "norphuen_sliced": About("sliced", "worst_case_sliced.c", (), (1, 4),
+                             "most_malloc most_free most_step most_access most_has_room most_length version malloc free step left moving length has_room"),
+    "norphuen_tasks": About("tasks", "worst_case_tasks.c", (), (1, 4), "version malloc free length set_quota task unassigned"),
+}
+# Libraries that have no notes and so no bounds, which docs/BOUNDS.md says.
+NO_NOTES = []
 # The lengths that the notes may use (docs/BOUNDS.md).
-NAMES = "smtcwbfpnPWQ"
-# What puts a library under the short names of the header.
-USES = {"norphuen_nonmoving": ["-DNPH_USE_NONMOVING"], "norphuen_tlsf": ["-DNPH_USE_TLSF"]}
+NAMES = "smtcwbfpnqPWQS"
 failed = []
 
 
@@ -74,7 +95,8 @@ def build(room, name, library):
     Path(f"{room}/together").write_text("SECTIONS { .text : { *(.text .text.*) } }", encoding="utf-8")
     subprocess.run([f"{prefix}ld", "-r", "-T", f"{room}/together", "-o", f"{begin}.o", "--whole-archive", f"{begin}.outside.a"], check=True)
     strict = ["-std=c11", "-O2", "-Wall", "-Wextra", "-Werror", "-Iinclude"]
-    subprocess.run([compiler, *strict, *USES.get(name, []), "-static", "-no-pie", "-o", begin, "checks/worst_case.c", f"{begin}.o"], check=True)
+    has = [f"-DHAS_{export.removeprefix('nph_')}" for export in library.exports]
+    subprocess.run([compiler, *strict, *LIBRARIES[name].flags, *has, "-static", "-no-pie", "-o", begin, f"checks/{LIBRARIES[name].program}", f"{begin}.o"], check=True)
     plugin = f"{room}/count.so"
     subprocess.run(["gcc", *strict, "-shared", "-fPIC", "-o", plugin, "checks/worst_case_count.c"], check=True)
     printed = subprocess.run([f"{prefix}nm", "-n", begin], capture_output=True, text=True, check=True).stdout
@@ -102,12 +124,26 @@ def never_ran(name, library, notes, starts, ran):
                 fail(f"{name}: block {block.key} of {function.name} ran, but is left out of the bounds")
 
 
-def lengths(kind, fields, steps):
-    """The lengths of a call, by the names of the notes."""
+def class_count(slots, page_words):
+    """How many size classes a page has: each size is 9/8 of the one before, rounded up, the last one the page."""
+    unit, size = slots
+    count = 1
+    while unit * size < page_words:
+        count, size = count + 1, -(-9 * size // 8)
+    return count
+
+
+def lengths(about, kind, done, fields, steps):
+    """The lengths of a call, by the names of the notes. A refused call returns before it works on any word."""
     at = dict.fromkeys(NAMES, 0)
-    at.update({n: v for n, v in fields.items() if n in "PWQ"})
+    at.update({n: v for n, v in fields.items() if n in "PWQq"})
     at["p"] = 1 << (at["Q"] - 1).bit_length() if at["Q"] else 0
-    if kind == "free":
+    at["S"] = class_count(about.slots, at["W"]) if about.slots and at["W"] else 0
+    if kind in ("pages_needed", "admit", "least_quota"):
+        at["n"] = fields["n"]
+    if not done:
+        return at
+    if kind == "free" and "s" in fields:
         at["s"], at["m"] = fields["s"], fields["s"] if fields["moved"] else 0
     if kind == "resize":
         at["s"], at["t"] = fields["s"], min(fields["s"], fields["n"])
@@ -115,18 +151,15 @@ def lengths(kind, fields, steps):
         at["c"] = max(0, (fields["old"] + 7) // 8 - fields["bytes"] // 8)
     if kind in ("read", "write") and fields["n"]:
         at["w"] = (fields["at"] + fields["n"] - 1) // 8 - fields["at"] // 8 + 1
-        at["b"] = steps - 3 - at["w"]
-    if kind == "pages_needed":
-        at["n"] = fields["n"]
+        at["b"] = max(0, steps - 3 - at["w"])
     if kind == "totals":
         at["f"] = max(0, (steps - 3) // 2)
-    at["b"] = max(0, at["b"])
     return at
 
 
 def case_of(kind, fields):
     """The case of a call, if it has one."""
-    if kind == "free":
+    if kind == "free" and "moved" in fields:
         return "move" if fields["moved"] else "alone"
     if kind == "resize":
         return "same" if fields["s"] == fields["n"] else "move" if fields["moved"] else "alone"
@@ -136,8 +169,8 @@ def case_of(kind, fields):
 class Seen:
     """Of each kind of call the one that is nearest to its bound, the longest one, the deepest stack, and the number of calls."""
 
-    def __init__(self, bounds):
-        self.bounds, self.nearest, self.longest = bounds, {}, {}
+    def __init__(self, about, bounds):
+        self.about, self.bounds, self.nearest, self.longest, self.opened = about, bounds, {}, {}, {}
         self.deepest, self.count, self.known = collections.Counter(), 0, {}
 
     def most(self, row, at):
@@ -159,13 +192,14 @@ class Seen:
         row = row if done and row in self.bounds else call
         self.count += 1
         self.deepest[call] = max(self.deepest[call], int(stack))
-        # A refused call has no lengths, and returns before it works on any word.
-        at = lengths(kind, fields, steps) if done else dict.fromkeys(NAMES, 0)
-        most, outside = self.most(row, at)
+        most, outside = self.most(row, lengths(self.about, kind, done, fields, steps))
         if row not in self.nearest or most * self.nearest[row][1] < self.nearest[row][0] * counted:
             self.nearest[row] = (most, counted, line.strip())
         if counted > self.longest.get(row, (0, 0))[0]:
             self.longest[row] = (counted, most)
+        if kind == "open" and fields["Q"]:
+            settings = (fields["P"], fields["W"], fields["Q"])
+            self.opened[settings] = max(self.opened.get(settings, (0, 0)), (counted, most))
         if counted > most:
             yield f"{line.strip()} takes more than its bound {most} = {tool.formula_of(self.bounds[row][0])}"
         for (what, limit), number in zip(outside, moved):
@@ -185,7 +219,7 @@ def run(command, settings, count, seed=1):
 def counted(name, library, notes, bounds, stacks, room, count):
     """What was seen in all calls, and the calls of the shown setting."""
     command, starts = build(room, name, library)
-    seen, ran, name = Seen(bounds), set(), f"{name}, {library.processor}"
+    seen, ran, name = Seen(LIBRARIES[name], bounds), set(), f"{name}, {library.processor}"
     with concurrent.futures.ThreadPoolExecutor(4) as pool:
         shown = pool.submit(run, command, SHOWN, count)
         runs = [pool.submit(run, command, settings, count, seed) for seed, settings in enumerate(SETTINGS, 1)]
@@ -207,6 +241,9 @@ def counted(name, library, notes, bounds, stacks, room, count):
             fail(f"{name}: no call of {row} is near its bound; the nearest has {most}: {line}")
         if "SHOW" in os.environ:
             print(f"{name} {row}: {most / number if number else 0:.3f} {most} {line}")
+    for (pages, words, proxies), (number, most) in seen.opened.items():
+        if most > NEAR_OPEN * number:
+            fail(f"{name}: the longest opening of {pages} pages of {words} words with {proxies} proxies takes {number}, its bound is {most}")
     for export, stack in stacks.items():
         less = stack - seen.deepest[export]
         if less < 0 or less > UNUSED[library.processor] and (library.name, library.processor, export) not in SHALLOW:
@@ -246,7 +283,7 @@ def mutations(name, library, room, lines):
         """Whether a counted call is above the bound of the changed notes."""
         write(number, change)
         found = tool.Bounds(library, tool.Notes(str(file), library.processor))
-        seen = Seen({row: tool.split_cost(cost) for row, cost in found.bounds().items()})
+        seen = Seen(LIBRARIES[name], {row: tool.split_cost(cost) for row, cost in found.bounds().items()})
         return not found.problems and any(text for line in lines for text in seen.take(line))
 
     def put(place):
@@ -309,8 +346,21 @@ def unbounded(room):
     return len(UNBOUNDED) * len(MACHINES)
 
 
+@functools.cache
+def sources_of(crate):
+    """The text of a crate of the repository, or of the kit; None if it is the kit's and there is no kit."""
+    folder = Path(f"crates/{crate}/src")
+    if not folder.is_dir():
+        if not shutil.which("rt"):
+            return None
+        kit = Path(subprocess.run(["rt", "doc"], capture_output=True, text=True, check=True).stdout.split("\n")[0]).parent
+        folder = kit / "rattle" / crate / "src"
+    return "\n".join(path.read_text(encoding="utf-8") for path in folder.glob("**/*.rt"))
+
+
 def clauses(name, notes):
-    """Each clause that a note trusts is one of the function that it names, and the header has the words of a duty."""
+    """Each clause that a note trusts is one of the function that it names, and the header has the words of a duty. Without a kit
+    its clauses are not looked up."""
     for function, note in notes.functions.items():
         for place, (_, (where, *words)) in [*note["never"].items(), *note["jump"].items()]:
             if "/" in where:
@@ -318,13 +368,12 @@ def clauses(name, notes):
                 found = all(word in text for word in words)
             else:
                 trusted, label = words
-                sources = "\n".join(path.read_text(encoding="utf-8") for path in Path(f"crates/{where}/src").glob("**/*.rt"))
-                found = any(re.search(rf"^ *(requires|ensures) {label} ", part.partition("fn ")[0], re.M) for part in re.split(rf"fn {trusted}\b", sources)[1:])
+                sources = sources_of(where)
+                found = sources is None or any(re.search(rf"^ *(requires|ensures) {label} ", part.partition("fn ")[0], re.M) for part in re.split(rf"fn {trusted}\b", sources)[1:])
             if not found:
                 fail(f"{name}: a note of {function}, block {place}, trusts {' '.join(words)} of {where}, which is not there")
 
 
-SHORT = {"norphuen": "cf", "norphuen_nonmoving": "nm", "norphuen_tlsf": "tlsf"}
 # The steps of docs/BOUNDS.md, by the contracts: of a call in each library, or in one. The other calls count none.
 STEPS = {
     "class_of": "1", "figures": "0", "last_steps": "0", "lend": "0", "place": "1", "return": "0",
@@ -338,12 +387,18 @@ STEPS = {
     **{("tlsf", call): steps for call, steps in {
         "malloc": "25", "free": "41 + s", "resize": "1", "read": "2 + w", "write": "2 + w", "length": "2", "has_room": "4",
         "totals": "3 + 2f"}.items()},
+    **{("sliced", call): steps for call, steps in {
+        "malloc": "17", "free": "23 + q", "step": "15 + q", "left": "0", "moving": "0", "read": "2 + w", "write": "2 + w", "length": "2",
+        "has_room": "1"}.items()},
+    **{("tasks", call): steps for call, steps in {
+        "malloc": "17", "free, alone": "20 + s", "free, move": "20 + s", "read": "2 + w", "write": "2 + w", "length": "2"}.items()},
 }
 
 
-def cells_of(bounds, stacks, lines):
-    """Of each call its cells in docs/BOUNDS.md: instructions, the longest call seen with its bound if that varies, stack."""
-    seen, cells = Seen(bounds), {}
+def cells_of(about, bounds, stacks, lines):
+    """Of each call its cells in docs/BOUNDS.md: instructions, the longest call seen with its bound if that varies, stack. And the
+    calls of which none comes near the bound."""
+    seen, cells, far = Seen(about, bounds), {}, set()
     for line in lines:
         for _ in seen.take(line):
             pass
@@ -354,9 +409,14 @@ def cells_of(bounds, stacks, lines):
             bound = tool.formula_of(own).replace("*", "")
             longest = f"{number:,}" if bound.isdigit() else f"{number:,} of {most:,}"
             cells[call] = (bound, longest, f"{stacks[row.split()[0]]:,}")
-    return cells
+            if most > NEAR * number:
+                far.add((about.short, call))
+    return cells, far
 
 
+# Why the longest call that was seen in the shown setting is not within NEAR of its bound.
+FAR = {
+}
 # docs/BOUNDS.md in front of its tables, and between the two.
 HEAD = """`checks/worst_case --write` writes this page, and `checks/worst_case` compares it.
 
@@ -366,7 +426,7 @@ HEAD = """`checks/worst_case --write` writes this page, and `checks/worst_case` 
 
 - "Longest": the longest call seen on 16 pages of 16 KiB with k = 1 and 4,096 proxies, and the bound for its lengths if the bound varies.
 - "Stack": bytes, with return addresses.
-- `cf` is `libnorphuen.a`, `nm` is `libnorphuen_nonmoving.a`, `tlsf` is `libnorphuen_tlsf.a`.
+- `cf` is `libnorphuen.a`, `nm` is `libnorphuen_nonmoving.a`, `tlsf` is `libnorphuen_tlsf.a`, `sliced` is `libnorphuen_sliced.a`, `tasks` is `libnorphuen_tasks.a`.
 - A free or resize moves no other object ("alone"), or one ("move"). A resize keeps its slot ("same"), or takes another.
 
 | letter | counts |
@@ -379,12 +439,17 @@ HEAD = """`checks/worst_case --write` writes this page, and `checks/worst_case` 
 | w | words that contain one of the bytes |
 | b | blocks of four words that contain the r or w words |
 | f | free blocks |
-| n | needs of `nph_pages_needed` |
-| P, W | pages, words of a page |
-| Q, p | proxies, rounded up to a power of two |
+| n | needs that the call is passed |
+| q | words of the quantum |
+| P, W, S | pages, words and size classes of a page |
+| Q, p | proxies, of each task if there are tasks, rounded up to a power of two |
 
 | library | call | steps | instructions, x86-64 | longest | stack | instructions, ARM64 | longest | stack |
 |---|---|---|---|---|---|---|---|---|
+"""
+WHY = """
+Where the longest call is not within a tenth of the bound:
+
 """
 SUMS = """
 Sums of the code that was bounded, which `tools/worst_case` prints:
@@ -396,7 +461,7 @@ Sums of the code that was bounded, which `tools/worst_case` prints:
 
 def steps_of(name, call):
     """The steps of a call, by its contract: those of its own library, or those of each."""
-    return STEPS.get((SHORT[name], call), STEPS.get(call, ""))
+    return STEPS.get((LIBRARIES[name].short, call), STEPS.get(call, ""))
 
 
 def rows_of(name, cells):
@@ -406,14 +471,16 @@ def rows_of(name, cells):
         found = [it for processor in tool.PROCESSORS for it in cells[name, processor].get(call, ("",) * 3)]
         rows.setdefault((steps_of(name, call), *found, call if "," in call else ""), []).append(call)
     for (*found, _), calls in rows.items():
-        yield " | ".join([f"| `{SHORT[name]}`", ", ".join(calls), *found]) + " |\n"
+        yield " | ".join([f"| `{LIBRARIES[name].short}`", ", ".join(calls), *found]) + " |\n"
 
 
 def document(cells, codes, writes):
     """Compares docs/BOUNDS.md, or writes it."""
     path = Path("docs/BOUNDS.md")
     sums = [" | ".join([f"| `lib{name}.a`", *(codes[name, processor] for processor in tool.PROCESSORS)]) + " |\n" for name in LIBRARIES]
-    whole = "".join([HEAD, *(row for name in LIBRARIES for row in rows_of(name, cells)), SUMS, *sums])
+    lacking = [f"\nNo bounds are computed of `lib{name}.a`.\n" for name in NO_NOTES]
+    why = [f"- `{short}` {call}: {reason}\n" for (short, call), reason in FAR.items()]
+    whole = "".join([HEAD, *(row for name in LIBRARIES for row in rows_of(name, cells)), *([WHY, *why] if why else []), *lacking, SUMS, *sums])
     if writes:
         path.write_text(whole, encoding="utf-8")
         subprocess.run(["tools/index", "--write"], check=True)  # docs/CALLS.md has the steps too
@@ -427,7 +494,9 @@ def document(cells, codes, writes):
 
 def main():
     room, count, archives, *rest = sys.argv[1:]
-    cells, codes, total, wrong = {}, {}, 0, 0
+    cells, codes, far, total, wrong = {}, {}, set(), 0, 0
+    for name in sorted(set(re.findall(r"^(norphuen\w*) staticlib:", Path("crates.txt").read_text(encoding="utf-8"), re.M)) ^ {*LIBRARIES, *NO_NOTES}):
+        fail(f"{name} is a library of crates.txt, or of LIBRARIES or NO_NOTES, but not of both")
     for name in LIBRARIES:
         for processor in tool.PROCESSORS:
             library = tool.Library(f"{archives}/{name}.{processor}.a", name)
@@ -440,17 +509,20 @@ def main():
             allocator = {export for export, row in table.items() if row["allocator"]}
             if allocator != tool.MAY_ALLOCATE:
                 fail(f"{name}, {processor}: a path leads to the allocator from {sorted(allocator)}")
-            looping = NO_LOOP[name] & {export for export, row in table.items() if row["running loops"]}
-            if looping:
-                fail(f"{name}, {processor}: {sorted(looping)[0]} has a loop")
+            for call in LIBRARIES[name].no_loop.split():
+                if table.get(f"nph_{call}", {"running loops": 1})["running loops"]:
+                    fail(f"{name}, {processor}: {call} has a loop, or is not there")
             stacks = {export: row["stack"] for export, row in table.items()}
             seen, lines = counted(name, library, notes, bounds, stacks, room, int(count))
             total += seen.count
             codes[name, processor] = library.code
-            cells[name, processor] = cells_of(bounds, stacks, lines)
+            cells[name, processor], more = cells_of(LIBRARIES[name], bounds, stacks, lines)
+            far |= more
             wrong += mutations(name, library, room, lines)
             clauses(name, notes)
     wrong += unbounded(room)
+    for short, call in sorted(far ^ FAR.keys()):
+        fail(f"the longest {call} of {short} is not near its bound, or FAR should not say why")
     document(cells, codes, bool(rest))
     if failed:
         sys.exit(1)
