@@ -1,10 +1,10 @@
 //! `Boxed`: a manager behind a box, and its implementation of `Manager`.
 
+use crate::{Manager, StepBounds, Usage};
 use cf_base::{
     AccessFault, Figures, Freed, Handle, Kind, NotLive, OutOfMemory, Refusal, ResizeFault, Resized,
     Settings, Totals,
 };
-use crate::{Manager, StepBounds, Usage};
 use step_ledger::Steps;
 
 /// A manager of any kind, behind a box. Each call of `Boxed` makes the same call of `inner`, and its state is
