@@ -23,7 +23,7 @@ static nph_sliced_heap heap = NPH_SLICED_HEAP;
 static object objects[MOST];
 /* job_class: of the pending job, if there is one. */
 static uint32_t live, stale[STALE], freed, quantum, job_class;
-static uint64_t state, moves, slices, busy, full, loans;
+static uint64_t state, moves, places, slices, busy, full, loans;
 static nph_needed asked;
 
 #define CHECK(x) do { if (!(x)) { printf("line %d: not %s\n", __LINE__, #x); exit(1); } } while (0)
@@ -117,12 +117,19 @@ static void find(object *o) {
     CHECK(nph_sliced_place(&heap, o->handle, &place) == NPH_OK && place == o->place && taken() == 1);
 }
 
-/* The object that a free or a slice begins to move has a place of its own from then on. */
-static void note_move(void) {
-    uint32_t moving;
+/* After a free or a slice: the object that moves is live, and at most one object has another place. A move that ends in the
+ * same call shows only there. */
+static void note_moves(void) {
+    uint32_t moving, place, changed = 0;
     CHECK(nph_sliced_moving(&heap, &moving) == NPH_OK);
     CHECK(moving == NPH_NONE || (left() > 0 && with(moving) != NULL));
-    if (moving != NPH_NONE) CHECK(nph_sliced_place(&heap, moving, &with(moving)->place) == NPH_OK);
+    for (uint32_t i = 0; i < live; i++) {
+        CHECK(nph_sliced_place(&heap, objects[i].handle, &place) == NPH_OK);
+        changed += place != objects[i].place;
+        objects[i].place = place;
+    }
+    CHECK(changed <= 1);
+    places += changed;
 }
 
 /* A loan is refused while a job is pending. Else each object's bytes are at its place, a drawn byte of one is written there,
@@ -198,7 +205,7 @@ static void release(object *o) {
     CHECK(left() <= words && left() >= (words > quantum ? words - quantum : 0));
     CHECK(nph_sliced_moving(&heap, &moving) == NPH_OK);
     moves += moving != NPH_NONE;
-    note_move();
+    note_moves();
 }
 
 /* One slice does the quantum, or all words left, and then another job of the same class may begin. */
@@ -210,7 +217,7 @@ static void slice(void) {
     if (before > quantum) CHECK(after == before - quantum && taken() >= quantum);
     if (before == 0) CHECK(after == 0);
     slices += before > 0;
-    note_move();
+    note_moves();
 }
 
 /* Does slices until no job is pending. */
@@ -288,7 +295,7 @@ int main(int argc, char **argv) {
     }
     compare();
     nph_sliced_close(&heap);
-    if (calls >= 100000) CHECK(moves > 100 && slices > 1000 && busy > 100 && full > 100 && loans > 100);
+    if (calls >= 100000) CHECK(places > 1000 && slices > 1000 && busy > 100 && full > 100 && loans > 100);
     printf("%llu calls, %llu moves, %llu slices, %llu busy frees, %llu refused mallocs, %llu loans\n", (unsigned long long)calls,
            (unsigned long long)moves, (unsigned long long)slices, (unsigned long long)busy, (unsigned long long)full, (unsigned long long)loans);
     return 0;

@@ -385,8 +385,8 @@ NPH_CALL nph_status nph_sliced_totals(nph_sliced_heap *heap, nph_heap_totals *to
  * nph_sliced_totals, nph_sliced_lend, nph_sliced_return and this call take none, and leave the count as it was. */
 NPH_CALL nph_status nph_sliced_last_steps(nph_sliced_heap *heap, uint64_t *steps);
 
-/* As nph_place. A job that moves an object moves it to this place. It stays the same until the object is freed, or
- * nph_sliced_moving writes it after a free or a step that began the move. */
+/* As nph_place, but each nph_sliced_free and nph_sliced_step may change the place of another object: call it again after
+ * these. A move may begin and end in one such call. While a job moves an object, the place is where the object moves to. */
 NPH_CALL nph_status nph_sliced_place(nph_sliced_heap *heap, uint32_t handle, uint32_t *place);
 
 /* As nph_lend; the bytes of an object are at nph_bytes(words, place). Fails with NPH_BUSY if a job is pending, since an object in
