@@ -237,7 +237,7 @@ def counted(name, library, notes, bounds, stacks, room, count):
             continue  # its cases are compared
         if not line:
             fail(f"{name}: no call of {row} was made")
-        elif most > NEAR * number:
+        elif most > NEAR * number and (library.name, row) not in far_rows():
             fail(f"{name}: no call of {row} is near its bound; the nearest has {most}: {line}")
         if "SHOW" in os.environ:
             print(f"{name} {row}: {most / number if number else 0:.3f} {most} {line}")
@@ -249,6 +249,10 @@ def counted(name, library, notes, bounds, stacks, room, count):
         if less < 0 or less > UNUSED[library.processor] and (library.name, library.processor, export) not in SHALLOW:
             fail(f"{name}: {export} used {seen.deepest[export]} bytes of stack, not {stack}")
     return seen, [line for line in shown.result() if not line.startswith("ran ")]
+
+
+def far_rows():
+    return {(name, "nph_" + call.replace(", ", " ")) for name, about in LIBRARIES.items() for short, call in FAR if short == about.short}
 
 
 def refuses(what, words, archive, notes):
@@ -415,7 +419,9 @@ def cells_of(about, bounds, stacks, lines):
 
 
 # Why the longest call that was seen in the shown setting is not within NEAR of its bound.
+TWICE = "the bound counts two objects that begin to move, at the free and at the end of its job; but a job of the same free begins no other"
 FAR = {
+    ("sliced", "free"): TWICE,
 }
 # docs/BOUNDS.md in front of its tables, and between the two.
 HEAD = """`checks/worst_case --write` writes this page, and `checks/worst_case` compares it.
