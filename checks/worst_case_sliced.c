@@ -29,8 +29,9 @@ static int32_t make(uint32_t bytes) {
 }
 
 static void step(void) {
+    uint32_t before = left();
     ON_HEAP(step, 0);
-    printf(" q %" PRIu32 "\n", quantum);
+    printf(" q %" PRIu32 " next %d\n", quantum, before > 0 && before <= quantum && left() > 0);
 }
 
 static int32_t release_handle(uint32_t handle) {
