@@ -46,7 +46,7 @@ UNUSED = {tool.X86: 0, tool.ARM: 8}
 # Whole slots have no words outside of blocks; a resize writes one word; a list that has its memory doesn't grow.
 SHALLOW = {("norphuen_nonmoving", tool.X86, "nph_free"), ("norphuen_nonmoving", tool.X86, "nph_resize"), ("norphuen_nonmoving", tool.ARM, "nph_resize"),
            ("norphuen_nonmoving", tool.ARM, "nph_open"),
-           ("norphuen_sliced", tool.X86, "nph_free")}
+           ("norphuen_tlsf", tool.X86, "nph_open"), ("norphuen_tlsf", tool.ARM, "nph_open"), ("norphuen_sliced", tool.X86, "nph_free")}
 
 
 class About(typing.NamedTuple):
