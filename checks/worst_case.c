@@ -176,13 +176,30 @@ static void sweep(uint32_t bytes) {
     for (uint32_t less = 24; less < bytes; less += less / 4) resize(0, bytes - less), resize(0, bytes);
 }
 
+/* In each class with few slots a page: an object of a full page gets a page of its own, and one of the partly full page takes its
+ * slot. In each class: resizes between its longest and its shortest objects. */
+static void each_class(void) {
+    nph_class c;
+    for (uint32_t n = 0, before = 0; PAGED && nph_figures(&heap, n, &c) == NPH_OK; n++) {
+        uint32_t bytes = c.slot_words * 8 - 8;
+        while (live) release(live - 1);
+        for (uint32_t i = 0; i <= 2 * c.slots && c.slots <= 16 && live < LIVE; i++) make(bytes);
+        if (live > c.slots) resize(0, page_words * 8 - 8);
+        while (live) release(live - 1);
+        if (before && make(bytes) == NPH_OK)
+            for (uint32_t i = 0; i < 9; i++) resize(0, before * 8 - 7 + i), resize(0, bytes - i);
+        before = c.slot_words;
+    }
+    while (live) release(live - 1);
+}
+
 /* Calls that are made to be long: a page's largest object written and read from each byte of a word, resizes to and from
  * a page, and frees and resizes that move an object of the largest classes. */
 static void long_calls(void) {
     uint32_t most = page_words * 8 - 8;
     while (live) release(live - 1);
     for (uint32_t part = 1; part < 12; part += part) sweep(most / part - 8 * (part > 1));
-    while (live) release(live - 1);
+    each_class();
     if (make(most) == NPH_OK) {
         resize(0, most - 9), resize(0, most), resize(0, 8), resize(0, most), resize(0, most / 2 - 8), resize(0, most), resize(0, 0), resize(0, most);
     }

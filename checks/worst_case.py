@@ -45,8 +45,8 @@ NEAR_OPEN = Fraction(12, 10)
 UNUSED = {tool.X86: 0, tool.ARM: 8}
 # Whole slots have no words outside of blocks; a resize writes one word; a list that has its memory doesn't grow.
 SHALLOW = {("norphuen_nonmoving", tool.X86, "nph_free"), ("norphuen_nonmoving", tool.X86, "nph_resize"), ("norphuen_nonmoving", tool.ARM, "nph_resize"),
-           ("norphuen", tool.ARM, "nph_open"), ("norphuen_nonmoving", tool.ARM, "nph_open"),
-           ("norphuen_tlsf", tool.X86, "nph_open"), ("norphuen_tlsf", tool.ARM, "nph_open")}
+           ("norphuen_nonmoving", tool.ARM, "nph_open"),
+           ("norphuen_tlsf", tool.X86, "nph_open"), ("norphuen_tlsf", tool.ARM, "nph_open"), ("norphuen_sliced", tool.X86, "nph_free")}
 
 
 class About(typing.NamedTuple):
@@ -161,6 +161,10 @@ def case_of(kind, fields):
     """The case of a call, if it has one."""
     if kind == "free" and "moved" in fields:
         return "move" if fields["moved"] else "alone"
+    if kind == "free":
+        return "move" if fields["memmoves"] else "clear"
+    if kind == "step":
+        return "next" if fields["next"] else "last"
     if kind == "resize":
         return "same" if fields["s"] == fields["n"] else "move" if fields["moved"] else "alone"
     return ""
@@ -186,7 +190,7 @@ class Seen:
         """What is above its bound in this call."""
         kind, code, counted, stack, steps, *rest = line.split()
         counted, steps, moved = int(counted), int(steps), list(map(int, rest[:6]))
-        fields = dict(zip(rest[6::2], map(int, rest[7::2])))
+        fields = {"memmoves": moved[2], **dict(zip(rest[6::2], map(int, rest[7::2])))}
         call, done = f"nph_{kind}", code == "0"
         row = f"{call} {case_of(kind, fields)}"
         row = row if done and row in self.bounds else call
@@ -237,7 +241,7 @@ def counted(name, library, notes, bounds, stacks, room, count):
             continue  # its cases are compared
         if not line:
             fail(f"{name}: no call of {row} was made")
-        elif most > NEAR * number:
+        elif most > NEAR * number and (library.name, row) not in far_rows():
             fail(f"{name}: no call of {row} is near its bound; the nearest has {most}: {line}")
         if "SHOW" in os.environ:
             print(f"{name} {row}: {most / number if number else 0:.3f} {most} {line}")
@@ -249,6 +253,10 @@ def counted(name, library, notes, bounds, stacks, room, count):
         if less < 0 or less > UNUSED[library.processor] and (library.name, library.processor, export) not in SHALLOW:
             fail(f"{name}: {export} used {seen.deepest[export]} bytes of stack, not {stack}")
     return seen, [line for line in shown.result() if not line.startswith("ran ")]
+
+
+def far_rows():
+    return {(name, "nph_" + call.replace(", ", " ")) for name, about in LIBRARIES.items() for short, call in FAR if short == about.short}
 
 
 def refuses(what, words, archive, notes):
@@ -388,7 +396,7 @@ STEPS = {
         "malloc": "25", "free": "41 + s", "resize": "1", "read": "2 + w", "write": "2 + w", "length": "2", "has_room": "4",
         "totals": "3 + 2f"}.items()},
     **{("sliced", call): steps for call, steps in {
-        "malloc": "17", "free": "23 + q", "step": "15 + q", "left": "0", "moving": "0", "read": "2 + w", "write": "2 + w", "length": "2",
+        "malloc": "17", "free, clear": "23 + q", "free, move": "23 + q", "step, last": "15 + q", "step, next": "15 + q", "left": "0", "moving": "0", "read": "2 + w", "write": "2 + w", "length": "2",
         "has_room": "1"}.items()},
     **{("tasks", call): steps for call, steps in {
         "malloc": "17", "free, alone": "20 + s", "free, move": "20 + s", "read": "2 + w", "write": "2 + w", "length": "2"}.items()},
@@ -415,7 +423,9 @@ def cells_of(about, bounds, stacks, lines):
 
 
 # Why the longest call that was seen in the shown setting is not within NEAR of its bound.
+TWICE = "the bound counts two objects that begin to move, at the free and at the end of its job; but a job of the same free begins no other"
 FAR = {
+    ("sliced", "free, move"): TWICE,
 }
 # docs/BOUNDS.md in front of its tables, and between the two.
 HEAD = """`checks/worst_case --write` writes this page, and `checks/worst_case` compares it.
@@ -428,6 +438,7 @@ HEAD = """`checks/worst_case --write` writes this page, and `checks/worst_case` 
 - "Stack": bytes, with return addresses.
 - `cf` is `libnorphuen.a`, `nm` is `libnorphuen_nonmoving.a`, `tlsf` is `libnorphuen_tlsf.a`, `sliced` is `libnorphuen_sliced.a`, `tasks` is `libnorphuen_tasks.a`.
 - A free or resize moves no other object ("alone"), or one ("move"). A resize keeps its slot ("same"), or takes another.
+- In slices a free clears a slot ("clear"), or begins to move an object ("move"). A step is the last of its job, after which no job is pending or another one moves an object ("next"); other steps are shorter.
 
 | letter | counts |
 |---|---|

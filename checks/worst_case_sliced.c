@@ -29,8 +29,9 @@ static int32_t make(uint32_t bytes) {
 }
 
 static void step(void) {
+    uint32_t before = left();
     ON_HEAP(step, 0);
-    printf(" q %" PRIu32 "\n", quantum);
+    printf(" q %" PRIu32 " next %d\n", quantum, before > 0 && before <= quantum && left() > 0);
 }
 
 static int32_t release_handle(uint32_t handle) {
@@ -74,8 +75,8 @@ static uint32_t with(uint32_t handle) {
 /* Reads and writes the object that the pending job moves: the whole of it, from and to each byte of a word, and a few bytes about
  * the place up to which it has moved. */
 static void access_moving(void) {
-    uint32_t handle, i;
-    if (nph_sliced_moving(&heap, &handle) != NPH_OK) exit(1);
+    uint32_t handle = NPH_NONE, i;
+    ASK(moving, (uint64_t)&heap, (uint64_t)&handle);
     i = with(handle);
     if (i == live) return;
     ask_handle(handle);
@@ -148,8 +149,16 @@ static void long_calls(void) {
         uint32_t bytes = (most + 8) / part / 32 * 32 - 8;
         release_all();
         for (uint32_t n = 0; n < 4 * part && live < LIVE; n++) make(bytes);
-        for (uint32_t n = 0; n < 3 && live > part; n++) release(n), finish(true);
-        while (live) release((uint32_t)drawn(live)), step(), make(8);
+        for (uint32_t n = 0; n < 3 && live > part; n++) {
+            release(n);
+            /* While the job is pending its class gets a second partly full page: so a job follows. */
+            for (uint32_t more = 0; left() && more <= part && live < LIVE; more++) make(bytes);
+            finish(true);
+        }
+        while (live) {
+            release((uint32_t)drawn(live)), step();
+            if (drawn(4) == 0) make(8);
+        }
         release_all();
     }
     /* Small objects in many pages: the frees leave pages with one used slot each in turn. */
