@@ -152,40 +152,57 @@ def keeps(lines, allows):
     return True
 
 
+def kept(program, mode, to):
+    """By class, the objects that can stay when the program goes from one mode to another: of each size as many as both have."""
+    stay = [0] * len(program.classes)
+    for size, c in zip(program.sizes, program.home):
+        stay[c] += min(program.modes[mode].get(size, 0), program.modes[to].get(size, 0))
+    return stay
+
+
+def leads_on(program, bounds, points, held, stay, to):
+    """Whether a vector of pages leads to one of a mode, if these objects stay: `LeadsInto`."""
+    least = [min(p, n, (n + k * (m - 1)) // m) for p, n, m, k in zip(held, stay, program.m, bounds)]
+    return any(other == to and all(a <= b for a, b in zip(least, more)) for other, more in points)
+
+
 def certifies(program, bounds, pages, points):
     """Whether these vectors of pages show that so many pages are enough: `IsCertificate` of `certified_pages_serve`, with its
     definitions written anew."""
     modes = range(len(program.modes))
-
-    def leads_on(mode, held, to):
-        both = map(min, program.by_class[mode], program.by_class[to])
-        kept = [min(p, n, (n + k * (m - 1)) // m) for p, n, m, k in zip(held, both, program.m, bounds)]
-        return any(other == to and all(a <= b for a, b in zip(kept, more)) for other, more in points)
-
     return (
         {mode for mode, _ in points} == {*modes}
         and all(n <= p * m for mode, held in points for n, p, m in zip(program.by_class[mode], held, program.m))
-        and all(leads_on(mode, held, to) for mode, held in points for to in modes)
+        and all(leads_on(program, bounds, points, held, kept(program, mode, to), to) for mode, held in points for to in modes)
         and all(sum(held) <= pages for _, held in points)
     )
 
 
-def holds_copies(program, bounds, pages, points):
-    """Whether so many pages also hold each object that a resize has in two slots: `HoldCopies`, with its definitions written anew."""
+def allows_resizes(program, bounds, pages, points):
+    """Whether they show it of resizes too: `AreForResizes`, with its definitions written anew."""
     classes = range(len(program.classes))
 
-    def during(held, before, after, c, d):
-        for e, p, a, b, m, k in zip(classes, held, before, after, program.m, bounds):
-            n = min(a, b + (e == c))
-            yield min(p + 1, -(-min(a + 1, b) // m)) if e == d else min(p, n, (n + k * (m - 1)) // m)
+    def resized(mode, held, to):
+        stay, before, after = kept(program, mode, to), program.by_class[mode], program.by_class[to]
+        more = [[*stay[:c], stay[c] + 1, *stay[c + 1 :]] for c in classes if stay[c] < min(before[c], after[c])]
+        return all(leads_on(program, bounds, points, held, some, to) for some in more)
 
-    return all(
-        sum(during(held, program.by_class[mode], after, c, d)) <= pages
+    def during(held, stay, before, after, c, d):
+        for e, p, n, a, b, m, k in zip(classes, held, stay, before, after, program.m, bounds):
+            most = min(n + 1, a) if e == c else n
+            yield min(p + 1, -(-min(n + 1, b) // m)) if e == d else min(p, most, (most + k * (m - 1)) // m)
+
+    return all(resized(mode, held, to) for mode, held in points for to in range(len(program.modes))) and all(
+        sum(during(held, kept(program, mode, to), program.by_class[mode], after, c, d)) <= pages
         for mode, held in points
-        for after in program.by_class
+        for to, after in enumerate(program.by_class)
         for c, d in itertools.permutations(classes, 2)
         if program.by_class[mode][c] and after[d]
     )
+
+
+def proves(program, bounds, pages, points, resizes):
+    return certifies(program, bounds, pages, points) and (not resizes or allows_resizes(program, bounds, pages, points))
 
 
 def found(points):
@@ -193,24 +210,28 @@ def found(points):
 
 
 def test_differs(seed, library):
-    """How the proved test differs from `certifies`, on the certificate of a drawn program and on false ones; None if it doesn't."""
+    """How the proved test differs from `proves`, on the certificate of a drawn program and on false ones, or refuses the planner's
+    number; None if it doesn't."""
     draw = random.Random(seed)
     layout = needs.Layout(draw.choice((512, 1024)), library.manager)
     program, _, _ = drawn_modes(draw, layout)
     bounds = [draw.choice((1, 2, 2, 3)) for _ in program.classes]
+    by_class, need = plan.spread(layout, program.classes, bounds, 1), program.need(bounds).pages
     points = found(program.certificate(bounds))
     most = max(sum(pages) for _, pages in points)
     at = draw.randrange(len(points))
     mode, pages = points[at]
     lower = tuple(p - (c == draw.randrange(len(pages))) if p else p for c, p in enumerate(pages))
     tried = [(most, points), (most - 1, points), (most, points[:at] + points[at + 1 :]), (most, [*points[:at], (mode, lower), *points[at + 1 :]])]
-    for (pages, some), resizes in itertools.product([*tried, (most + 1, points)], (False, True)):
+    for (pages, some), resizes in itertools.product([*tried, (most + 1, points), (need, points)], (False, True)):
         if not pages:
             continue
-        right = certifies(program, bounds, pages, some) and (not resizes or holds_copies(program, bounds, pages, some))
+        right = proves(program, bounds, pages, some, resizes)
         rows = [(mode, plan.spread(layout, program.classes, held, 0)) for mode, held in some]
-        if library.accepts(pages, layout.page_bytes, plan.spread(layout, program.classes, bounds, 1), program.modes, rows, resizes) != right:
+        if library.accepts(pages, layout.page_bytes, by_class, program.modes, rows, resizes) != right:
             return f"seed {seed}: the proved test {'refuses' if right else 'accepts'} {pages} pages with the points {some}"
+        if some is points and resizes == program.resizes and pages == need and not right:
+            return f"seed {seed}: the proved test refuses the planner's {need} pages"
     return None
 
 
@@ -313,8 +334,7 @@ def differs(seed):
     what = f"seed {seed}, bounds {bounds}"
     if not need.least == need.pages == most:
         return f"{what}: {need.least} to {need.pages} pages, and the search finds {most}"
-    is_certain = isinstance(program, needs.Modes) and not program.is_shared and not resizes
-    if is_certain and not certifies(program, bounds, most, found(program.points(bounds))):
+    if isinstance(program, needs.Modes) and not proves(program, bounds, most, found(program.points(bounds)), resizes):
         return f"{what}: the planner's vectors of pages are no certificate"
     calls = program.script(bounds, need)
     if calls.most != most and not need.is_shared:

@@ -144,18 +144,19 @@ class Modes:
         """The need if each bound is 1, which no bounds lower: the greatest mode's pages."""
         return max(map(sum, self.starts))
 
-    def safe(self, bounds):
-        """Enough pages, by a formula."""
-        return max(
-            sum(min(most_pages(n, m, k), ceil_div(most, m)) for n, m, k, most in zip(counts, self.m, bounds, self.most))
-            for counts in self.by_class
-        )
+    def spreads(self, bounds):
+        """For each mode pages by class that no history exceeds, by a formula."""
+        for counts in self.by_class:
+            yield tuple(min(most_pages(n, m, k), ceil_div(most, m)) for n, m, k, most in zip(counts, self.m, bounds, self.most))
 
-    def points(self, bounds, all_switches=None):
+    def safe(self, bounds):
+        """Enough pages, by this formula."""
+        return max(map(sum, self.spreads(bounds)))
+
+    def points(self, bounds):
         """For each mode its greatest vectors of pages over all histories; if that takes too long, some, and `gave_up` is set."""
         found, waiting = [[] for _ in self.modes], collections.deque()
-        all_switches = all_switches or self.switches
-        caps = [[tuple(map(most_pages, s.meet, self.m, bounds)) for s in switches] for switches in all_switches]
+        caps = [[tuple(map(most_pages, s.meet, self.m, bounds)) for s in switches] for switches in self.switches]
         compared = 0
 
         def add(point):
@@ -173,18 +174,15 @@ class Modes:
             point = waiting.popleft()
             if point not in found[point.mode]:
                 continue
-            for switch, cap in zip(all_switches[point.mode], caps[point.mode]):
+            for switch, cap in zip(self.switches[point.mode], caps[point.mode]):
                 add(Point(switch.to, tuple(map(max, map(min, point.pages, cap), self.starts[switch.to])), switch, point))
             self.gave_up = compared > MOST_COMPARED
         return [point for mine in found for point in mine]
 
     def certificate(self, bounds):
-        """Points as `is_certificate` of the crate `sizing` tests them: it counts what two modes share by class, not by size."""
-        by_class = [
-            [Switch(b, tuple(map(min, mine, other))) for b, other in enumerate(self.by_class) if b != a]
-            for a, mine in enumerate(self.by_class)
-        ]
-        return self.points(bounds, by_class)
+        """The points with which `is_certificate` of the crate `sizing` accepts the pages of `need`."""
+        found = self.points(bounds)
+        return [Point(mode, pages, None, None) for mode, pages in enumerate(self.spreads(bounds))] if self.gave_up else found
 
     def need(self, bounds):
         """The pages for these bounds, one for each class."""
@@ -237,9 +235,7 @@ class Modes:
         return leave, take
 
     def is_within(self, bounds, pages):
-        """Whether so many pages are enough for these bounds; without resizes, also by the certificate, which counts by class."""
-        if not self.resizes and len(self.modes) > 1 and max(sum(point.pages) for point in self.certificate(bounds)) > pages:
-            return False
+        """Whether so many pages are enough for these bounds."""
         return self.need(bounds).pages <= pages
 
     def objects(self):

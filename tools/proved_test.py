@@ -15,8 +15,8 @@ class Need(ctypes.Structure):
     _fields_ = [("bytes", ctypes.c_uint32), ("count", ctypes.c_uint32)]
 
 
-class ModeObjects(ctypes.Structure):
-    _fields_ = [("objects", ByClass)]
+class ModeNeeds(ctypes.Structure):
+    _fields_ = [("needs", Need * ENTRIES)]
 
 
 class PointPages(ctypes.Structure):
@@ -28,6 +28,10 @@ def listed(kind, items):
     return (kind * max(1, len(items)))(*items), ctypes.c_size_t(len(items))
 
 
+def entries(mode):
+    return [Need(size, count) for size, count in mode.items()]
+
+
 class Library:
     """The functions of crates/plan_library, for the slots of a manager."""
 
@@ -36,27 +40,20 @@ class Library:
         whole = ["-Wl,--whole-archive", os.path.join(TOP, ARCHIVE), "-Wl,--no-whole-archive"]
         subprocess.run(["gcc", "-shared", "-o", shared, *whole], check=True, stderr=subprocess.PIPE)
         self.manager, self.calls, self.in_blocks = manager, ctypes.CDLL(shared), ctypes.c_bool(manager == "nm")
-        for name in "pages_needed", "class_objects", "is_certified", "is_budget_level", "is_budget_certified":
+        for name in "pages_needed", "is_certified", "is_budget_level", "is_budget_certified":
             getattr(self.calls, "plan_" + name).restype = ctypes.c_bool
 
-    def asked(self, call, page_bytes, mode, found):
-        """What the call writes for a mode, which has the most objects of each size, into `found`; None if it refuses the mode."""
-        needs = listed(Need, [Need(size, count) for size, count in mode.items()])
-        return found if call(ctypes.c_uint32(page_bytes), self.in_blocks, *needs, ctypes.byref(found)) else None
-
     def needed(self, page_bytes, mode):
-        """The least pages of a program with one mode, with resizes too; None if the call refuses it."""
-        found = self.asked(self.calls.plan_pages_needed, page_bytes, mode, ctypes.c_uint32())
-        return found and found.value
+        """The least pages of a program with one mode, the most objects of each size, with resizes too; None if the call refuses it."""
+        needs, found = listed(Need, entries(mode)), ctypes.c_uint32()
+        return found.value if self.calls.plan_pages_needed(ctypes.c_uint32(page_bytes), self.in_blocks, *needs, ctypes.byref(found)) else None
 
     def accepts(self, pages, page_bytes, bounds, modes, points, resizes):
         """Whether the points are a certificate, with resizes or without; each is a mode's number and the pages of each class."""
-        objects = [self.asked(self.calls.plan_class_objects, page_bytes, mode, ModeObjects()) for mode in modes]
-        if None in objects:
-            return False
+        modes = [ModeNeeds((Need * ENTRIES)(*entries(mode))) for mode in modes]
         points = [PointPages(mode, ByClass(*by_class)) for mode, by_class in points]
         numbers = ctypes.c_uint32(pages), ctypes.c_uint32(page_bytes), self.in_blocks
-        lists = (ctypes.c_uint32, bounds), (ModeObjects, objects), (PointPages, points)
+        lists = (ctypes.c_uint32, bounds), (ModeNeeds, modes), (PointPages, points)
         return self.calls.plan_is_certified(*numbers, *(part for kind, items in lists for part in listed(kind, items)), ctypes.c_bool(resizes))
 
     def accepts_level(self, pages, page_bytes, bounds, prices, budget, level):

@@ -3,24 +3,22 @@
 //! the moving manager, with true those of the non-moving one.
 #![tactic(auto)]
 
-ghost use Rattle.std.specs.Prelude.{ℕ, ◌≡◌, ◌+◌, ◌/◌, ◌<◌, ◌≤◌, ◌↔◌, IsTrue, List, None, length, map, slice_index};
+ghost use Rattle.std.specs.Prelude.{ℕ, ◌≡◌, ◌+◌, ◌/◌, ◌<◌, ◌≤◌, ◌↔◌, All, IsTrue, None, length, slice_index};
 ghost use Rattle.std.specs.FinMap.{empty};
 ghost use Rattle.cf_base.specs.Classes.{sizes};
 ghost use Rattle.cf_base.specs.Settings.{profile_from, setting_fault};
 ghost use Rattle.cf_model.specs.State.{HeapState, layout_of, paging_in};
 ghost use Rattle.page_model.specs.Paging.{EveryBoundIsOne, IsPaging, Paging, bound_of, class_for, classes, paging_of};
-ghost use Rattle.quota_model.specs.declared.answers.Need.{Need};
-ghost use Rattle.sizing.specs.Certificates.{HoldCopies, IsBudgetCertificate, IsBudgetLevel, IsCertificate};
-ghost use Rattle.sizing.specs.Checks.{AreCounts, point_in, with_pages};
-ghost use Rattle.sizing.specs.Demands.{ArePrices, KeepsBudget, KeepsTo, KeepsToOne, count_in};
+ghost use Rattle.sizing.specs.Certificates.{AreForResizes, IsBudgetCertificate, IsBudgetLevel, IsCertificate};
+ghost use Rattle.sizing.specs.Checks.{HasFew, needs_of, with_pages};
+ghost use Rattle.sizing.specs.Demands.{ArePrices, KeepsBudget, KeepsTo, KeepsToOne};
 ghost use Rattle.sizing.specs.Heaps.{IsFresh, ServesHeapMallocs, ServesHeapResizes};
-ghost use Rattle.sizing.specs.Runs.{CanBeRefused, ServesMallocs, ServesResizes};
+ghost use Rattle.sizing.specs.Runs.{CanBeRefused, IsServed, ServesMallocsAcross, ServesResizesAcross};
 ghost use Rattle.plan_library.specs.Slots.{layout_if};
 
 use cf_base::Layout;
 use sizing::{
-    ModeObjects, Need, PointPages, class_objects, is_budget_certificate, is_budget_level,
-    is_certified, pages_needed,
+    ModeNeeds, Need, PointPages, is_budget_certificate, is_budget_level, is_certified, pages_needed,
 };
 
 /// Writes into `pages` the least number of pages with which no call of a program is refused for space while it keeps to its
@@ -50,28 +48,6 @@ pub extern "C" fn plan_pages_needed(
     }
 }
 
-/// Writes into `mode` how many objects of each class the needs declare (`class_objects`). False if there are more than 64
-/// entries, an object is larger than a page, or more objects are declared than a heap may have.
-#[unsafe(no_mangle)]
-pub extern "C" fn plan_class_objects(
-    page_bytes: u32,
-    in_blocks: bool,
-    needs: &[Need],
-    mode: &mut ModeObjects,
-) -> bool
-    ensures counts { IsTrue result → (p : Paging) (c : ℕ) → IsPaging p → p.page_words ≡ page_bytes / 8
-        → p.sizes ≡ sizes (page_bytes / 8) (layout_if in_blocks)
-        → c < classes p → slice_index mode.new.objects c ≡ count_in p needs.now c }
-{
-    match class_objects(page_bytes, slots_if(in_blocks), needs) {
-        Ok(found) => {
-            *mode = found;
-            true
-        }
-        Err(_) => false,
-    }
-}
-
 /// Whether the points are a certificate for `pages` pages of `page_bytes` bytes and these bounds and modes
 /// (`is_certified`): then the pages are enough, for resizes too if the program `resizes`.
 #[unsafe(no_mangle)]
@@ -80,24 +56,20 @@ pub extern "C" fn plan_is_certified(
     page_bytes: u32,
     in_blocks: bool,
     bounds: &[u32],
-    modes: &[ModeObjects],
+    modes: &[ModeNeeds],
     points: &[PointPages],
     resizes: bool,
 ) -> bool
-    ensures exact { (needs : List (List Need)) → setting_fault pages page_bytes 1 65536 ≡ None
-        → IsPaging (paging_of (profile_from pages page_bytes 1 65536) (layout_if in_blocks) bounds.now)
-        → AreCounts (paging_of (profile_from pages page_bytes 1 65536) (layout_if in_blocks) bounds.now) needs modes.now
-        → IsTrue result ↔ IsCertificate (paging_of (profile_from pages page_bytes 1 65536) (layout_if in_blocks) bounds.now) needs (map point_in points.now)
-        × (IsTrue resizes → HoldCopies (paging_of (profile_from pages page_bytes 1 65536) (layout_if in_blocks) bounds.now) needs (map point_in points.now)) }
-    ensures mallocs { (needs : List (List Need)) → IsTrue result
-        → AreCounts (paging_of (profile_from pages page_bytes 1 65536) (layout_if in_blocks) bounds.now) needs modes.now
-        → ServesMallocs (paging_of (profile_from pages page_bytes 1 65536) (layout_if in_blocks) bounds.now) (KeepsToOne needs) }
-    ensures resizes { (needs : List (List Need)) → IsTrue result → IsTrue resizes
-        → AreCounts (paging_of (profile_from pages page_bytes 1 65536) (layout_if in_blocks) bounds.now) needs modes.now
-        → ServesResizes (paging_of (profile_from pages page_bytes 1 65536) (layout_if in_blocks) bounds.now) (KeepsToOne needs) }
-    ensures spare { (needs : List (List Need)) → IsTrue result
-        → AreCounts (paging_of (profile_from pages page_bytes 1 65536) (layout_if in_blocks) bounds.now) needs modes.now
-        → ServesResizes (with_pages (pages + 1) (paging_of (profile_from pages page_bytes 1 65536) (layout_if in_blocks) bounds.now)) (KeepsToOne needs) }
+    ensures exact { setting_fault pages page_bytes 1 65536 ≡ None
+        → IsPaging (paging_of (profile_from pages page_bytes 1 65536) (layout_if in_blocks) bounds.now) → All HasFew modes.now
+        → IsTrue result ↔ IsCertificate (paging_of (profile_from pages page_bytes 1 65536) (layout_if in_blocks) bounds.now) (needs_of modes.now) points.now
+        × (IsTrue resizes → AreForResizes (paging_of (profile_from pages page_bytes 1 65536) (layout_if in_blocks) bounds.now) (needs_of modes.now) points.now) }
+    ensures mallocs { IsTrue result
+        → ServesMallocsAcross (paging_of (profile_from pages page_bytes 1 65536) (layout_if in_blocks) bounds.now) (KeepsToOne (needs_of modes.now)) }
+    ensures resizes { IsTrue result → IsTrue resizes
+        → IsServed (paging_of (profile_from pages page_bytes 1 65536) (layout_if in_blocks) bounds.now) (KeepsToOne (needs_of modes.now)) }
+    ensures spare { IsTrue result
+        → ServesResizesAcross (with_pages (pages + 1) (paging_of (profile_from pages page_bytes 1 65536) (layout_if in_blocks) bounds.now)) (KeepsToOne (needs_of modes.now)) }
 {
     is_certified(
         pages,

@@ -24,7 +24,7 @@ use Rattle.page_model.proofs.PageCounts.{sound_can_hold}
 use Rattle.page_model.proofs.RoomAtOne.{needed_with_is}
 use Rattle.std.proofs.lemmas.List.{length-replicate}
 use Rattle.sizing.specs.Demands.{Affords, ArePrices, KeepsBudget, objects_to_open}
-use Rattle.sizing.specs.Runs.{HeapCall, MallocLacks, ResizeLacks, Run, ServesMallocs, ServesResizes}
+use Rattle.sizing.specs.Runs.{Does, HeapCall, MallocLacks, ResizeLacks, Run, ServesMallocs, ServesResizes}
 use Rattle.sizing.proofs.BudgetLeast.{opened_by}
 use Rattle.sizing.proofs.Calls.{live_malloced, run_keeps, sound_next}
 use Rattle.sizing.proofs.ClassPages.{sum_less}
@@ -154,7 +154,7 @@ module _ (p : Paging) (cost price : ℕ → ℕ) (prices : ArePrices p cost pric
       keeps : KeepsBudget cost budget (objects m)
 
     within_along : (calls : List HeapCall) (m : Held) → Run p (KeepsBudget cost budget) empty calls m → IsWithin m
-    within_along calls m run = run_keeps p (KeepsBudget cost budget) IsWithin
+    within_along calls m run = run_keeps (Does p) (KeepsBudget cost budget) IsWithin
         (λ old new call k does asked. record { sound = sound_next p ok old k.sound call new does; keeps = asked }) calls empty m
         (record {
           sound = sound_empty p;

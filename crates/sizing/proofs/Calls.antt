@@ -13,14 +13,14 @@ use Rattle.page_model.specs.Arrangement.{IsSound, class_at, live, objects_on, pa
 use Rattle.page_model.specs.Counts.{ceil_div}
 use Rattle.page_model.specs.Held.{Held, Objects, Placed, objects}
 use Rattle.page_model.specs.Paging.{IsPaging, Paging, class_for, classes, page_of, slots_of}
-use Rattle.page_model.specs.Steps.{CallResult, IsFreePlace, Moves, PlacesObject, RefitsObject, RemovesObject, Request, resized, resized_at, without, zeros_at}
+use Rattle.page_model.specs.Steps.{CallResult, ChangesClass, IsFreePlace, Moves, PlacesObject, RefitsObject, RemovesObject, Request, resized, resized_at, without, zeros_at}
 use Rattle.page_model.proofs.CallerLemmas.{bytes_held, bytes_missing, change_is, class-resized, class_of_zeros, free_objects, length-resized, live_added, live_taken}
 use Rattle.page_model.proofs.CallerLemmas.{malloc_objects, objects_on-elsewhere, sound_exchanged, sound_free, sound_malloc, sound_resize}
 use Rattle.page_model.proofs.Counting.{on_no}
 use Rattle.page_model.proofs.OrderNumbers.{none_freed}
 use Rattle.page_model.proofs.Parts.{freed_counts, in_place_counts, moved_counts}
 use Rattle.sizing.specs.Demands.{HasAtMost}
-use Rattle.sizing.specs.Runs.{Does, HeapCall, Run, free_of, malloc_of, resize_of, write_of}
+use Rattle.sizing.specs.Runs.{Does, HeapCall, RunBy, free_of, malloc_of, resize_of, write_of}
 use Rattle.sizing.proofs.ClassPages.{no_more_pages, opened}
 
 module _ (p : Paging) (m : Held) (h n : ℕ) where
@@ -81,6 +81,18 @@ module _ (p : Paging) (ok : IsPaging p) (old : Held) (s : IsSound p old) where
       let z = on_no p c g y (inr (λ f. ne (sym may.class ∙ f))) in
       omega arith)
 
+  -- a resize into another class changes the object's length
+  pub objects_changed : (asked : Request) (after : CallResult) → (step : ChangesClass p old asked after)
+      → objects after.held ≡ insert (objects old) asked.number (resized step.object.bytes asked.length)
+  objects_changed asked after step =
+      let is = change_is p ok old s asked after step in
+      let left : objects (without old asked.number step.object.place after.moved) ≡ remove (objects old) asked.number =
+      free_objects p ok old s asked.number step.object step.found after.moved is.0 in
+      ap objects is.1
+      ∙ map_values-insert (λ (y : Placed). y.bytes) (without old asked.number step.object.place after.moved) asked.number (resized_at step.place step.object asked.length)
+      ∙ ap (λ o. insert o asked.number (resized step.object.bytes asked.length)) left
+      ∙ insert_again (objects old) asked.number (resized step.object.bytes asked.length)
+
   module _ (most : ℕ → ℕ) (before : IsWithinPages p most old) where
     -- An object y of n bytes is added at a free place to objects `base`, which are fewer than the old ones, but for its class.
     added_within : (base : Held) (h n : ℕ) (y : Placed) → get base h ≡ None → class_at p y ≡ class_for p n → IsFreePlace p old n y.place
@@ -133,14 +145,8 @@ module _ (p : Paging) (ok : IsPaging p) (old : Held) (s : IsSound p old) where
         (class-resized p step.object.place asked.length step.object ∙ step.same))
     resize_within asked after (inr step) few =
         let is = change_is p ok old s asked after step in
-        let left : objects (without old asked.number step.object.place after.moved) ≡ remove (objects old) asked.number =
-        free_objects p ok old s asked.number step.object step.found after.moved is.0 in
-        let now : objects after.held ≡ insert (objects old) asked.number (resized step.object.bytes asked.length) =
-        ap objects is.1
-        ∙ map_values-insert (λ (y : Placed). y.bytes) (without old asked.number step.object.place after.moved) asked.number (resized_at step.place step.object asked.length)
-        ∙ ap (λ o. insert o asked.number (resized step.object.bytes asked.length)) left
-        ∙ insert_again (objects old) asked.number (resized step.object.bytes asked.length) in
-        let few' : HasAtMost p most (insert (objects old) asked.number (resized step.object.bytes asked.length)) = subst (HasAtMost p most) now few in
+        let few' : HasAtMost p most (insert (objects old) asked.number (resized step.object.bytes asked.length)) =
+        subst (HasAtMost p most) (objects_changed asked after step) few in
         subst (IsWithinPages p most) (sym is.1)
         (added_within (without old asked.number step.object.place after.moved) asked.number asked.length (resized_at step.place step.object asked.length)
         (none_freed p ok old s asked.number step.object step.found after.moved is.0) (class-resized p step.place asked.length step.object) step.free
@@ -158,8 +164,8 @@ module _ (p : Paging) (ok : IsPaging p) (old : Held) (s : IsSound p old) where
         (rewritten_within h step.object v step.found (ap (class_for p) step.long))
 
 -- what each call keeps, a run keeps
-pub run_keeps : (p : Paging) (allowed : Objects → Type 0) (P : Held → Type 0)
-    → ((old new : Held) (call : HeapCall) → P old → Does p old call new → allowed (objects new) → P new) → (calls : List HeapCall) (m last : Held) → P m
-    → Run p allowed m calls last → P last
-run_keeps p allowed P next [] m last k is = subst P (sym is) k
-run_keeps p allowed P next (call ∷ rest) m last k run = run_keeps p allowed P next rest run.0 last (next m run.0 call k run.1 run.2) run.3
+pub run_keeps : (step : Held → HeapCall → Held → Type 0) (allowed : Objects → Type 0) (P : Held → Type 0)
+    → ((old new : Held) (call : HeapCall) → P old → step old call new → allowed (objects new) → P new) → (calls : List HeapCall) (m last : Held) → P m
+    → RunBy step allowed m calls last → P last
+run_keeps step allowed P next [] m last k is = subst P (sym is) k
+run_keeps step allowed P next (call ∷ rest) m last k run = run_keeps step allowed P next rest run.0 last (next m run.0 call k run.1 run.2) run.3

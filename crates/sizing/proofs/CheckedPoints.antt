@@ -1,201 +1,142 @@
--- For `is_certificate`: the points that the tables give are a certificate if and only if each table meets its conditions, and there is one if there is a mode.
-use Rattle.std.proofs.Common.{◌≡◌, ◌≢◌, ℕ, suc, ◌+◌, ◌<◌, ◌≤◌, List, [], All, Contains, length, map, arith, ap, sym, ◌∙◌, min, subst, inl, inr}
-use Rattle.std.specs.Prelude.{IsTrue, slice_index, slice_index_or, sum_by}
+-- For `is_certificate`: the points are a certificate if and only if each meets its conditions, and there is one if there is a mode. The tables that the test
+-- computes have the counts of the modes.
+use Rattle.std.proofs.Common.{◌≡◌, ℕ, suc, ◌+◌, ◌<◌, ◌≤◌, Bool, List, [], All, Contains, cond, get_or-set_other, get_or-set_same, length, arith, ap, sym, ◌∙◌, min, refl, subst, inl, inr}
+use Rattle.std.proofs.Math.ListN.{set}
+use Rattle.std.specs.Prelude.{IsTrue, nat_eq, slice_index, slice_index_or, sum_by}
 use Rattle.std.specs.List.{range_with_len}
-use Rattle.std.proofs.lemmas.Bool.{cases_lt}
-use Rattle.std.proofs.lemmas.List.{get_or-map, get_or_default, length-map}
+use Rattle.std.proofs.lemmas.Bool.{cases_eq, cases_lt}
+use Rattle.std.proofs.lemmas.List.{get_or-map, length-map}
+use Rattle.std.proofs.lemmas.List.Elements.{All-contains, Contains-get_or}
 use Rattle.cf_base.specs.Classes.{sizes}
 use Rattle.cf_base.specs.Limits.{is_page_size}
 use Rattle.cf_base.specs.Settings.{Profile}
 use Rattle.cf_base.specs.declared.kind.Layout.{Layout}
 use Rattle.cf_lemmas.proofs.Ranges.{sum_range_same}
-use Rattle.page_model.specs.Counts.{ceil_div, most_pages}
+use Rattle.cf_lemmas.proofs.Tests.{eq_no, eq_yes}
+use Rattle.page_model.specs.Counts.{most_pages}
 use Rattle.page_model.specs.Paging.{IsPaging, Paging, bound_of, class_for, classes, paging_of, slots_of}
 use Rattle.page_model.proofs.CallerLemmas.{paged}
 use Rattle.quota_model.specs.declared.answers.Need.{Need}
-use Rattle.sizing.specs.Certificates.{HoldCopies, IsCertificate, IsPoint, Point, mode_count, pages_with_copy}
-use Rattle.sizing.specs.Checks.{AreCounts, CopiesFit, IsRow, objects_in, point_in, with_pages}
-use Rattle.sizing.specs.Demands.{KeepsToOne}
+use Rattle.sizing.specs.Certificates.{AreForResizes, IsCertificate, IsPoint, LeadsInto, in_both, kept_count, mode_at, mode_count, one_more, pages_with_copy}
+use Rattle.sizing.specs.Checks.{AllowsResizes, AreCounts, IsRow, needs_of, paging_with, with_pages}
+use Rattle.sizing.specs.Demands.{KeepsToOne, count_in}
 use Rattle.sizing.specs.Layout.{size_before}
-use Rattle.sizing.specs.Runs.{ServesResizes}
-use Rattle.sizing.specs.declared.certificate.ModeObjects.{ModeObjects}
+use Rattle.sizing.specs.Runs.{ServesResizesAcross}
+use Rattle.sizing.specs.declared.certificate.ModeNeeds.{ModeNeeds}
 use Rattle.sizing.specs.declared.certificate.PointPages.{PointPages}
-use Rattle.sizing.proofs.ModePages.{certified_resizes}
+use Rattle.sizing.specs.declared.points.HeapClasses.{HeapClasses}
+use Rattle.sizing.specs.declared.shared.TwoModes.{TwoModes}
+use Rattle.sizing.proofs.ModePages.{certified_spare}
 
--- the table with number k
-abbrev row_at : List PointPages → ℕ → PointPages
-row_at points k = slice_index_or points k (record { mode = 0; pages = [] })
+-- ---- all points
 
-contains_row : (points : List PointPages) (k : ℕ) → k < length points → Contains points (row_at points k)
-contains_row points k lt = (k, lt, get_or_default points k (row_at points k) (record { mode = 0; pages = [] }) lt)
-
-contains_point : (points : List PointPages) (x : PointPages) → Contains points x → Contains (map point_in points) (point_in x)
-contains_point points x at = (
-  at.0,
-  (let e = length-map points point_in in let lt = at.1 in omega arith),
-  get_or-map point_in points at.0 x (point_in x) at.1 ∙ ap point_in at.2,
-)
-
--- a point of the list is that of a table
-record IsOf (points : List PointPages) (x : Point) : Type 0 where
-  row : PointPages
-  inside : Contains points row
-  is : x ≡ point_in row
-
-row_of : (points : List PointPages) (x : Point) → Contains (map point_in points) x → IsOf points x
-row_of points x at =
-    let e = length-map points point_in in
-    let lt : at.0 < length points = (let less = at.1 in omega arith) in
+module _ (p : Paging) (modes : List ModeNeeds) (points : List PointPages) (resizes : Bool) where
+  pub certified : (0 < length modes → 0 < length points) → All (IsRow p modes points resizes) points
+      → IsCertificate p (needs_of modes) points × (IsTrue resizes → AreForResizes p (needs_of modes) points)
+  certified some rows = (
     record {
-      row = row_at points at.0;
-      inside = contains_row points at.0 lt;
-      is = sym at.2 ∙ get_or-map point_in points at.0 (record { mode = 0; pages = [] }) x lt;
-    }
+      first = λ j less. (
+          let long = length-map modes (λ (m : ModeNeeds). m.needs) in
+          let lt = some (omega arith) in
+          let y = (rows 0 (record { mode = 0; pages = [] }) lt).point.next j less in
+          (y.0, y.1, y.2));
+      each = λ i d lt. (rows i d lt).point;
+    },
+    λ yes. record {
+      within = λ x inside j lt. (
+          let long = length-map modes (λ (m : ModeNeeds). m.needs) in
+          ((All-contains (IsRow p modes points resizes) points x rows inside).resized yes j (omega arith)).within);
+      copies = λ x inside j lt. (
+          let long = length-map modes (λ (m : ModeNeeds). m.needs) in
+          ((All-contains (IsRow p modes points resizes) points x rows inside).resized yes j (omega arith)).copies);
+    },
+  )
 
-module _ (p : Paging) (needs : List (List Need)) (modes : List ModeObjects) (points : List PointPages) (k : AreCounts p needs modes) where
-  -- the pages of one point as far as those of two modes can be on them
-  abbrev kept : ℕ → ℕ → ℕ → ℕ → ℕ
-  kept pages a b c = min pages (most_pages (min a b) (slots_of p c) (bound_of p c))
-
-  point_of_row : (x : PointPages) → IsRow p modes points x → IsPoint p needs (map point_in points) (point_in x)
-  point_of_row x r =
-      let many = k.many in
-      let known : x.mode < length needs = (let lt = r.known in omega arith) in
-      record {
-        known = known;
-        tops = λ c lt. subst (λ n. ceil_div n (slots_of p c) ≤ slice_index x.pages c) (k.same x.mode c known lt) (r.tops c lt);
-        enough = r.enough;
-        next = λ j less. (
-            let y = r.next j (omega arith) in (
-              point_in y.0,
-              contains_point points y.0 y.1,
-              y.2,
-              λ c lt. (
-                  let a = k.same x.mode c known lt in
-                  let b = k.same j c less lt ∙ ap (λ i. mode_count p needs i c) (sym y.2) in
-                  subst (λ n. n ≤ slice_index (y.0).pages c) (λ i. kept (slice_index x.pages c) (a i) (b i) c) (y.3 c lt)),
-            ));
-      }
-
-  row_of_point : (x : PointPages) → IsPoint p needs (map point_in points) (point_in x) → IsRow p modes points x
-  row_of_point x r =
-      let many = k.many in
-      record {
-        known = (let lt = r.known in omega arith);
-        tops = λ c lt. subst (λ n. ceil_div n (slots_of p c) ≤ slice_index x.pages c) (sym (k.same x.mode c r.known lt)) (r.tops c lt);
-        enough = r.enough;
-        next = λ j less. (
-            let lt' : j < length needs = omega arith in
-            let y = r.next j lt' in
-            let z = row_of points y.0 y.1 in (
-              z.row,
-              z.inside,
-              sym (ap (λ (q : Point). q.mode) z.is) ∙ y.2,
-              λ c lt. (
-                  let a = sym (k.same x.mode c r.known lt) in
-                  let b = ap (λ i. mode_count p needs i c) y.2 ∙ sym (k.same j c lt' lt) in
-                  let here = subst (λ n. n ≤ (y.0).pages c) (λ i. kept (slice_index x.pages c) (a i) (b i) c) (y.3 c lt) in
-                  subst (λ n. kept (slice_index x.pages c) (slice_index (objects_in modes x.mode) c) (slice_index (objects_in modes j) c) c ≤ n)
-                  (ap (λ (q : Point). q.pages c) z.is) here),
-            ));
-      }
-
-  pub certified : (0 < length modes → 0 < length points) → All (IsRow p modes points) points → IsCertificate p needs (map point_in points)
-  certified some rows = record {
-    first = λ j less. (
-        let many = k.many in
-        let lt = some (omega arith) in
-        let y = (point_of_row (row_at points 0) (rows 0 (record { mode = 0; pages = [] }) lt)).next j less in
-        (y.0, y.1, y.2));
-    each = λ x inside. (
-        let z = row_of points x inside in
-        let at = z.inside in
-        let row = rows at.0 z.row at.1 in
-        subst (IsPoint p needs (map point_in points)) (sym z.is) (point_of_row z.row (subst (IsRow p modes points) at.2 row)));
+  pub all_rows : IsCertificate p (needs_of modes) points × (IsTrue resizes → AreForResizes p (needs_of modes) points) → All (IsRow p modes points resizes) points
+  all_rows sure i d lt = record {
+    point = (sure.0).each i d lt;
+    resized = λ yes j less. (
+        let long = length-map modes (λ (m : ModeNeeds). m.needs) in
+        let inside = Contains-get_or points i d lt in
+        let more = sure.1 yes in
+        record {
+          within = more.within (slice_index_or points i d) inside j (omega arith);
+          copies = more.copies (slice_index_or points i d) inside j (omega arith);
+        });
   }
 
-  pub all_rows : IsCertificate p needs (map point_in points) → All (IsRow p modes points) points
-  all_rows sure i d lt =
-      let x : PointPages = slice_index_or points i d in
-      row_of_point (slice_index_or points i d) (sure.each (point_in (slice_index_or points i d)) (contains_point points (slice_index_or points i d)
-      (i, lt, get_or_default points i (slice_index_or points i d) d lt)))
-
-  pub some_point : IsCertificate p needs (map point_in points) → 0 < length modes → 0 < length points
-  some_point sure some =
-      let many = k.many in
-      let x = sure.first 0 (omega arith) in
-      let at = x.1 in
-      let lt = at.1 in
-      let e = length-map points point_in in
-      omega arith
-
-  pub none_certified : length points ≡ 0 → length modes ≡ 0 → IsCertificate p needs (map point_in points)
-  none_certified none empty = certified (λ some. absurd (omega arith)) (λ i d lt. absurd (omega arith))
-
-  pub none_without : length points ≡ 0 → IsCertificate p needs (map point_in points) → length modes ≡ 0
+  pub none_without : length points ≡ 0 → IsCertificate p (needs_of modes) points → length modes ≡ 0
   none_without none sure = elim (cases_lt 0 (length modes)) [
-    | inl some ↦ absurd (let lt = some_point sure some in omega arith)
+    | inl some ↦ absurd (
+        let long = length-map modes (λ (m : ModeNeeds). m.needs) in
+        let at = (sure.first 0 (omega arith)).1 in
+        let lt = at.1 in
+        omega arith)
     | inr empty ↦ omega arith
   ]
 
-  -- a table holds copies if and only if its point does
-  copies_of : (x : PointPages) → CopiesFit p modes x → x.mode < length needs → (j c d : ℕ) → j < length needs → c < classes p → d < classes p → d ≢ c
-      → 0 < mode_count p needs x.mode c → 0 < mode_count p needs j d
-      → sum_by (λ e. pages_with_copy p c d e (slice_index x.pages e) (mode_count p needs x.mode e) (mode_count p needs j e)) (range_with_len 0 (classes p)) ≤ p.pages
-  copies_of x fits known j c d jl cl dl ne some some' =
-      let many = k.many in
-      let a = k.same x.mode c known cl in
-      let b = k.same j d jl dl in
-      let sum = fits.fits (omega arith) j (omega arith) c cl (omega arith) d dl ne (omega arith) in
-      let same = sum_range_same (λ e. pages_with_copy p c d e (slice_index x.pages e) (slice_index (objects_in modes x.mode) e) (slice_index (objects_in modes j) e))
-      (λ e. pages_with_copy p c d e (slice_index x.pages e) (mode_count p needs x.mode e) (mode_count p needs j e)) 0 (classes p)
-      (λ e _ lt. (
-      let u = k.same x.mode e known (omega arith) in
-      let v = k.same j e jl (omega arith) in
-      λ i. pages_with_copy p c d e (slice_index x.pages e) (u i) (v i))) in
-      omega arith
+-- ---- one point and one mode
 
-  pub copies_held : All (CopiesFit p modes) points → HoldCopies p needs (map point_in points)
-  copies_held rows x inside =
-      let z = row_of points x inside in
-      let at = z.inside in
-      let row = subst (CopiesFit p modes) at.2 (rows at.0 z.row at.1) in
-      subst (λ (y : Point). y.mode < length needs → (j c d : ℕ) → j < length needs → c < classes p → d < classes p → d ≢ c → 0 < mode_count p needs y.mode c
-      → 0 < mode_count p needs j d
-      → sum_by (λ e. pages_with_copy p c d e (y.pages e) (mode_count p needs y.mode e) (mode_count p needs j e)) (range_with_len 0 (classes p)) ≤ p.pages)
-      (sym z.is) (copies_of z.row row)
+-- pages don't change the classes
+alike : (pages : ℕ) (heap : HeapClasses) (needs : List Need) (c : ℕ) → count_in (paging_with 0 heap) needs c ≡ count_in (paging_with pages heap) needs c
+unfolding class_for
+alike pages heap needs c = refl
 
-  copies_back : (x : PointPages) → ((j c d : ℕ) → j < length needs → c < classes p → d < classes p → d ≢ c
-      → 0 < mode_count p needs x.mode c → 0 < mode_count p needs j d
-      → sum_by (λ e. pages_with_copy p c d e (slice_index x.pages e) (mode_count p needs x.mode e) (mode_count p needs j e)) (range_with_len 0 (classes p)) ≤ p.pages)
-      → CopiesFit p modes x
-  copies_back x holds = record {
-    fits = λ known j jl c cl some d dl ne some'. (
-        let many = k.many in
-        let known' : x.mode < length needs = omega arith in
-        let jl' : j < length needs = omega arith in
-        let a = k.same x.mode c known' cl in
-        let b = k.same j d jl' dl in
-        let sum = holds j c d jl' cl dl ne (omega arith) (omega arith) in
-        let same = sum_range_same (λ e. pages_with_copy p c d e (slice_index x.pages e) (slice_index (objects_in modes x.mode) e) (slice_index (objects_in modes j) e))
-        (λ e. pages_with_copy p c d e (slice_index x.pages e) (mode_count p needs x.mode e) (mode_count p needs j e)) 0 (classes p)
+needs_are : (modes : List ModeNeeds) (j : ℕ) (d : ModeNeeds) → j < length modes → (slice_index_or modes j d).needs ≡ mode_at (needs_of modes) j
+needs_are modes j d lt = sym (get_or-map (λ (m : ModeNeeds). m.needs) modes j d [] lt)
+
+-- the counts of mode i, as the test reads its needs
+pub count_at : (pages : ℕ) (heap : HeapClasses) (modes : List ModeNeeds) (i : ℕ) (d : ModeNeeds) → i < length modes → (c : ℕ)
+    → count_in (paging_with 0 heap) (slice_index_or modes i d).needs c ≡ mode_count (paging_with pages heap) (needs_of modes) i c
+count_at pages heap modes i d lt c = ap (λ n. count_in (paging_with 0 heap) n c) (needs_are modes i d lt) ∙ alike pages heap (mode_at (needs_of modes) i) c
+
+module _ (pages : ℕ) (heap : HeapClasses) (modes : List ModeNeeds) (i j : ℕ) (d e : ModeNeeds) (il : i < length modes) (jl : j < length modes) (t : TwoModes)
+    (k : AreCounts (paging_with 0 heap) (slice_index_or modes i d).needs (slice_index_or modes j e).needs t) where
+  pub before_is : (c : ℕ) → c < classes (paging_with pages heap) → slice_index t.before c ≡ mode_count (paging_with pages heap) (needs_of modes) i c
+  before_is c lt = k.before c lt ∙ count_at pages heap modes i d il c
+
+  pub after_is : (c : ℕ) → c < classes (paging_with pages heap) → slice_index t.after c ≡ mode_count (paging_with pages heap) (needs_of modes) j c
+  after_is c lt = k.after c lt ∙ count_at pages heap modes j e jl c
+
+  pub kept_is : (c : ℕ) → c < classes (paging_with pages heap) → slice_index t.kept c ≡ kept_count (paging_with pages heap) (needs_of modes) i j c
+  kept_is c lt = k.kept c lt ∙ (λ q. count_in (paging_with 0 heap) (in_both (needs_are modes i d il q) (needs_are modes j e jl q)) c)
+      ∙ alike pages heap (in_both (mode_at (needs_of modes) i) (mode_at (needs_of modes) j)) c
+
+-- one object more of class c in a table
+pub set_is_more : (xs : List ℕ) (c : ℕ) → c < length xs → (e : ℕ) → slice_index (set xs c (slice_index xs c + 1)) e ≡ one_more c (slice_index xs) e
+set_is_more xs c lt e = elim (cases_eq e c) [
+  | inl is ↦ subst (λ i. slice_index (set xs c (slice_index xs c + 1)) i ≡ one_more c (slice_index xs) i) (sym is)
+      (rw (eq_yes c c refl) (get_or-set_same xs c (slice_index xs c + 1) 0 lt))
+  | inr ne ↦ rw (eq_no e c ne) (rw get_or-set_other refl)
+]
+
+pub leads_same : (p : Paging) (points : List PointPages) (kept kept' : ℕ → ℕ) (x : PointPages) (j : ℕ) → ((c : ℕ) → c < classes p → kept c ≡ kept' c)
+    → LeadsInto p points kept x j → LeadsInto p points kept' x j
+leads_same p points kept kept' x j same y = (
+  y.0,
+  y.1,
+  y.2,
+  λ c lt. subst (λ n. min (slice_index x.pages c) (most_pages n (slots_of p c) (bound_of p c)) ≤ slice_index (y.0).pages c) (same c lt) (y.3 c lt),
+)
+
+-- tables with the same counts
+module _ (p : Paging) (points : List PointPages) (kept before after kept' before' after' : ℕ → ℕ) (x : PointPages) (j : ℕ)
+    (k : (c : ℕ) → c < classes p → kept c ≡ kept' c) (b : (c : ℕ) → c < classes p → before c ≡ before' c) (a : (c : ℕ) → c < classes p → after c ≡ after' c) where
+  pub allows_same : AllowsResizes p points kept before after x j → AllowsResizes p points kept' before' after' x j
+  allows_same r = record {
+    within = λ c lt less less'. leads_same p points (one_more c kept) (one_more c kept') x j (λ e inside. ap (λ n. cond (nat_eq e c) (n + 1) n) (k e inside))
+        (r.within c lt (let u = k c lt in let v = b c lt in omega arith) (let u = k c lt in let v = a c lt in omega arith));
+    copies = λ c cl some d dl ne some'. (
+        let sum = r.copies c cl (let v = b c cl in omega arith) d dl ne (let v = a d dl in omega arith) in
+        let same = sum_range_same (λ e. pages_with_copy p c d e (slice_index x.pages e) (kept e) (before e) (after e))
+        (λ e. pages_with_copy p c d e (slice_index x.pages e) (kept' e) (before' e) (after' e)) 0 (classes p)
         (λ e _ lt. (
-        let u = k.same x.mode e known' (omega arith) in
-        let v = k.same j e jl' (omega arith) in
-        λ i. pages_with_copy p c d e (slice_index x.pages e) (u i) (v i))) in
+        let u = k e (omega arith) in
+        let v = b e (omega arith) in
+        let w = a e (omega arith) in
+        λ i. pages_with_copy p c d e (slice_index x.pages e) (u i) (v i) (w i))) in
         omega arith);
   }
-
-  pub all_held : HoldCopies p needs (map point_in points) → All (CopiesFit p modes) points
-  all_held holds i d lt = record {
-    fits = λ known. (
-        let many = k.many in
-        (copies_back (slice_index_or points i d) (holds (point_in (slice_index_or points i d)) (contains_point points (slice_index_or points i d)
-        (i, lt, get_or_default points i (slice_index_or points i d) d lt)) (omega arith))).fits known);
-  }
-
-  pub none_held : length points ≡ 0 → HoldCopies p needs (map point_in points)
-  none_held none = copies_held (λ i d lt. absurd (omega arith))
 
 -- ---- the pages of the settings
 
@@ -215,16 +156,17 @@ size_after xs c = sym (ap (size_before xs) (let e : c + 1 ≡ suc c = omega arit
 -- ---- a page more
 
 -- a certificate is one with more pages too
-more_pages : (p : Paging) (needs : List (List Need)) (points : List Point) → IsCertificate p needs points → IsCertificate (with_pages (p.pages + 1) p) needs points
+more_pages : (p : Paging) (needs : List (List Need)) (points : List PointPages) → IsCertificate p needs points → IsCertificate (with_pages (p.pages + 1) p) needs points
 unfolding class_for
 more_pages p needs points sure = record {
   first = sure.first;
-  each = λ x inside. (
-      let r = sure.each x inside in
+  each = λ i d lt. (
+      let r = sure.each i d lt in
       record { known = r.known; tops = r.tops; enough = (let sum = r.enough in omega arith); next = r.next });
 }
 
-pub resizes_with_more : (p : Paging) (needs : List (List Need)) (points : List Point) → IsPaging p → IsCertificate p needs points
-    → ServesResizes (with_pages (p.pages + 1) p) (KeepsToOne needs)
-resizes_with_more p needs points ok sure = certified_resizes (with_pages (p.pages + 1) p) (record { sized = ok.sized; bounded = ok.bounded; some = ok.some }) needs points
-    (more_pages p needs points sure) (λ x inside. (let sum = (sure.each x inside).enough in omega arith))
+pub resizes_with_more : (p : Paging) (needs : List (List Need)) (points : List PointPages) → IsPaging p → IsCertificate p needs points
+    → ServesResizesAcross (with_pages (p.pages + 1) p) (KeepsToOne needs)
+resizes_with_more p needs points ok sure = certified_spare (with_pages (p.pages + 1) p) (record { sized = ok.sized; bounded = ok.bounded; some = ok.some }) needs points
+    (more_pages p needs points sure)
+    (λ x inside. (let sum = (All-contains (IsPoint p needs points) points x sure.each inside).enough in omega arith))

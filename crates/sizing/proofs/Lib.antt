@@ -3,6 +3,7 @@ pub mod Calls
 pub mod MostLive
 pub mod FewerPages
 pub mod MostPages
+pub mod Staying
 pub mod ModePages
 pub mod BudgetPages
 pub mod HeapRuns

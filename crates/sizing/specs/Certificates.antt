@@ -1,52 +1,88 @@
 -- Certificates that pages are enough for the modes of a program, whatever the bounds: for each mode some numbers of pages by class, one of which no run that is
 -- in the mode exceeds. An unverified planner can compute them, and `is_certificate` tests them.
-use Rattle.std.specs.Prelude.{◌≡◌, ◌≢◌, ℕ, ◌+◌, ◌-◌, ◌*◌, ◌<◌, ◌≤◌, List, [], Contains, if◌then◌else◌, length, min, nat_eq, slice_index_or, sum_by}
+use Rattle.std.specs.Prelude.{◌≡◌, ◌≢◌, ℕ, ◌+◌, ◌-◌, ◌*◌, ◌<◌, ◌≤◌, All, List, [], ◌∷◌, Contains, if◌then◌else◌, length, min, nat_eq, slice_index, slice_index_or, sum_by}
 use Rattle.std.specs.List.{range_with_len}
 use Rattle.page_model.specs.Counts.{ceil_div, most_pages}
 use Rattle.page_model.specs.Paging.{Paging, bound_of, classes, slots_of}
+use Rattle.quota_model.specs.Admission.{declared}
 use Rattle.quota_model.specs.declared.answers.Need.{Need}
 use Rattle.sizing.specs.Demands.{Affords, count_in}
+use Rattle.sizing.specs.declared.certificate.PointPages.{PointPages}
 
--- a mode, by its number from 0 on, and a number of pages for each class
-pub record Point : Type 0 where
-  pub mode : ℕ
-  pub pages : ℕ → ℕ
+-- the needs of the mode with number j, counted from 0
+abbrev pub mode_at : List (List Need) → ℕ → List Need
+mode_at modes j = slice_index_or modes j []
 
 -- how many objects of class c the mode with number j has at most
 abbrev pub mode_count : Paging → List (List Need) → ℕ → ℕ → ℕ
-mode_count p modes j c = count_in p (slice_index_or modes j []) c
+mode_count p modes j c = count_in p (mode_at modes j) c
 
--- The pages of the point y are at least those that a run can still have when it goes on from the point x to the mode of y: the pages of x, as far as the objects
--- that both modes allow can be on them.
-abbrev pub LeadsTo : Paging → List (List Need) → Point → Point → Type 0
-LeadsTo p modes x y = (c : ℕ) → c < classes p
-    → min (x.pages c) (most_pages (min (mode_count p modes x.mode c) (mode_count p modes y.mode c)) (slots_of p c) (bound_of p c)) ≤ y.pages c
+-- what both needs declare, of each length the smaller number: of an entry, as many as the others declare beyond the entries after it
+abbrev pub in_both : List Need → List Need → List Need
+in_both [] others = []
+in_both (e ∷ rest) others = record { bytes = e.bytes; count = min e.count (declared others e.bytes - declared rest e.bytes) } ∷ in_both rest others
+
+-- how many objects of class c can stay when the program goes from mode i to mode j: of each length as many as both modes have
+abbrev pub kept_count : Paging → List (List Need) → ℕ → ℕ → ℕ → ℕ
+kept_count p modes i j c = count_in p (in_both (mode_at modes i) (mode_at modes j)) c
+
+-- these numbers by class, with one more of class c
+abbrev pub one_more : ℕ → (ℕ → ℕ) → ℕ → ℕ
+one_more c counts e = if nat_eq e c then counts e + 1 else counts e
+
+-- Of each class at most `kept` objects stay. The pages of the point y are at least those that a run can then still have when it goes on from the point x: the
+-- pages of x, as far as these objects can be on them.
+abbrev pub LeadsTo : Paging → (ℕ → ℕ) → PointPages → PointPages → Type 0
+LeadsTo p kept x y = (c : ℕ) → c < classes p → min (slice_index x.pages c) (most_pages (kept c) (slots_of p c) (bound_of p c)) ≤ slice_index y.pages c
+
+-- the point x leads to one of the points of mode j
+abbrev pub LeadsInto : Paging → List PointPages → (ℕ → ℕ) → PointPages → ℕ → Type 0
+LeadsInto p points kept x j = (y : PointPages) × Contains points y × (y.mode ≡ j) × LeadsTo p kept x y
 
 -- What a point of a certificate must meet: there is its mode (`known`). It has at least the pages that the objects of its mode need (`tops`), and its pages are
 -- within those of the heap (`enough`). It leads to one of the points of each mode (`next`).
-pub record IsPoint (p : Paging) (modes : List (List Need)) (points : List Point) (x : Point) : Type 0 where
+pub record IsPoint (p : Paging) (modes : List (List Need)) (points : List PointPages) (x : PointPages) : Type 0 where
   pub known : x.mode < length modes
-  pub tops : (c : ℕ) → c < classes p → ceil_div (mode_count p modes x.mode c) (slots_of p c) ≤ x.pages c
-  pub enough : sum_by x.pages (range_with_len 0 (classes p)) ≤ p.pages
-  pub next : (j : ℕ) → j < length modes → (y : Point) × Contains points y × (y.mode ≡ j) × LeadsTo p modes x y
+  pub tops : (c : ℕ) → c < classes p → ceil_div (mode_count p modes x.mode c) (slots_of p c) ≤ slice_index x.pages c
+  pub enough : sum_by (slice_index x.pages) (range_with_len 0 (classes p)) ≤ p.pages
+  pub next : (j : ℕ) → j < length modes → LeadsInto p points (kept_count p modes x.mode j) x j
 
 -- each mode has a point (`first`), and each point meets `IsPoint` (`each`)
-pub record IsCertificate (p : Paging) (modes : List (List Need)) (points : List Point) : Type 0 where
-  pub first : (j : ℕ) → j < length modes → (x : Point) × Contains points x × (x.mode ≡ j)
-  pub each : (x : Point) → Contains points x → IsPoint p modes points x
+pub record IsCertificate (p : Paging) (modes : List (List Need)) (points : List PointPages) : Type 0 where
+  pub first : (j : ℕ) → j < length modes → (x : PointPages) × Contains points x × (x.mode ≡ j)
+  pub each : All (IsPoint p modes points) points
+
+-- The point x leads to one of the points of mode j also if a resize within a class leads to the mode, from one that has at most `before` objects of each class to
+-- one that has at most `after`: then one object more of the class stays, if both modes have more than `kept`.
+abbrev pub KeepsResized : Paging → List PointPages → (kept before after : ℕ → ℕ) → PointPages → ℕ → Type 0
+KeepsResized p points kept before after x j = (c : ℕ) → c < classes p → kept c < before c → kept c < after c → LeadsInto p points (one_more c kept) x j
 
 -- The most pages of class e while a resize has its object in two slots, one of class c and the new one of class d. Before the resize the class has at most these
--- `pages`, and its mode allows `a` objects of it; the mode afterwards allows `b`.
-abbrev pub pages_with_copy : Paging → ℕ → ℕ → ℕ → ℕ → ℕ → ℕ → ℕ
-pages_with_copy p c d e pages a b = if nat_eq e d
-    then min (pages + 1) (ceil_div (min (a + 1) b) (slots_of p e))
-    else min pages (most_pages (min a (if nat_eq e c then b + 1 else b)) (slots_of p e) (bound_of p e))
+-- `pages`, and its mode at most `before` objects of it; the mode afterwards has at most `after`, and `kept` other objects can stay.
+abbrev pub pages_with_copy : Paging → ℕ → ℕ → ℕ → (pages kept before after : ℕ) → ℕ
+pages_with_copy p c d e pages kept before after = if nat_eq e d
+    then min (pages + 1) (ceil_div (min (kept + 1) after) (slots_of p e))
+    else min pages (most_pages (if nat_eq e c then min (kept + 1) before else kept) (slots_of p e) (bound_of p e))
 
--- the pages hold an object in two slots during a resize: from each point, and from each class of its mode into each other class of each mode
-abbrev pub HoldCopies : Paging → List (List Need) → List Point → Type 0
-HoldCopies p modes points = (x : Point) → Contains points x → x.mode < length modes → (j c d : ℕ) → j < length modes → c < classes p → d < classes p → d ≢ c
-    → 0 < mode_count p modes x.mode c → 0 < mode_count p modes j d
-    → sum_by (λ e. pages_with_copy p c d e (x.pages e) (mode_count p modes x.mode e) (mode_count p modes j e)) (range_with_len 0 (classes p)) ≤ p.pages
+-- the pages hold an object in two slots during a resize from the point x: from each class of its mode into each other class of the mode afterwards
+abbrev pub HoldsCopies : Paging → (kept before after : ℕ → ℕ) → PointPages → Type 0
+HoldsCopies p kept before after x = (c : ℕ) → c < classes p → 0 < before c → (d : ℕ) → d < classes p → d ≢ c → 0 < after d
+    → sum_by (λ e. pages_with_copy p c d e (slice_index x.pages e) (kept e) (before e) (after e)) (range_with_len 0 (classes p)) ≤ p.pages
+
+-- the certificate allows for resizes within a class, from each point into each mode
+abbrev pub KeepResized : Paging → List (List Need) → List PointPages → Type 0
+KeepResized p modes points = (x : PointPages) → Contains points x → (j : ℕ) → j < length modes
+    → KeepsResized p points (kept_count p modes x.mode j) (mode_count p modes x.mode) (mode_count p modes j) x j
+
+-- the pages hold the copies of resizes into another class, from each point into each mode
+abbrev pub HoldCopies : Paging → List (List Need) → List PointPages → Type 0
+HoldCopies p modes points = (x : PointPages) → Contains points x → (j : ℕ) → j < length modes
+    → HoldsCopies p (kept_count p modes x.mode j) (mode_count p modes x.mode) (mode_count p modes j) x
+
+-- the certificate is one for resizes too: those within a class (`within`), and those into another class (`copies`)
+pub record AreForResizes (p : Paging) (modes : List (List Need)) (points : List PointPages) : Type 0 where
+  pub within : KeepResized p modes points
+  pub copies : HoldCopies p modes points
 
 -- `level` shows that the pages are enough for a budget, if an object of class c costs at least `price c`: the objects of a full page cost at least `level`,
 -- whatever its class (`full`). The budget, with `level - price c` for each page of class c that may be partly full, is below `level` for each page and for one

@@ -1,27 +1,22 @@
--- What the test of a certificate is given: by class the objects of each mode, and the pages of each point, in tables of 67 entries, of which those of the page's
--- classes count.
-use Rattle.std.specs.Prelude.{◌≡◌, ◌≢◌, ℕ, ◌<◌, ◌≤◌, List, [], Contains, length, min, slice_index, slice_index_or, sum_by}
-use Rattle.std.specs.List.{range_with_len}
-use Rattle.page_model.specs.Counts.{ceil_div, most_pages}
-use Rattle.page_model.specs.Paging.{Paging, bound_of, classes, slots_of}
+-- What the test of a certificate is given, and the tables that it computes.
+use Rattle.std.specs.Prelude.{◌≡◌, ℕ, ◌-◌, ◌<◌, ◌≤◌, ◌+◌, Bool, IsTrue, List, [], drop, length, map, min, slice_index, slice_index_or}
+use Rattle.page_model.specs.Paging.{Paging, classes}
+use Rattle.quota_model.specs.Admission.{declared, declared_in_all}
 use Rattle.quota_model.specs.declared.answers.Need.{Need}
-use Rattle.sizing.specs.Certificates.{Point, mode_count, pages_with_copy}
+use Rattle.sizing.specs.Certificates.{HoldsCopies, IsPoint, KeepsResized, LeadsInto, in_both, kept_count, mode_count}
+use Rattle.sizing.specs.Demands.{count_in}
 use Rattle.sizing.specs.declared.points.HeapClasses.{HeapClasses}
-use Rattle.sizing.specs.declared.certificate.ModeObjects.{ModeObjects}
+use Rattle.sizing.specs.declared.certificate.ModeNeeds.{ModeNeeds}
 use Rattle.sizing.specs.declared.certificate.PointPages.{PointPages}
+use Rattle.sizing.specs.declared.shared.TwoModes.{TwoModes}
 
--- the objects by class of the mode with number j
-abbrev pub objects_in : List ModeObjects → ℕ → List ℕ
-objects_in modes j = (slice_index_or modes j (record { objects = [] })).objects
+-- the needs of each mode
+abbrev pub needs_of : List ModeNeeds → List (List Need)
+needs_of modes = map (λ (m : ModeNeeds). m.needs) modes
 
--- the tables have for each mode how many objects of each class its needs declare
-pub record AreCounts (p : Paging) (needs : List (List Need)) (modes : List ModeObjects) : Type 0 where
-  pub many : length modes ≡ length needs
-  pub same : (j c : ℕ) → j < length needs → c < classes p → slice_index (objects_in modes j) c ≡ mode_count p needs j c
-
--- the point of a certificate that a table gives
-abbrev pub point_in : PointPages → Point
-point_in x = record { mode = x.mode; pages = slice_index x.pages }
+-- the mode has at most 65,536 objects, the most that a heap may have
+abbrev pub HasFew : ModeNeeds → Type 0
+HasFew mode = declared_in_all mode.needs ≤ 65536
 
 -- the same pages and classes with so many pages
 abbrev pub with_pages : ℕ → Paging → Paging
@@ -33,37 +28,35 @@ with_pages n p = record p { pages = n }
 abbrev pub paging_with : ℕ → HeapClasses → Paging
 paging_with pages heap = record { pages = pages; page_words = heap.page_words; sizes = heap.sizes.now; bounds = heap.bounds.now }
 
--- `LeadsTo` of two tables, if the modes have the objects a and b by class
-abbrev pub Leads : Paging → List ℕ → List ℕ → PointPages → PointPages → Type 0
-Leads p a b x y = (c : ℕ) → c < classes p
-    → min (slice_index x.pages c) (most_pages (min (slice_index a c) (slice_index b c)) (slots_of p c) (bound_of p c)) ≤ slice_index y.pages c
+-- the tables have by class how many objects the needs of a mode declare, and those of a mode after it, and how many both
+pub record AreCounts (p : Paging) (needs others : List Need) (t : TwoModes) : Type 0 where
+  pub before : (c : ℕ) → c < classes p → slice_index t.before c ≡ count_in p needs c
+  pub after : (c : ℕ) → c < classes p → slice_index t.after c ≡ count_in p others c
+  pub kept : (c : ℕ) → c < classes p → slice_index t.kept c ≡ count_in p (in_both needs others) c
 
--- `tops` of a table, if its mode has the objects a by class
-abbrev pub HasTops : Paging → List ℕ → PointPages → Type 0
-HasTops p a x = (c : ℕ) → c < classes p → ceil_div (slice_index a c) (slots_of p c) ≤ slice_index x.pages c
+-- the point x allows for resizes into mode j: those within a class (`within`), and those into another class (`copies`)
+pub record AllowsResizes (p : Paging) (points : List PointPages) (kept before after : ℕ → ℕ) (x : PointPages) (j : ℕ) : Type 0 where
+  pub within : KeepsResized p points kept before after x j
+  pub copies : HoldsCopies p kept before after x
 
--- the pages of all classes
-abbrev pub sum_of : PointPages → ℕ → ℕ
-sum_of x n = sum_by (slice_index x.pages) (range_with_len 0 n)
+-- x leads to a point of mode j, also by a resize if the program `resizes`
+pub record Follows (p : Paging) (modes : List ModeNeeds) (points : List PointPages) (resizes : Bool) (x : PointPages) (j : ℕ) : Type 0 where
+  pub next : LeadsInto p points (kept_count p (needs_of modes) x.mode j) x j
+  pub resized : IsTrue resizes → AllowsResizes p points (kept_count p (needs_of modes) x.mode j) (mode_count p (needs_of modes) x.mode) (mode_count p (needs_of modes) j) x j
 
--- one of the tables is of mode j, and x leads to it
-abbrev pub LeadsInto : Paging → List ModeObjects → List PointPages → PointPages → ℕ → Type 0
-LeadsInto p modes points x j =
-    (y : PointPages) × Contains points y × (y.mode ≡ j) × Leads p (objects_in modes x.mode) (objects_in modes j) x y
+-- the conditions of a point, also those for resizes if the program `resizes`
+pub record IsRow (p : Paging) (modes : List ModeNeeds) (points : List PointPages) (resizes : Bool) (x : PointPages) : Type 0 where
+  pub point : IsPoint p (needs_of modes) points x
+  pub resized : IsTrue resizes → (j : ℕ) → j < length modes
+      → AllowsResizes p points (kept_count p (needs_of modes) x.mode j) (mode_count p (needs_of modes) x.mode) (mode_count p (needs_of modes) j) x j
 
--- `IsPoint` of a table
-pub record IsRow (p : Paging) (modes : List ModeObjects) (points : List PointPages) (x : PointPages) : Type 0 where
-  pub known : x.mode < length modes
-  pub tops : HasTops p (objects_in modes x.mode) x
-  pub enough : sum_of x (classes p) ≤ p.pages
-  pub next : (j : ℕ) → j < length modes → LeadsInto p modes points x j
+-- entry i of the needs
+abbrev pub need_at : List Need → ℕ → Need
+need_at needs i = slice_index_or needs i (record { bytes = 0; count = 0 })
 
--- the pages of x hold a copy of an object of class c, if its modes have the objects a and b by class
-abbrev pub CopyFits : Paging → List ℕ → List ℕ → PointPages → ℕ → Type 0
-CopyFits p a b x c = (d : ℕ) → d < classes p → d ≢ c → 0 < slice_index b d
-    → sum_by (λ e. pages_with_copy p c d e (slice_index x.pages e) (slice_index a e) (slice_index b e)) (range_with_len 0 (classes p)) ≤ p.pages
-
--- `HoldCopies` of a table
-pub record CopiesFit (p : Paging) (modes : List ModeObjects) (x : PointPages) : Type 0 where
-  pub fits : x.mode < length modes → (j : ℕ) → j < length modes → (c : ℕ) → c < classes p → 0 < slice_index (objects_in modes x.mode) c
-      → CopyFits p (objects_in modes x.mode) (objects_in modes j) x c
+-- entry i of what both needs declare
+abbrev pub entry_of : List Need → List Need → ℕ → Need
+entry_of needs others i = record {
+  bytes = (need_at needs i).bytes;
+  count = min (need_at needs i).count (declared others (need_at needs i).bytes - declared (drop (i + 1) needs) (need_at needs i).bytes);
+}

@@ -28,10 +28,25 @@ Does p old (free_of h) new = (moved : Option ℕ) × RemovesObject p old h (reco
 Does p old (resize_of h n) new = (moved : Option ℕ) × RefitsObject p old (record { number = h; length = n }) (record { held = new; moved = moved })
 Does p old (write_of h v) new = Rewrites old h v new
 
--- from the objects m the calls, one after the other, may lead to `last`; after each the live objects are allowed
+-- the call resizes an object to another length of its class, so the object keeps its slot
+abbrev pub ResizesWithin : Paging → Held → HeapCall → Type 0
+ResizesWithin p m (malloc_of h n) = ⊥
+ResizesWithin p m (free_of h) = ⊥
+ResizesWithin p m (resize_of h n) = (object : Placed) × (get m h ≡ Some object) × (class_for p n ≡ class_at p object) × (n ≢ length object.bytes)
+ResizesWithin p m (write_of h v) = ⊥
+
+-- the same as `Does`, for a program that never resizes an object to another length of its class
+abbrev pub DoesAcross : Paging → Held → HeapCall → Held → Type 0
+DoesAcross p old call new = Does p old call new × ¬ ResizesWithin p old call
+
+-- from the objects m the calls, one after the other, each a step of the relation, may lead to `last`; after each the live objects are allowed
+abbrev pub RunBy : (Held → HeapCall → Held → Type 0) → (Objects → Type 0) → Held → List HeapCall → Held → Type 0
+RunBy step allowed m [] last = last ≡ m
+RunBy step allowed m (call ∷ rest) last = (next : Held) × step m call next × allowed (objects next) × RunBy step allowed next rest last
+
+-- a run of any calls
 abbrev pub Run : Paging → (Objects → Type 0) → Held → List HeapCall → Held → Type 0
-Run p allowed m [] last = last ≡ m
-Run p allowed m (call ∷ rest) last = (next : Held) × Does p m call next × allowed (objects next) × Run p allowed next rest last
+Run p allowed m calls last = RunBy (Does p) allowed m calls last
 
 -- a malloc of n bytes, whose object would get number h, is allowed, and its class has no slot left
 pub record MallocLacks (p : Paging) (allowed : Objects → Type 0) (m : Held) (h n : ℕ) : Type 0 where
@@ -49,13 +64,27 @@ pub record ResizeLacks (p : Paging) (allowed : Objects → Type 0) (m : Held) (h
   pub asked : allowed (insert (objects m) h (resized object.bytes n))
   pub lacking : LacksRoom p m (class_for p n)
 
--- whatever a program called before, in whatever order, no allowed malloc is refused for space
-abbrev pub ServesMallocs : Paging → (Objects → Type 0) → Type 0
-ServesMallocs p allowed = (calls : List HeapCall) (m : Held) (h n : ℕ) → Run p allowed empty calls m → ¬ MallocLacks p allowed m h n
+-- whatever a program called before by these steps, in whatever order, no allowed malloc is refused for space
+abbrev pub ServesMallocsBy : (Held → HeapCall → Held → Type 0) → Paging → (Objects → Type 0) → Type 0
+ServesMallocsBy step p allowed = (calls : List HeapCall) (m : Held) (h n : ℕ) → RunBy step allowed empty calls m → ¬ MallocLacks p allowed m h n
 
 -- the same of resizes
+abbrev pub ServesResizesBy : (Held → HeapCall → Held → Type 0) → Paging → (Objects → Type 0) → Type 0
+ServesResizesBy step p allowed = (calls : List HeapCall) (m : Held) (h n : ℕ) → RunBy step allowed empty calls m → ¬ ResizeLacks p allowed m h n
+
+-- of any program
+abbrev pub ServesMallocs : Paging → (Objects → Type 0) → Type 0
+ServesMallocs p allowed = ServesMallocsBy (Does p) p allowed
+
 abbrev pub ServesResizes : Paging → (Objects → Type 0) → Type 0
-ServesResizes p allowed = (calls : List HeapCall) (m : Held) (h n : ℕ) → Run p allowed empty calls m → ¬ ResizeLacks p allowed m h n
+ServesResizes p allowed = ServesResizesBy (Does p) p allowed
+
+-- of a program that never resizes an object to another length of its class
+abbrev pub ServesMallocsAcross : Paging → (Objects → Type 0) → Type 0
+ServesMallocsAcross p allowed = ServesMallocsBy (DoesAcross p) p allowed
+
+abbrev pub ServesResizesAcross : Paging → (Objects → Type 0) → Type 0
+ServesResizesAcross p allowed = ServesResizesBy (DoesAcross p) p allowed
 
 -- the pages are enough for mallocs and resizes
 pub record IsServed (p : Paging) (allowed : Objects → Type 0) : Type 0 where

@@ -1,20 +1,19 @@
 //! Sizing by plain numbers, for a caller without settings, as one in C.
-ghost use Rattle.std.specs.Prelude.{ℕ, ◌≡◌, ◌+◌, ◌/◌, ◌<◌, ◌≤◌, ◌↔◌, IfErr, IfOk, IsTrue, List, None, length, map, slice_index};
+ghost use Rattle.std.specs.Prelude.{◌≡◌, ◌+◌, ◌/◌, ◌<◌, ◌≤◌, ◌↔◌, All, IfErr, IfOk, IsTrue, None, length};
 ghost use Rattle.std.specs.FinMap.{empty};
 ghost use Rattle.cf_base.specs.Classes.{sizes};
 ghost use Rattle.cf_base.specs.Settings.{profile_from, profile_of, setting_fault};
 ghost use Rattle.cf_model.specs.State.{HeapState, layout_of};
-ghost use Rattle.page_model.specs.Paging.{IsPaging, Paging, classes, paging_of};
+ghost use Rattle.page_model.specs.Paging.{IsPaging, Paging, paging_of};
 ghost use Rattle.quota_model.specs.Admission.{CanBeAsked, declared_in_all};
-ghost use Rattle.quota_model.specs.declared.answers.Need.{Need};
-ghost use Rattle.sizing.specs.Certificates.{HoldCopies, IsCertificate};
-ghost use Rattle.sizing.specs.Checks.{AreCounts, point_in, with_pages};
-ghost use Rattle.sizing.specs.Demands.{KeepsTo, KeepsToOne, count_in};
+ghost use Rattle.sizing.specs.Certificates.{AreForResizes, IsCertificate};
+ghost use Rattle.sizing.specs.Checks.{HasFew, needs_of, with_pages};
+ghost use Rattle.sizing.specs.Demands.{KeepsTo, KeepsToOne};
 ghost use Rattle.sizing.specs.Heaps.{IsFresh, ServesHeapMallocs, ServesHeapResizes};
 ghost use Rattle.sizing.specs.Needs.{HasFault};
-ghost use Rattle.sizing.specs.Runs.{CanBeRefused, ServesMallocs, ServesResizes};
+ghost use Rattle.sizing.specs.Runs.{CanBeRefused, IsServed, ServesMallocsAcross, ServesResizesAcross};
 
-use crate::certificate::{ModeObjects, PointPages, is_certificate, objects_by_class};
+use crate::certificate::{ModeNeeds, PointPages, is_certificate};
 use crate::least::least_pages;
 use cf_base::{Layout, SettingFault, Settings};
 use quota_model::{Need, count_in_all, first_large};
@@ -62,26 +61,6 @@ pub fn pages_needed(
     }
 }
 
-/// How many objects of each class the `needs` declare, on pages of `page_bytes` bytes
-/// (`objects_by_class`).
-pub fn class_objects(
-    page_bytes: u32,
-    layout: Layout,
-    needs: &[Need],
-) -> Result<ModeObjects, NeedsFault>
-    ensures counts { IfOk result (λ mode. (p : Paging) (c : ℕ) → IsPaging p
-        → p.page_words ≡ page_bytes / 8 → p.sizes ≡ sizes (page_bytes / 8) layout
-        → c < classes p → slice_index mode.objects c ≡ count_in p needs.now c) }
-    ensures fault { IfErr result (λ e. HasFault page_bytes 1 needs.now e) }
-{
-    let s = settings_for(page_bytes, 1, needs)?;
-    match objects_by_class(&s, layout, needs) {
-        Some(mode) => Ok(mode),
-        // Not reached, since the settings serve the needs.
-        None => Err(NeedsFault::Proxies),
-    }
-}
-
 /// Settings of a heap with as many proxies as possible, which can have the declared objects.
 fn settings_for(page_bytes: u32, k: u32, needs: &[Need]) -> Result<Settings, NeedsFault>
     ensures few { IfOk result (λ s. length needs.now ≤ 64) }
@@ -114,24 +93,20 @@ pub fn is_certified(
     page_bytes: u32,
     layout: Layout,
     bounds: &[u32],
-    modes: &[ModeObjects],
+    modes: &[ModeNeeds],
     points: &[PointPages],
     resizes: bool,
 ) -> bool
-    ensures exact { (needs : List (List Need)) → setting_fault pages page_bytes 1 65536 ≡ None
-        → IsPaging (paging_of (profile_from pages page_bytes 1 65536) layout bounds.now)
-        → AreCounts (paging_of (profile_from pages page_bytes 1 65536) layout bounds.now) needs modes.now
-        → IsTrue result ↔ IsCertificate (paging_of (profile_from pages page_bytes 1 65536) layout bounds.now) needs (map point_in points.now)
-        × (IsTrue resizes → HoldCopies (paging_of (profile_from pages page_bytes 1 65536) layout bounds.now) needs (map point_in points.now)) }
-    ensures mallocs { (needs : List (List Need)) → IsTrue result
-        → AreCounts (paging_of (profile_from pages page_bytes 1 65536) layout bounds.now) needs modes.now
-        → ServesMallocs (paging_of (profile_from pages page_bytes 1 65536) layout bounds.now) (KeepsToOne needs) }
-    ensures resizes { (needs : List (List Need)) → IsTrue result → IsTrue resizes
-        → AreCounts (paging_of (profile_from pages page_bytes 1 65536) layout bounds.now) needs modes.now
-        → ServesResizes (paging_of (profile_from pages page_bytes 1 65536) layout bounds.now) (KeepsToOne needs) }
-    ensures spare { (needs : List (List Need)) → IsTrue result
-        → AreCounts (paging_of (profile_from pages page_bytes 1 65536) layout bounds.now) needs modes.now
-        → ServesResizes (with_pages (pages + 1) (paging_of (profile_from pages page_bytes 1 65536) layout bounds.now)) (KeepsToOne needs) }
+    ensures exact { setting_fault pages page_bytes 1 65536 ≡ None
+        → IsPaging (paging_of (profile_from pages page_bytes 1 65536) layout bounds.now) → All HasFew modes.now
+        → IsTrue result ↔ IsCertificate (paging_of (profile_from pages page_bytes 1 65536) layout bounds.now) (needs_of modes.now) points.now
+        × (IsTrue resizes → AreForResizes (paging_of (profile_from pages page_bytes 1 65536) layout bounds.now) (needs_of modes.now) points.now) }
+    ensures mallocs { IsTrue result
+        → ServesMallocsAcross (paging_of (profile_from pages page_bytes 1 65536) layout bounds.now) (KeepsToOne (needs_of modes.now)) }
+    ensures resizes { IsTrue result → IsTrue resizes
+        → IsServed (paging_of (profile_from pages page_bytes 1 65536) layout bounds.now) (KeepsToOne (needs_of modes.now)) }
+    ensures spare { IsTrue result
+        → ServesResizesAcross (with_pages (pages + 1) (paging_of (profile_from pages page_bytes 1 65536) layout bounds.now)) (KeepsToOne (needs_of modes.now)) }
 {
     match Settings::check(pages, page_bytes, 1, 65536) {
         Ok(s) => is_certificate(&s, layout, bounds, modes, points, resizes),

@@ -1,28 +1,25 @@
 //! The test whether numbers of pages, which an unproved planner found, are a certificate for a heap.
-ghost use Rattle.std.specs.Prelude.{ℕ, ◌≡◌, ◌+◌, ◌<◌, ◌≤◌, ◌↔◌, IfSome, IsSome, IsTrue, List, length, map, slice_index};
-ghost use Rattle.cf_base.specs.Classes.{sizes};
+ghost use Rattle.std.specs.Prelude.{ℕ, ◌≡◌, ◌+◌, ◌<◌, ◌≤◌, ◌↔◌, All, IsTrue, length, slice_index};
 ghost use Rattle.cf_base.specs.Settings.{profile_of};
-ghost use Rattle.page_model.specs.Paging.{IsPaging, Paging, classes, paging_of};
-ghost use Rattle.quota_model.specs.Admission.{CanBeAsked, declared_in_all};
-ghost use Rattle.quota_model.specs.declared.answers.Need.{Need};
-ghost use Rattle.sizing.specs.Certificates.{HoldCopies, IsCertificate};
-ghost use Rattle.sizing.specs.Checks.{AreCounts, paging_with, point_in, with_pages};
-ghost use Rattle.sizing.specs.Demands.{KeepsToOne, count_in};
-ghost use Rattle.sizing.specs.Layout.{declared_from};
-ghost use Rattle.sizing.specs.Runs.{ServesMallocs, ServesResizes};
+ghost use Rattle.page_model.specs.Paging.{IsPaging, paging_of};
+ghost use Rattle.sizing.specs.Certificates.{AreForResizes, IsCertificate};
+ghost use Rattle.sizing.specs.Checks.{HasFew, needs_of, paging_with, with_pages};
+ghost use Rattle.sizing.specs.Demands.{KeepsToOne};
+ghost use Rattle.sizing.specs.Runs.{IsServed, ServesMallocsAcross, ServesResizesAcross};
 
-use crate::copies::hold_copies;
-use crate::count::count_between;
 use crate::points::{HeapClasses, are_points};
 use crate::sizes::{CLASSES, fill_sizes};
 use cf_base::{Layout, Settings};
-use quota_model::{Need, count_in_all, first_large};
+use quota_model::{Need, count_in_all};
 
-/// For one mode of a program, by class: how many objects are live at most.
+/// How many entries a mode has.
+pub const ENTRIES: usize = 64;
+
+/// For one mode of a program: the most live objects of each length. An entry that is not used has count 0.
 #[repr(C)]
-#[derive(Clone, Copy, Debug, PartialEq, Eq)]
-pub struct ModeObjects {
-    pub objects: [u32; CLASSES],
+#[derive(Clone, Copy)]
+pub struct ModeNeeds {
+    pub needs: [Need; ENTRIES],
 }
 
 /// A point of a certificate: a mode, by its number from 0 on, and pages by class.
@@ -33,73 +30,38 @@ pub struct PointPages {
     pub pages: [u32; CLASSES],
 }
 
-/// How many objects of each class the `needs` of a mode declare. There are at most 64 entries. None as
-/// for `least_pages`.
-pub fn objects_by_class(s: &Settings, layout: Layout, needs: &[Need]) -> Option<ModeObjects>
-    requires few { length needs.now ≤ 64 }
-    ensures counts { IfSome result (λ mode. (p : Paging) (c : ℕ) → IsPaging p
-        → p.page_words ≡ s.now.page_words → p.sizes ≡ sizes s.now.page_words layout
-        → c < classes p → slice_index mode.objects c ≡ count_in p needs.now c) }
-    ensures some { IsSome result ↔ CanBeAsked (profile_of s.now) needs.now }
-{
-    if first_large(s.page_words, needs).is_some() || count_in_all(needs) > s.proxies as u64 {
-        return None;
-    }
-    let mut sizes = [0; CLASSES];
-    let classes = fill_sizes(s.page_words, layout, &mut sizes);
-    Some(ModeObjects {
-        objects: counts_between(&sizes[..classes], needs),
-    })
-}
-
-/// How many of the declared objects are above each size but the first, and at most the next.
-fn counts_between(sizes: &[u32], needs: &[Need]) -> [u32; CLASSES]
-    requires classes { length sizes.now ≤ 67 }
-    requires few { length needs.now ≤ 64 }
-    requires objects { declared_in_all needs.now ≤ 65536 }
-    ensures { (c : ℕ) → c < length sizes.now → slice_index result c ≡ declared_from sizes.now c needs.now }
-{
-    let mut counts = [0; CLASSES];
-    let mut below = 0;
-    for c in 0..sizes.len() {
-        counts[c] = count_between(below, sizes[c], needs) as u32;
-        below = sizes[c];
-    }
-    counts
-}
-
 /// Whether the points are a certificate for a heap with the pages of the settings, slots of this layout
-/// and these bounds by class, and a program with these modes; and, if the program `resizes`, whether the
-/// pages hold the objects that a resize has in two slots (`exact`). The bounds must be one for each class
-/// and at least 1, else the result is false (`bounds`). If it is true, no malloc of the program is refused
-/// for space (`mallocs`), and no resize if it `resizes` (`resizes`) or with one page more (`spare`).
+/// and these bounds by class, and a program with these modes; and, if the program `resizes`, also for its
+/// resizes (`exact`). The bounds must be one for each class and at least 1, and each mode may have at most
+/// 65,536 objects, else the result is false (`bounds`). If it is true, no malloc is refused for space of a
+/// program that never resizes an object to another length of its class (`mallocs`), and with one page more
+/// no resize (`spare`). If the program `resizes`, no malloc and no resize is refused (`resizes`).
 pub fn is_certificate(
     s: &Settings,
     layout: Layout,
     bounds: &[u32],
-    modes: &[ModeObjects],
+    modes: &[ModeNeeds],
     points: &[PointPages],
     resizes: bool,
 ) -> bool
-    ensures exact { (needs : List (List Need)) → IsPaging (paging_of (profile_of s.now) layout bounds.now)
-        → AreCounts (paging_of (profile_of s.now) layout bounds.now) needs modes.now
-        → IsTrue result ↔ IsCertificate (paging_of (profile_of s.now) layout bounds.now) needs (map point_in points.now)
-        × (IsTrue resizes → HoldCopies (paging_of (profile_of s.now) layout bounds.now) needs (map point_in points.now)) }
-    ensures bounds { IsTrue result → IsPaging (paging_of (profile_of s.now) layout bounds.now) }
-    ensures mallocs { (needs : List (List Need)) → IsTrue result
-        → AreCounts (paging_of (profile_of s.now) layout bounds.now) needs modes.now
-        → ServesMallocs (paging_of (profile_of s.now) layout bounds.now) (KeepsToOne needs) }
-    ensures resizes { (needs : List (List Need)) → IsTrue result → IsTrue resizes
-        → AreCounts (paging_of (profile_of s.now) layout bounds.now) needs modes.now
-        → ServesResizes (paging_of (profile_of s.now) layout bounds.now) (KeepsToOne needs) }
-    ensures spare { (needs : List (List Need)) → IsTrue result
-        → AreCounts (paging_of (profile_of s.now) layout bounds.now) needs modes.now
-        → ServesResizes (with_pages (s.now.pages + 1) (paging_of (profile_of s.now) layout bounds.now)) (KeepsToOne needs) }
+    ensures exact { IsPaging (paging_of (profile_of s.now) layout bounds.now) → All HasFew modes.now
+        → IsTrue result ↔ IsCertificate (paging_of (profile_of s.now) layout bounds.now) (needs_of modes.now) points.now
+        × (IsTrue resizes → AreForResizes (paging_of (profile_of s.now) layout bounds.now) (needs_of modes.now) points.now) }
+    ensures bounds { IsTrue result → IsPaging (paging_of (profile_of s.now) layout bounds.now) × All HasFew modes.now }
+    ensures mallocs { IsTrue result
+        → ServesMallocsAcross (paging_of (profile_of s.now) layout bounds.now) (KeepsToOne (needs_of modes.now)) }
+    ensures resizes { IsTrue result → IsTrue resizes
+        → IsServed (paging_of (profile_of s.now) layout bounds.now) (KeepsToOne (needs_of modes.now)) }
+    ensures spare { IsTrue result
+        → ServesResizesAcross (with_pages (s.now.pages + 1) (paging_of (profile_of s.now) layout bounds.now)) (KeepsToOne (needs_of modes.now)) }
 {
     let mut table = [0; CLASSES];
     let classes = fill_sizes(s.page_words, layout, &mut table);
     let sizes = &table[..classes];
     if !has_bounds(sizes, bounds) {
+        return false;
+    }
+    if !have_few(modes) {
         return false;
     }
     let heap = HeapClasses {
@@ -118,27 +80,28 @@ pub(crate) fn has_bounds(sizes: &[u32], bounds: &[u32]) -> bool
     bounds.len() == sizes.len() && bounds.iter().all(|k| *k >= 1)
 }
 
+/// Whether each mode has no more objects than a heap may have proxies.
+fn have_few(modes: &[ModeNeeds]) -> bool
+    ensures { IsTrue result ↔ All HasFew modes.now }
+{
+    modes.iter().all(|mode| count_in_all(&mode.needs) <= 65536)
+}
+
 /// Whether the points are a certificate for a heap of `pages` pages and the modes, with resizes or without.
 fn are_certificate(
     pages: u32,
     heap: &HeapClasses,
-    modes: &[ModeObjects],
+    modes: &[ModeNeeds],
     points: &[PointPages],
     resizes: bool,
 ) -> bool
-    requires { IsPaging (paging_with pages heap.now) }
-    ensures { (needs : List (List Need)) → AreCounts (paging_with pages heap.now) needs modes.now
-        → IsTrue result ↔ IsCertificate (paging_with pages heap.now) needs (map point_in points.now)
-        × (IsTrue resizes → HoldCopies (paging_with pages heap.now) needs (map point_in points.now)) }
+    requires heap { IsPaging (paging_with pages heap.now) }
+    requires few { All HasFew modes.now }
+    ensures { IsTrue result ↔ IsCertificate (paging_with pages heap.now) (needs_of modes.now) points.now
+        × (IsTrue resizes → AreForResizes (paging_with pages heap.now) (needs_of modes.now) points.now) }
 {
     if points.is_empty() {
         return modes.is_empty();
     }
-    if !are_points(pages, heap, modes, points) {
-        return false;
-    }
-    if !resizes {
-        return true;
-    }
-    hold_copies(pages, heap, modes, points)
+    are_points(pages, heap, modes, points, resizes)
 }

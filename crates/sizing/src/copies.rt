@@ -1,59 +1,86 @@
-//! Whether the pages also hold an object that a resize has in two slots: the old one, and the new one of
-//! another class.
-ghost use Rattle.std.specs.Prelude.{ℕ, ◌≡◌, ◌^◌, ◌↔◌, ◌<◌, ◌≤◌, All, IsTrue, length, slice_index, sum_by};
+//! Whether a point of a certificate allows for resizes: within a class an object keeps its slot, and into another
+//! class it has two slots for a moment.
+ghost use Rattle.std.specs.Prelude.{ℕ, ◌≡◌, ◌≢◌, ◌-◌, ◌^◌, ◌↔◌, ◌<◌, ◌≤◌, IsTrue, slice_index, sum_by};
 ghost use Rattle.std.specs.List.{range_with_len};
 ghost use Rattle.page_model.specs.Paging.{IsPaging, classes};
-ghost use Rattle.sizing.specs.Certificates.{pages_with_copy};
-ghost use Rattle.sizing.specs.Checks.{CopiesFit, CopyFits, paging_with};
+ghost use Rattle.sizing.specs.Certificates.{HoldsCopies, KeepsResized, LeadsInto, one_more, pages_with_copy};
+ghost use Rattle.sizing.specs.Checks.{AllowsResizes, paging_with};
 
-use crate::certificate::{ModeObjects, PointPages};
-use crate::points::{HeapClasses, pages_at_most, slots_in};
+use crate::certificate::PointPages;
+use crate::points::{HeapClasses, leads_into, pages_at_most, slots_in};
+use crate::shared::TwoModes;
 use quota_model::pages_for;
 
-/// Whether the pages hold the copies of resizes from each point.
-pub(crate) fn hold_copies(
+/// Whether the point x allows for the resizes that lead into mode j.
+pub(crate) fn allows_resizes(
     pages: u32,
     heap: &HeapClasses,
-    modes: &[ModeObjects],
     points: &[PointPages],
+    counts: &TwoModes,
+    x: &PointPages,
+    j: usize,
 ) -> bool
     requires { IsPaging (paging_with pages heap.now) }
-    ensures { IsTrue result ↔ All (CopiesFit (paging_with pages heap.now) modes.now) points.now }
+    ensures { IsTrue result ↔ AllowsResizes (paging_with pages heap.now) points.now
+        (slice_index counts.now.kept) (slice_index counts.now.before) (slice_index counts.now.after) x.now j }
 {
-    points.iter().all(|x| copies_fit(pages, heap, modes, x))
+    if !keeps_resized(heap, points, counts, x, j) {
+        return false;
+    }
+    holds_copies(pages, heap, counts, x)
 }
 
-/// Whether they do for the point x. If its mode isn't one of the modes, there is nothing to test.
-fn copies_fit(pages: u32, heap: &HeapClasses, modes: &[ModeObjects], x: &PointPages) -> bool
-    requires { IsPaging (paging_with pages heap.now) }
-    ensures { IsTrue result ↔ CopiesFit (paging_with pages heap.now) modes.now x.now }
+/// Whether x leads to a point of mode j also by a resize within a class.
+fn keeps_resized(
+    heap: &HeapClasses,
+    points: &[PointPages],
+    counts: &TwoModes,
+    x: &PointPages,
+    j: usize,
+) -> bool
+    requires { IsPaging (paging_with 0 heap.now) }
+    ensures { IsTrue result ↔ KeepsResized (paging_with 0 heap.now) points.now
+        (slice_index counts.now.kept) (slice_index counts.now.before) (slice_index counts.now.after) x.now j }
 {
-    let mode = x.mode as usize;
-    if mode >= modes.len() {
-        return true;
-    }
-    for j in 0..modes.len() {
-        if !mode_fits(pages, heap, &modes[mode], &modes[j], x) {
+    for c in 0..heap.sizes.len() {
+        let kept = counts.kept[c];
+        if kept < counts.before[c]
+            && kept < counts.after[c]
+            && !leads_resized(heap, points, counts, x, j, c)
+        {
             return false;
         }
     }
     true
 }
 
-/// Whether they do if the resize leads from one mode to another.
-fn mode_fits(
-    pages: u32,
+/// Whether x leads to a point of mode j if one object more of class c stays.
+fn leads_resized(
     heap: &HeapClasses,
-    from: &ModeObjects,
-    to: &ModeObjects,
+    points: &[PointPages],
+    counts: &TwoModes,
     x: &PointPages,
+    j: usize,
+    c: usize,
 ) -> bool
+    requires heap { IsPaging (paging_with 0 heap.now) }
+    requires class { c < classes (paging_with 0 heap.now) }
+    requires low { slice_index counts.now.kept c < 2 ^ 32 - 1 }
+    ensures { IsTrue result ↔ LeadsInto (paging_with 0 heap.now) points.now (one_more c (slice_index counts.now.kept)) x.now j }
+{
+    let mut kept = counts.kept;
+    kept[c] += 1;
+    leads_into(heap, points, &kept, x, j)
+}
+
+/// Whether the pages hold the copies of resizes from x, from each class into each other one.
+fn holds_copies(pages: u32, heap: &HeapClasses, counts: &TwoModes, x: &PointPages) -> bool
     requires { IsPaging (paging_with pages heap.now) }
-    ensures { IsTrue result ↔ ((c : ℕ) → c < classes (paging_with pages heap.now) → 0 < slice_index from.now.objects c
-        → CopyFits (paging_with pages heap.now) from.now.objects to.now.objects x.now c) }
+    ensures { IsTrue result ↔ HoldsCopies (paging_with pages heap.now)
+        (slice_index counts.now.kept) (slice_index counts.now.before) (slice_index counts.now.after) x.now }
 {
     for c in 0..heap.sizes.len() {
-        if from.objects[c] > 0 && !copy_fits(pages, heap, from, to, x, c) {
+        if counts.before[c] > 0 && !copy_fits(pages, heap, counts, x, c) {
             return false;
         }
     }
@@ -61,19 +88,15 @@ fn mode_fits(
 }
 
 /// Whether they do if the object leaves class c.
-fn copy_fits(
-    pages: u32,
-    heap: &HeapClasses,
-    from: &ModeObjects,
-    to: &ModeObjects,
-    x: &PointPages,
-    c: usize,
-) -> bool
+fn copy_fits(pages: u32, heap: &HeapClasses, counts: &TwoModes, x: &PointPages, c: usize) -> bool
     requires { IsPaging (paging_with pages heap.now) }
-    ensures { IsTrue result ↔ CopyFits (paging_with pages heap.now) from.now.objects to.now.objects x.now c }
+    ensures { IsTrue result ↔ ((d : ℕ) → d < classes (paging_with pages heap.now) → d ≢ c → 0 < slice_index counts.now.after d
+        → sum_by (λ e. pages_with_copy (paging_with pages heap.now) c d e (slice_index x.now.pages e)
+        (slice_index counts.now.kept e) (slice_index counts.now.before e) (slice_index counts.now.after e))
+        (range_with_len 0 (classes (paging_with pages heap.now))) ≤ pages) }
 {
     for d in 0..heap.sizes.len() {
-        if d != c && to.objects[d] > 0 && pages_of_copies(heap, from, to, x, c, d) > pages as u64 {
+        if d != c && counts.after[d] > 0 && pages_of_copies(heap, counts, x, c, d) > pages as u64 {
             return false;
         }
     }
@@ -81,21 +104,15 @@ fn copy_fits(
 }
 
 /// The pages of all classes while the object has slots of the classes c and d.
-fn pages_of_copies(
-    heap: &HeapClasses,
-    from: &ModeObjects,
-    to: &ModeObjects,
-    x: &PointPages,
-    c: usize,
-    d: usize,
-) -> u64
+fn pages_of_copies(heap: &HeapClasses, counts: &TwoModes, x: &PointPages, c: usize, d: usize) -> u64
     requires { IsPaging (paging_with 0 heap.now) }
-    ensures { result ≡ sum_by (λ e. pages_with_copy (paging_with 0 heap.now) c d e
-        (slice_index x.now.pages e) (slice_index from.now.objects e) (slice_index to.now.objects e)) (range_with_len 0 (classes (paging_with 0 heap.now))) }
+    ensures { result ≡ sum_by (λ e. pages_with_copy (paging_with 0 heap.now) c d e (slice_index x.now.pages e)
+        (slice_index counts.now.kept e) (slice_index counts.now.before e) (slice_index counts.now.after e))
+        (range_with_len 0 (classes (paging_with 0 heap.now))) }
 {
     let mut sum = 0;
     for e in 0..heap.sizes.len() {
-        sum += pages_of_class(heap, from, to, x, c, d, e);
+        sum += pages_of_class(heap, counts, x, c, d, e);
     }
     sum
 }
@@ -103,8 +120,7 @@ fn pages_of_copies(
 /// The pages of class e while the object has slots of the classes c and d.
 fn pages_of_class(
     heap: &HeapClasses,
-    from: &ModeObjects,
-    to: &ModeObjects,
+    counts: &TwoModes,
     x: &PointPages,
     c: usize,
     d: usize,
@@ -112,22 +128,22 @@ fn pages_of_class(
 ) -> u64
     requires heap { IsPaging (paging_with 0 heap.now) }
     requires class { e < classes (paging_with 0 heap.now) }
-    ensures value { result ≡ pages_with_copy (paging_with 0 heap.now) c d e
-        (slice_index x.now.pages e) (slice_index from.now.objects e) (slice_index to.now.objects e) }
+    ensures value { result ≡ pages_with_copy (paging_with 0 heap.now) c d e (slice_index x.now.pages e)
+        (slice_index counts.now.kept e) (slice_index counts.now.before e) (slice_index counts.now.after e) }
     ensures low { result ≤ 2 ^ 32 }
 {
-    let before = from.objects[e];
-    let after = to.objects[e];
+    let kept = counts.kept[e];
     let pages = x.pages[e] as u64;
     let slots = slots_in(heap, e);
+    let more = kept as u64 + 1;
     if e == d {
-        let most = (before as u64 + 1).min(after as u64);
+        let most = more.min(counts.after[e] as u64);
         return (pages + 1).min(pages_for(most, slots as u64));
     }
-    let kept = if e == c && after < before {
-        after + 1
+    let stay = if e == c {
+        more.min(counts.before[e] as u64) as u32
     } else {
-        before.min(after)
+        kept
     };
-    pages.min(pages_at_most(kept, slots, heap.bounds[e]))
+    pages.min(pages_at_most(stay, slots, heap.bounds[e]))
 }

@@ -9,9 +9,10 @@ ghost use Rattle.page_model.specs.Counts.{ceil_div};
 ghost use Rattle.page_model.specs.Paging.{bound_of, classes, slots_of};
 ghost use Rattle.quota_model.specs.Admission.{in_order, pages_needed_by};
 ghost use Rattle.quota_model.specs.declared.answers.Need.{Need};
-ghost use Rattle.sizing.specs.Certificates.{IsCertificate, Point};
+ghost use Rattle.sizing.specs.Certificates.{IsCertificate, KeepResized};
 ghost use Rattle.sizing.specs.Demands.{KeepsTo, KeepsToOne, count_in, spread_of_modes};
 ghost use Rattle.sizing.specs.Heaps.{Answered, HeapRun, IsFresh, ServesHeapMallocs, ServesHeapResizes};
+ghost use Rattle.sizing.specs.declared.certificate.PointPages.{PointPages};
 
 /// A manager with pages, moving or not, with any bounds, has as many pages as the declared objects
 /// need. The program keeps to its `needs`. Whatever it called before, in whatever order, no malloc
@@ -24,12 +25,12 @@ pub fn no_call_within_the_needs_is_refused_space()
 {}
 
 /// The same of the mallocs of a program with `modes`, if there are `spread_of_modes` pages (`spread`),
-/// or if the pages have a certificate (`certified`).
+/// or if the pages have a certificate that allows for resizes within a class (`certified`).
 pub fn no_malloc_within_the_modes_is_refused_space()
     ensures spread { (modes : List (List Need)) (s : HeapState) → IsFresh s
         → spread_of_modes (paging_in s) modes ≤ s.profile.pages → ServesHeapMallocs (KeepsToOne modes) s }
-    ensures certified { (modes : List (List Need)) (points : List Point) (s : HeapState) → IsFresh s
-        → IsCertificate (paging_in s) modes points → ServesHeapMallocs (KeepsToOne modes) s }
+    ensures certified { (modes : List (List Need)) (points : List PointPages) (s : HeapState) → IsFresh s
+        → IsCertificate (paging_in s) modes points → KeepResized (paging_in s) modes points → ServesHeapMallocs (KeepsToOne modes) s }
 {}
 
 /// If the bound of each class is at least the pages that its declared objects fill, no free moves an

@@ -16,6 +16,7 @@ mod laws;
 mod least;
 mod modes;
 mod points;
+mod shared;
 mod sizes;
 
 pub use budget::{
@@ -23,8 +24,8 @@ pub use budget::{
     pages_that_a_budget_affords_serve,
 };
 pub use budget_certificate::{is_budget_certificate, is_budget_level};
-pub use by_numbers::{NeedsFault, class_objects, is_certified, pages_needed};
-pub use certificate::{ModeObjects, PointPages, is_certificate, objects_by_class};
+pub use by_numbers::{NeedsFault, is_certified, pages_needed};
+pub use certificate::{ENTRIES, ModeNeeds, PointPages, is_certificate};
 pub use heaps::{
     no_call_within_the_needs_is_refused_space, no_free_within_the_needs_moves_an_object,
     no_malloc_within_the_modes_is_refused_space,

@@ -1,28 +1,33 @@
 //! Laws of a program with several modes, as start, work and stop: its live objects are always within
 //! the needs of at least one of them. `p` holds the pages and the classes.
-ghost use Rattle.std.specs.Prelude.{◌≡◌, ◌<◌, ◌≤◌, Contains, List, None, sum_by};
+ghost use Rattle.std.specs.Prelude.{◌≡◌, ◌<◌, ◌≤◌, Contains, List, None, slice_index, sum_by};
 ghost use Rattle.std.specs.List.{range_with_len};
 ghost use Rattle.std.specs.FinMap.{empty};
 ghost use Rattle.cf_base.specs.Settings.{Profile};
 ghost use Rattle.page_model.specs.Paging.{EveryBoundIsOne, IsPaging, Paging, classes};
 ghost use Rattle.quota_model.specs.Admission.{first_large};
 ghost use Rattle.quota_model.specs.declared.answers.Need.{Need};
-ghost use Rattle.sizing.specs.Certificates.{HoldCopies, IsCertificate, Point};
+ghost use Rattle.sizing.specs.Certificates.{AreForResizes, IsCertificate, KeepResized};
 ghost use Rattle.sizing.specs.Demands.{KeepsToOne, pages_of_modes, spread_of_modes};
-ghost use Rattle.sizing.specs.Runs.{CanBeRefused, ServesMallocs, ServesResizes};
+ghost use Rattle.sizing.specs.Runs.{CanBeRefused, IsServed, ServesMallocs, ServesMallocsAcross, ServesResizes, ServesResizesAcross};
+ghost use Rattle.sizing.specs.declared.certificate.PointPages.{PointPages};
 
-/// Whatever the bounds, no malloc of a program with these modes is refused for space if the pages have
-/// a certificate (`mallocs`). No resize is either if the pages hold each object that a resize has in two
-/// slots (`resizes`), or if a page is left over in each point (`spare`).
+/// Whatever the bounds, if the pages have a certificate, no malloc is refused for space of a program with
+/// these modes that never resizes an object to another length of its class (`mallocs`), and no resize if a
+/// page is left over in each point (`spare`). If the certificate allows for resizes within a class, no malloc
+/// of any program with these modes is refused (`within`); if it is one for resizes too, also no resize
+/// (`resizes`).
 pub fn certified_pages_serve()
-    ensures mallocs { (p : Paging) (modes : List (List Need)) (points : List Point) → IsPaging p
-        → IsCertificate p modes points → ServesMallocs p (KeepsToOne modes) }
-    ensures resizes { (p : Paging) (modes : List (List Need)) (points : List Point) → IsPaging p
-        → IsCertificate p modes points → HoldCopies p modes points → ServesResizes p (KeepsToOne modes) }
-    ensures spare { (p : Paging) (modes : List (List Need)) (points : List Point) → IsPaging p
+    ensures mallocs { (p : Paging) (modes : List (List Need)) (points : List PointPages) → IsPaging p
+        → IsCertificate p modes points → ServesMallocsAcross p (KeepsToOne modes) }
+    ensures within { (p : Paging) (modes : List (List Need)) (points : List PointPages) → IsPaging p
+        → IsCertificate p modes points → KeepResized p modes points → ServesMallocs p (KeepsToOne modes) }
+    ensures resizes { (p : Paging) (modes : List (List Need)) (points : List PointPages) → IsPaging p
+        → IsCertificate p modes points → AreForResizes p modes points → IsServed p (KeepsToOne modes) }
+    ensures spare { (p : Paging) (modes : List (List Need)) (points : List PointPages) → IsPaging p
         → IsCertificate p modes points
-        → ((x : Point) → Contains points x → sum_by x.pages (range_with_len 0 (classes p)) < p.pages)
-        → ServesResizes p (KeepsToOne modes) }
+        → ((x : PointPages) → Contains points x → sum_by (slice_index x.pages) (range_with_len 0 (classes p)) < p.pages)
+        → ServesResizesAcross p (KeepsToOne modes) }
 {}
 
 /// Whatever the bounds, no malloc of a program with these modes is refused for space if there are

@@ -1,10 +1,16 @@
 //! The conditions that each point of a certificate meets, tested one after the other.
-ghost use Rattle.std.specs.Prelude.{◌≡◌, ◌^◌, ◌↔◌, ◌<◌, ◌≤◌, All, IsTrue, length};
-ghost use Rattle.page_model.specs.Counts.{most_pages};
+ghost use Rattle.std.specs.Prelude.{ℕ, ◌≡◌, ◌+◌, ◌^◌, ◌↔◌, ◌<◌, ◌≤◌, All, IsTrue, length, slice_index, sum_by};
+ghost use Rattle.std.specs.List.{range_with_len};
+ghost use Rattle.page_model.specs.Counts.{ceil_div, most_pages};
 ghost use Rattle.page_model.specs.Paging.{IsPaging, classes, slots_of};
-ghost use Rattle.sizing.specs.Checks.{HasTops, IsRow, Leads, LeadsInto, objects_in, paging_with, sum_of};
+ghost use Rattle.sizing.specs.Certificates.{LeadsInto, LeadsTo};
+ghost use Rattle.sizing.specs.Checks.{Follows, HasFew, IsRow, paging_with};
+ghost use Rattle.sizing.specs.Demands.{count_in};
 
-use crate::certificate::{ModeObjects, PointPages};
+use crate::certificate::{ModeNeeds, PointPages};
+use crate::copies::allows_resizes;
+use crate::shared::{class_counts, two_modes};
+use crate::sizes::CLASSES;
 use quota_model::pages_for;
 
 /// The words of a page, and by class the words of a slot and the bound.
@@ -15,42 +21,49 @@ pub(crate) struct HeapClasses<'a> {
     pub(crate) bounds: &'a [u32],
 }
 
-/// Whether each point meets its conditions on a heap of `pages` pages.
+/// Whether each point meets its conditions on a heap of `pages` pages, with resizes or without.
 pub(crate) fn are_points(
     pages: u32,
     heap: &HeapClasses,
-    modes: &[ModeObjects],
+    modes: &[ModeNeeds],
     points: &[PointPages],
+    resizes: bool,
 ) -> bool
-    requires { IsPaging (paging_with pages heap.now) }
-    ensures { IsTrue result ↔ All (IsRow (paging_with pages heap.now) modes.now points.now) points.now }
+    requires heap { IsPaging (paging_with pages heap.now) }
+    requires few { All HasFew modes.now }
+    ensures { IsTrue result ↔ All (IsRow (paging_with pages heap.now) modes.now points.now resizes) points.now }
 {
     points
         .iter()
-        .all(|x| is_point(pages, heap, modes, points, x))
+        .all(|x| is_point(pages, heap, modes, points, resizes, x))
 }
 
 /// Whether the point x meets its conditions: there is its mode, its pages hold the mode's objects and
-/// are within those of the heap, and it leads to a point of each mode.
+/// are within those of the heap, and each mode may follow.
 fn is_point(
     pages: u32,
     heap: &HeapClasses,
-    modes: &[ModeObjects],
+    modes: &[ModeNeeds],
     points: &[PointPages],
+    resizes: bool,
     x: &PointPages,
 ) -> bool
-    requires { IsPaging (paging_with pages heap.now) }
-    ensures { IsTrue result ↔ IsRow (paging_with pages heap.now) modes.now points.now x.now }
+    requires heap { IsPaging (paging_with pages heap.now) }
+    requires few { All HasFew modes.now }
+    ensures { IsTrue result ↔ IsRow (paging_with pages heap.now) modes.now points.now resizes x.now }
 {
     let mode = x.mode as usize;
     if mode >= modes.len() {
         return false;
     }
-    if !has_tops(heap, &modes[mode], x) || pages_of(x, heap.sizes.len()) > pages as u64 {
+    if !has_tops(heap, &modes[mode], x) {
+        return false;
+    }
+    if pages_of(x, heap.sizes.len()) > pages as u64 {
         return false;
     }
     for j in 0..modes.len() {
-        if !leads_into(heap, modes, points, x, j) {
+        if !follows(pages, heap, modes, points, resizes, x, j) {
             return false;
         }
     }
@@ -58,12 +71,15 @@ fn is_point(
 }
 
 /// Whether the pages of x are at least those that the objects of its mode need.
-fn has_tops(heap: &HeapClasses, mode: &ModeObjects, x: &PointPages) -> bool
-    requires { IsPaging (paging_with 0 heap.now) }
-    ensures { IsTrue result ↔ HasTops (paging_with 0 heap.now) mode.now.objects x.now }
+fn has_tops(heap: &HeapClasses, mode: &ModeNeeds, x: &PointPages) -> bool
+    requires heap { IsPaging (paging_with 0 heap.now) }
+    requires few { HasFew mode.now }
+    ensures { IsTrue result ↔ ((c : ℕ) → c < classes (paging_with 0 heap.now)
+        → ceil_div (count_in (paging_with 0 heap.now) mode.now.needs c) (slots_of (paging_with 0 heap.now) c) ≤ slice_index x.now.pages c) }
 {
+    let counts = class_counts(heap, &mode.needs);
     for c in 0..heap.sizes.len() {
-        let least = pages_for(mode.objects[c] as u64, slots_in(heap, c) as u64);
+        let least = pages_for(counts[c] as u64, slots_in(heap, c) as u64);
         if least > x.pages[c] as u64 {
             return false;
         }
@@ -74,7 +90,7 @@ fn has_tops(heap: &HeapClasses, mode: &ModeObjects, x: &PointPages) -> bool
 /// The pages of x in all classes.
 fn pages_of(x: &PointPages, classes: usize) -> u64
     requires few { classes ≤ 67 }
-    ensures { result ≡ sum_of x.now classes }
+    ensures { result ≡ sum_by (slice_index x.now.pages) (range_with_len 0 classes) }
 {
     let mut sum = 0;
     for c in 0..classes {
@@ -84,40 +100,55 @@ fn pages_of(x: &PointPages, classes: usize) -> u64
     sum
 }
 
-/// Whether x leads to a point of mode j.
-fn leads_into(
+/// Whether x leads to a point of mode j, also by a resize if the program `resizes`.
+fn follows(
+    pages: u32,
     heap: &HeapClasses,
-    modes: &[ModeObjects],
+    modes: &[ModeNeeds],
     points: &[PointPages],
+    resizes: bool,
+    x: &PointPages,
+    j: usize,
+) -> bool
+    requires heap { IsPaging (paging_with pages heap.now) }
+    requires few { All HasFew modes.now }
+    requires known { x.now.mode < length modes.now }
+    requires mode { j < length modes.now }
+    ensures { IsTrue result ↔ Follows (paging_with pages heap.now) modes.now points.now resizes x.now j }
+{
+    let counts = two_modes(heap, &modes[x.mode as usize], &modes[j]);
+    if !leads_into(heap, points, &counts.kept, x, j) {
+        return false;
+    }
+    if !resizes {
+        return true;
+    }
+    allows_resizes(pages, heap, points, &counts, x, j)
+}
+
+/// Whether x leads to a point of mode j, if of each class at most `kept` objects stay.
+pub(crate) fn leads_into(
+    heap: &HeapClasses,
+    points: &[PointPages],
+    kept: &[u32; CLASSES],
     x: &PointPages,
     j: usize,
 ) -> bool
     requires heap { IsPaging (paging_with 0 heap.now) }
-    requires known { x.now.mode < length modes.now }
-    requires mode { j < length modes.now }
-    ensures { IsTrue result ↔ LeadsInto (paging_with 0 heap.now) modes.now points.now x.now j }
+    ensures { IsTrue result ↔ LeadsInto (paging_with 0 heap.now) points.now (slice_index kept.now) x.now j }
 {
-    let from = &modes[x.mode as usize];
-    let to = &modes[j];
     points
         .iter()
-        .any(|y| y.mode as usize == j && leads(heap, from, to, x, y))
+        .any(|y| y.mode as usize == j && leads(heap, kept, x, y))
 }
 
-/// Whether y has at least the pages of x, as far as the objects that both modes have can be on them.
-fn leads(
-    heap: &HeapClasses,
-    from: &ModeObjects,
-    to: &ModeObjects,
-    x: &PointPages,
-    y: &PointPages,
-) -> bool
-    requires { IsPaging (paging_with 0 heap.now) }
-    ensures { IsTrue result ↔ Leads (paging_with 0 heap.now) from.now.objects to.now.objects x.now y.now }
+/// Whether y has at least the pages of x, as far as the objects that stay can be on them.
+fn leads(heap: &HeapClasses, kept: &[u32; CLASSES], x: &PointPages, y: &PointPages) -> bool
+    requires heap { IsPaging (paging_with 0 heap.now) }
+    ensures { IsTrue result ↔ LeadsTo (paging_with 0 heap.now) (slice_index kept.now) x.now y.now }
 {
     for c in 0..heap.sizes.len() {
-        let both = from.objects[c].min(to.objects[c]);
-        let most = pages_at_most(both, slots_in(heap, c), heap.bounds[c]);
+        let most = pages_at_most(kept[c], slots_in(heap, c), heap.bounds[c]);
         if (x.pages[c] as u64).min(most) > y.pages[c] as u64 {
             return false;
         }

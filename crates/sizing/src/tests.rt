@@ -1,8 +1,8 @@
-//! Tests of `least_pages`, `pages_with_mode`, `is_certificate` and `is_budget_level` against numbers worked out by
+//! Tests of `least_pages`, `pages_with_mode`, `is_certificate`, `is_certified` and `is_budget_level` against numbers worked out by
 //! hand.
 use crate::{
-    CLASSES, Need, PointPages, is_budget_level, is_certificate, least_pages, objects_by_class,
-    pages_with_mode,
+    CLASSES, ENTRIES, ModeNeeds, Need, PointPages, is_budget_level, is_certificate, is_certified,
+    least_pages, pages_with_mode,
 };
 use cf_base::{Layout, Settings};
 use std::test::Fail;
@@ -61,6 +61,24 @@ fn the_greatest_mode_counts(rt: HostRuntime) -> Result<(), Fail> {
     Ok(())
 }
 
+fn mode(needs: &[Need]) -> ModeNeeds {
+    let mut mode = ModeNeeds {
+        needs: [need(0, 0); ENTRIES],
+    };
+    for i in 0..needs.len().min(ENTRIES) {
+        mode.needs[i] = needs[i];
+    }
+    mode
+}
+
+/// A point with so many pages of the classes 11 and 15.
+fn point(mode: u32, of_11: u32, of_15: u32) -> PointPages {
+    let mut pages = [0; CLASSES];
+    pages[11] = of_11;
+    pages[15] = of_15;
+    PointPages { mode, pages }
+}
+
 // A page of 64 words has 20 classes. Number 11 has slots of 23 words, two to a page, for objects of 176 bytes;
 // number 15 has slots of 39, one to a page, for 300 bytes. Six objects of 176 bytes are on three pages. If two of
 // them stay, with bound 2 they can be on two pages, beside three of the other mode.
@@ -72,22 +90,12 @@ fn two_modes_need_five_pages(rt: HostRuntime) -> Result<(), Fail> {
     ) else {
         panic!(rt; "the settings are in range");
     };
-    let many = objects_by_class(&five, Layout::Words, &[need(176, 6), need(300, 1)]);
-    let few = objects_by_class(&five, Layout::Words, &[need(176, 2), need(300, 3)]);
-    let (Some(many), Some(few)) = (many, few) else {
-        panic!(rt; "the objects fit");
-    };
-    let mut points = [PointPages {
-        mode: 0,
-        pages: [0; CLASSES],
-    }; 2];
-    points[0].pages[11] = 3;
-    points[0].pages[15] = 1;
-    points[1].mode = 1;
-    points[1].pages[11] = 2;
-    points[1].pages[15] = 3;
+    let modes = [
+        mode(&[need(176, 4), need(300, 1), need(176, 2)]),
+        mode(&[need(176, 1), need(300, 3), need(176, 1)]),
+    ];
+    let points = [point(0, 3, 1), point(1, 2, 3)];
     let bounds = [2; 20];
-    let modes = [many, few];
     let found = [
         is_certificate(&five, Layout::Words, &bounds, &modes, &points, false),
         is_certificate(&four, Layout::Words, &bounds, &modes, &points, false),
@@ -95,6 +103,29 @@ fn two_modes_need_five_pages(rt: HostRuntime) -> Result<(), Fail> {
         is_certificate(&five, Layout::Words, &bounds, &modes, &points[1..], false),
     ];
     assert_eq!(rt; found, [true, false, false, false], "certificates");
+    Ok(())
+}
+
+// Objects of 160 bytes have slots of class 11 too. Three of 176 bytes are on two pages; one of them can stay beside one
+// of 160 bytes and one of 300, on one page of each class. If the program resizes one of two on two pages to 160 bytes, both
+// stay, on two pages.
+#[test]
+fn a_resize_within_a_class_keeps_an_object_more(rt: HostRuntime) -> Result<(), Fail> {
+    let modes = [
+        mode(&[need(176, 3)]),
+        mode(&[need(176, 1), need(160, 1), need(300, 1)]),
+    ];
+    let points = [point(0, 2, 0), point(1, 1, 1)];
+    let more = [point(0, 2, 0), point(1, 2, 1)];
+    let bounds = [2; 20];
+    let found = [
+        is_certified(2, 512, Layout::Words, &bounds, &modes, &points, false),
+        is_certified(2, 512, Layout::Words, &bounds, &modes, &points, true),
+        is_certified(3, 512, Layout::Words, &bounds, &modes, &points, true),
+        is_certified(3, 512, Layout::Words, &bounds, &modes, &more, true),
+        is_certified(2, 512, Layout::Words, &bounds, &modes, &more, false),
+    ];
+    assert_eq!(rt; found, [true, false, false, true, false], "certificates");
     Ok(())
 }
 

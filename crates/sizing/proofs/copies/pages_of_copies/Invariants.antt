@@ -9,8 +9,8 @@ use Rattle.sizing.proofs.copies.pages_of_copies.Given as goal
 abbrev pub invariant-loop-e : goal.invariant-loop-e
 invariant-loop-e l = record {
   small : l.sum ≤ l.e * 2 ^ 32;
-  rest : l.sum + sum_by (λ i. pages_with_copy (paging_with 0 l.heap) l.c l.d i (slice_index l.x.pages i) (slice_index l.from.objects i) (slice_index l.to.objects i))
-      (range_with_len l.e (classes (paging_with 0 l.heap) - l.e))
-      ≡ sum_by (λ i. pages_with_copy (paging_with 0 l.heap) l.c l.d i (slice_index l.x.pages i) (slice_index l.from.objects i) (slice_index l.to.objects i))
-      (range_with_len 0 (classes (paging_with 0 l.heap)));
+  rest : l.sum + sum_by (λ i. pages_with_copy (paging_with 0 l.heap) l.c l.d i (slice_index l.x.pages i) (slice_index l.counts.kept i) (slice_index l.counts.before i)
+      (slice_index l.counts.after i)) (range_with_len l.e (classes (paging_with 0 l.heap) - l.e))
+      ≡ sum_by (λ i. pages_with_copy (paging_with 0 l.heap) l.c l.d i (slice_index l.x.pages i) (slice_index l.counts.kept i) (slice_index l.counts.before i)
+      (slice_index l.counts.after i)) (range_with_len 0 (classes (paging_with 0 l.heap)));
 }

@@ -6,6 +6,5 @@ use Rattle.sizing.proofs.points.leads.Given as goal
 
 abbrev pub invariant-loop-c : goal.invariant-loop-c
 invariant-loop-c l = (k : ℕ) → k < l.c
-    → min (slice_index l.x.pages k)
-    (most_pages (min (slice_index l.from.objects k) (slice_index l.to.objects k)) (slots_of (paging_with 0 l.heap) k) (bound_of (paging_with 0 l.heap) k))
+    → min (slice_index l.x.pages k) (most_pages (slice_index l.kept k) (slots_of (paging_with 0 l.heap) k) (bound_of (paging_with 0 l.heap) k))
     ≤ slice_index l.y.pages k
