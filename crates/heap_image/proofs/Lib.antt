@@ -17,4 +17,5 @@ mod MarkLemmas
 mod FillLemmas
 mod FillObjectLemmas
 mod SettingsLemmas
+mod Kept
 pub mod CallerLemmas
