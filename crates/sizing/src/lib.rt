@@ -40,6 +40,3 @@ pub use modes::{
 };
 pub use quota_model::Need;
 pub use sizes::CLASSES;
-
-#[cfg(test)]
-mod tests;

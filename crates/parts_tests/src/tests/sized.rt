@@ -1,10 +1,10 @@
 //! Tests of `least_pages`, `pages_with_mode`, `is_certificate`, `is_certified` and `is_budget_level` against numbers worked out by
 //! hand.
-use crate::{
+use cf_base::{Layout, Settings};
+use sizing::{
     CLASSES, ENTRIES, ModeNeeds, Need, PointPages, is_budget_level, is_certificate, is_certified,
     least_pages, pages_with_mode,
 };
-use cf_base::{Layout, Settings};
 use std::test::Fail;
 
 fn need(bytes: u32, count: u32) -> Need {
