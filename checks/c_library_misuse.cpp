@@ -25,6 +25,8 @@ int main() {
     scope s(heap, a, b);
     if (s.status() != NPH_OK) return 1;
     auto &[x, y] = s;
+    scope r(slices, f);
+    if (r.status() != NPH_OK) return 1;
     x = static_cast<int>(y);
 #if MISUSE == 1 // misuse 1: deleted
     int &z = scope(heap, a).get<0>();
@@ -48,7 +50,7 @@ int main() {
 #elif MISUSE == 9 // misuse 9: unused-
     heap.drop(a);
 #elif MISUSE == 10 // misuse 10: unused-
-    scope<int>(heap, a);
+    scope<norphuen::heap, int>(heap, a);
 #elif MISUSE == 11 // misuse 11: object_of<
     one = two;
 #elif MISUSE == 12 // misuse 12: no match
@@ -61,6 +63,10 @@ int main() {
     norphuen::tasks::heap copy = shared;
 #elif MISUSE == 16 // misuse 16: unused-
     shared.write(one, 2);
+#elif MISUSE == 17 // misuse 17: deduction
+    scope t(slices, a);
+#elif MISUSE == 18 // misuse 18: deduction
+    scope t(shared, one);
 #endif
     return x == 2 ? 0 : 1;
 }

@@ -19,6 +19,11 @@ fn main() -> Result<(), Error> {
     // misuse 10: E0277
     #[cfg(misuse = "10")]
     std::thread::scope(|s| drop(s.spawn(|| &slices)));
+    let [z] = slices.objects([c])?;
+    // misuse 11: E0499
+    #[cfg(misuse = "11")]
+    slices.step();
+    z[0] = 1;
     (slices.free(c)?, shared.free(d)?);
     let mut heap = Heap::open(4, 1024, 1, 10)?;
     let (a, b) = (heap.malloc(8)?, heap.malloc(8)?);

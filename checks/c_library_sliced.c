@@ -148,7 +148,7 @@ static void lend(void) {
     CHECK(nph_sliced_totals(&heap, &totals) == NPH_LENT && nph_sliced_open(&heap, PAGES, PAGE, MOST, quantum) == NPH_LENT);
     for (uint32_t i = 0; i < live; i++) {
         object *o = &objects[i];
-        uint8_t *at = nph_bytes(words, o->place);
+        uint8_t *at = nph_sliced_bytes(words, o->place);
         CHECK(memcmp(at, o->bytes, o->length) == 0);
         CHECK(nph_sliced_read(&heap, o->handle, 0, &byte, 1) == NPH_LENT && nph_sliced_free(&heap, o->handle) == NPH_LENT);
         if (o->length > 0 && draw(4) == 0) {

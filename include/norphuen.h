@@ -389,12 +389,15 @@ NPH_CALL nph_status nph_sliced_last_steps(nph_sliced_heap *heap, uint64_t *steps
  * these. A move may begin and end in one such call. While a job moves an object, the place is where the object moves to. */
 NPH_CALL nph_status nph_sliced_place(nph_sliced_heap *heap, uint32_t handle, uint32_t *place);
 
-/* As nph_lend; the bytes of an object are at nph_bytes(words, place). Fails with NPH_BUSY if a job is pending, since an object in
- * motion is in two parts: call nph_sliced_step until nph_sliced_left writes 0. */
+/* As nph_lend; the bytes of an object are at nph_sliced_bytes(words, place). Fails with NPH_BUSY if a job is pending, since an
+ * object in motion is in two parts: call nph_sliced_step until nph_sliced_left writes 0. */
 NPH_CALL nph_status nph_sliced_lend(nph_sliced_heap *heap, uint64_t **words);
 
 /* As nph_return. */
 NPH_CALL nph_status nph_sliced_return(nph_sliced_heap *heap);
+
+/* The address of the bytes of an object, whatever library the short names mean. */
+static inline void *nph_sliced_bytes(uint64_t *words, uint32_t place) { return words + place + 1; }
 
 /* As nph_version. */
 uint32_t nph_sliced_version(void);

@@ -1,7 +1,7 @@
 // Norphuen for C++17, over include/norphuen.h, whose comments hold here too. A `heap` closes itself, an `object<T>` is the
-// handle of a T, and a `scope` lends the heap while it lives and has a reference to each object asked for. Nothing here
-// throws or allocates. These classes are over the short names; without a loan, as in the non-moving library, there is no
-// scope. The namespaces `sliced` and `tasks` have the classes of the libraries without short names.
+// handle of a T, and a `scope` lends a heap while it lives and has a reference to each object asked for. Nothing here
+// throws or allocates. `heap` and `object` are over the short names; the namespaces `sliced` and `tasks` have those of the
+// libraries without short names. A heap of a library that lends nothing has no scope.
 #ifndef NORPHUEN_HPP
 #define NORPHUEN_HPP
 
@@ -69,12 +69,80 @@ template <class Raw, auto Close, auto Malloc, auto Write, auto Read> class heap_
     Raw raw_ = {};
 };
 
+// What the scopes of all heaps share, over the calls of one library.
+template <class Raw, auto Length, auto Place, auto Lend, auto Return> class loan_of {
+  public:
+    using raw_heap = Raw;
+
+    loan_of(const loan_of &) = delete;
+    loan_of &operator=(const loan_of &) = delete;
+
+    nph_status status() const { return status_; }
+
+  protected:
+    explicit loan_of(Raw *heap) : heap_(heap) {}
+    ~loan_of() {
+        nph_status returned = status_ == NPH_OK ? Return(heap_) : NPH_OK;
+        assert(returned == NPH_OK);
+        (void)returned;
+    }
+
+    // Finds the place of an object of at least `bytes` bytes, if nothing failed before.
+    void find(uint32_t handle, size_t bytes, uint32_t *place) {
+        uint32_t length = 0;
+        if (status_ == NPH_OK) status_ = Length(heap_, handle, &length);
+        if (status_ == NPH_OK && length < bytes) status_ = NPH_RANGE;
+        if (status_ == NPH_OK) status_ = Place(heap_, handle, place);
+    }
+
+    // Lends the heap, if nothing failed before.
+    void lend() {
+        if (status_ == NPH_OK) status_ = Lend(heap_, &words_);
+    }
+
+    Raw *heap_;
+    nph_status status_ = NPH_OK;
+    uint64_t *words_ = nullptr;
+};
+
+// Lends the heap from its construction to its end, if its status is NPH_OK: then `auto &[x, y] = scope;` names the objects.
+// Each call on the heap returns NPH_LENT meanwhile. Else the status is that of a failed nph_length, nph_place or nph_lend,
+// NPH_RANGE if an object is shorter than its type, or NPH_BUSY if a job is pending in a heap of slices. No reference to an
+// object is used after the scope's end.
+template <class Heap, class... T> class scope : public Heap::loan {
+    static_assert((std::is_trivially_copyable_v<T> && ...), "the library moves objects by copying their bytes");
+    static_assert(((alignof(T) <= 8) && ...), "objects are aligned to 8 bytes");
+
+  public:
+    [[nodiscard]] explicit scope(Heap &lent, object_of<typename Heap::loan::raw_heap, T>... objects) : Heap::loan(lent.raw()) {
+        uint32_t *place = places_;
+        (this->find(objects.handle, sizeof(T), place++), ...);
+        this->lend();
+    }
+
+    // The object number I. A reference would outlive a temporary scope, so that has none.
+    template <size_t I> auto &get() & {
+        assert(this->status() == NPH_OK);
+        return *static_cast<std::tuple_element_t<I, std::tuple<T...>> *>(Heap::bytes(this->words_, places_[I]));
+    }
+    template <size_t I> auto &get() && = delete;
+
+  private:
+    uint32_t places_[sizeof...(T)] = {};
+};
+
 inline namespace NPH_NAMESPACE {
 
 template <class T> using object = object_of<nph_heap, T>;
 
 class heap : public heap_of<nph_heap, nph_close, nph_malloc, nph_write, nph_read> {
   public:
+#ifndef NPH_USE_NONMOVING
+    // What a scope calls.
+    using loan = loan_of<nph_heap, nph_length, nph_place, nph_lend, nph_return>;
+    static void *bytes(uint64_t *words, uint32_t place) { return nph_bytes(words, place); }
+#endif
+
     // As nph_open.
     [[nodiscard]] nph_status open(uint32_t pages, uint32_t page_bytes, uint32_t k, uint32_t proxies) {
         return nph_open(&raw_, pages, page_bytes, k, proxies);
@@ -102,53 +170,6 @@ class heap : public heap_of<nph_heap, nph_close, nph_malloc, nph_write, nph_read
     }
 };
 
-#ifndef NPH_USE_NONMOVING
-// Lends the heap from its construction to its end, if its status is NPH_OK: then `auto &[x, y] = scope;` names the objects.
-// Each call on the heap returns NPH_LENT meanwhile. Else the status is that of a failed nph_length, nph_place or nph_lend,
-// or NPH_RANGE if an object is shorter than its type. No reference to an object is used after the scope's end.
-template <class... T> class scope {
-    static_assert((std::is_trivially_copyable_v<T> && ...), "the library moves objects by copying their bytes");
-    static_assert(((alignof(T) <= 8) && ...), "objects are aligned to 8 bytes");
-
-  public:
-    [[nodiscard]] explicit scope(heap &lent, object<T>... objects) : heap_(lent.raw()) {
-        uint32_t *place = places_;
-        (find(objects.handle, sizeof(T), place++), ...);
-        if (status_ == NPH_OK) status_ = nph_lend(heap_, &words_);
-    }
-    scope(const scope &) = delete;
-    scope &operator=(const scope &) = delete;
-    ~scope() {
-        nph_status returned = status_ == NPH_OK ? nph_return(heap_) : NPH_OK;
-        assert(returned == NPH_OK);
-        (void)returned;
-    }
-
-    nph_status status() const { return status_; }
-
-    // The object number I. A reference would outlive a temporary scope, so that has none.
-    template <size_t I> auto &get() & {
-        assert(status_ == NPH_OK);
-        return *static_cast<std::tuple_element_t<I, std::tuple<T...>> *>(nph_bytes(words_, places_[I]));
-    }
-    template <size_t I> auto &get() && = delete;
-
-  private:
-    // Finds the place of an object of at least `bytes` bytes, if nothing failed before.
-    void find(uint32_t handle, size_t bytes, uint32_t *place) {
-        uint32_t length = 0;
-        if (status_ == NPH_OK) status_ = nph_length(heap_, handle, &length);
-        if (status_ == NPH_OK && length < bytes) status_ = NPH_RANGE;
-        if (status_ == NPH_OK) status_ = nph_place(heap_, handle, place);
-    }
-
-    nph_heap *heap_;
-    nph_status status_ = NPH_OK;
-    uint32_t places_[sizeof...(T)] = {};
-    uint64_t *words_ = nullptr;
-};
-#endif
-
 } // namespace NPH_NAMESPACE
 
 // Frees in slices. The other calls of the header are made with `raw`.
@@ -158,6 +179,10 @@ template <class T> using object = object_of<nph_sliced_heap, T>;
 
 class heap : public heap_of<nph_sliced_heap, nph_sliced_close, nph_sliced_malloc, nph_sliced_write, nph_sliced_read> {
   public:
+    // What a scope calls.
+    using loan = loan_of<nph_sliced_heap, nph_sliced_length, nph_sliced_place, nph_sliced_lend, nph_sliced_return>;
+    static void *bytes(uint64_t *words, uint32_t place) { return nph_sliced_bytes(words, place); }
+
     // As nph_sliced_open.
     [[nodiscard]] nph_status open(uint32_t pages, uint32_t page_bytes, uint32_t proxies, uint32_t quantum) {
         return nph_sliced_open(&raw_, pages, page_bytes, proxies, quantum);
@@ -213,11 +238,10 @@ class heap : public heap_of<nph_tasks_heap, nph_tasks_close, nph_tasks_malloc, n
 } // namespace tasks
 } // namespace norphuen
 
-#ifndef NPH_USE_NONMOVING
-template <class... T> struct std::tuple_size<norphuen::scope<T...>> : std::integral_constant<size_t, sizeof...(T)> {};
-template <size_t I, class... T> struct std::tuple_element<I, norphuen::scope<T...>> {
+template <class Heap, class... T>
+struct std::tuple_size<norphuen::scope<Heap, T...>> : std::integral_constant<size_t, sizeof...(T)> {};
+template <size_t I, class Heap, class... T> struct std::tuple_element<I, norphuen::scope<Heap, T...>> {
     using type = std::tuple_element_t<I, std::tuple<T...>> &;
 };
-#endif
 
 #endif

@@ -1,9 +1,10 @@
-// A free in slices: examples/slice.cf in C++. An object is read and written while a job moves it.
+// A free in slices: examples/slice.cf in C++. An object is read and written while a job moves it, and in place afterwards.
 #include "norphuen.hpp"
 
 #include <array>
 #include <cstdio>
 
+using norphuen::scope;
 using norphuen::sliced::object;
 
 using bytes = std::array<uint8_t, 176>;
@@ -47,11 +48,19 @@ int main() {
     object<bytes> old = a;
     if (!show("free a", heap.drop(a)) || !show("free c", heap.drop(c)) || !finish()) return 1;
     if (!show("free c", heap.drop(c)) || nph_sliced_moving(heap.raw(), &moving) != NPH_OK) return 1;
-    std::printf("b moves: %d\n", moving == b.handle);
+    std::printf("b moves: %d, lend: %s\n", moving == b.handle, nph_text(scope(heap, b).status()));
     value[175] = 0xfe;
     if (heap.write(b, value) != NPH_OK || !show("make a page", heap.make(p, {})) || !finish()) return 1;
+    {
+        scope s(heap, b, d);
+        if (s.status() != NPH_OK) return 1;
+        auto &[first, second] = s;
+        std::printf("b: %02x and %02x\n", first[0], first[175]);
+        second = first;
+        std::printf("step while lent: %s\n", nph_text(nph_sliced_step(heap.raw())));
+    }
     value = {};
-    if (heap.read(b, value) != NPH_OK) return 1;
-    std::printf("b: %02x and %02x\n", value[0], value[175]);
+    if (heap.read(d, value) != NPH_OK) return 1;
+    std::printf("d: %02x and %02x\n", value[0], value[175]);
     return show("make a page", heap.make(p, {})) && show("free a", heap.drop(old)) ? 0 : 1;
 }

@@ -27,7 +27,7 @@ int main(void) {
     MUST(nph_sliced_slot_words(&heap, object, &number) == NPH_OK && number == 26);
     MUST(nph_sliced_class_of(&heap, 200, &number) == NPH_OK && nph_sliced_figures(&heap, number, &figures) == NPH_OK);
     MUST(figures.slot_words == 26 && figures.live == 1 && nph_sliced_place(&heap, object, &place) == NPH_OK);
-    MUST(nph_sliced_lend(&heap, &words) == NPH_OK && strcmp((char *)nph_bytes(words, place) + 194, "hello") == 0);
+    MUST(nph_sliced_lend(&heap, &words) == NPH_OK && strcmp((char *)nph_sliced_bytes(words, place) + 194, "hello") == 0);
     MUST(nph_sliced_step(&heap) == NPH_LENT && nph_sliced_return(&heap) == NPH_OK && nph_sliced_return(&heap) == NPH_NOT_LENT);
     MUST(nph_sliced_free(&heap, object) == NPH_OK && nph_sliced_free(&heap, object) == NPH_UNKNOWN);
     MUST(nph_sliced_lend(&heap, &words) == NPH_BUSY && nph_sliced_totals(&heap, &totals) == NPH_OK);

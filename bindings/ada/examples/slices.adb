@@ -1,9 +1,10 @@
 --  A free in slices: examples/slice.cf in Ada. An object is read and written
---  while a job moves it.
+--  while a job moves it, and in place afterwards.
 with Ada.Text_IO;     use Ada.Text_IO;
 with Interfaces;      use Interfaces;
 with Norphuen;        use Norphuen;
 with Norphuen.Sliced; use Norphuen.Sliced;
+with System;
 
 procedure Slices is
    Quantum : constant := 8;
@@ -15,6 +16,9 @@ procedure Slices is
    Got     : Bytes (0 .. 175) := (others => 0);
    Page    : Unsigned_32 := None;
    Moving  : Unsigned_32 := None;
+   Place   : Unsigned_32 := 0;
+   Words   : System.Address := System.Null_Address;
+   T       : Heap_Totals;
 
    function Left return Unsigned_32 is
       Words : Unsigned_32 := 0;
@@ -58,11 +62,24 @@ begin
    Show ("free", Nph_Free (H, Handles (3)));
    Show ("moving", Nph_Moving (H, Moving));
    Put_Line ("b moves: " & Boolean'Image (Moving = Handles (2)));
+   Show ("lend", Nph_Lend (H, Words));
+   Show ("totals", Nph_Totals (H, T));
+   Put_Line (T.Asked'Image & T.Taken'Image & T.Live'Image & T.Used'Image);
    Show ("write", Nph_Write (H, Handles (2), 175, Last, 1));
    Show ("a page", Nph_Malloc (H, 504, Page));
    Finish;
    Show ("read", Nph_Read (H, Handles (2), 0, Got, 176));
    Put_Line ("b:" & Got (0)'Image & Got (175)'Image);
+   Show ("place", Nph_Place (H, Handles (2), Place));
+   Put_Line ("lend:" & Code'Image (Nph_Lend (H, Words)));
+   declare
+      X : Bytes (0 .. 175)
+      with Import, Address => Norphuen.Sliced.Nph_Bytes (Words, Place);
+   begin
+      Put_Line ("in place:" & X (0)'Image & X (175)'Image);
+   end;
+   Put_Line ("step:" & Code'Image (Nph_Step (H)));
+   Show ("return", Nph_Return (H));
    Show ("a page", Nph_Malloc (H, 504, Page));
    Show ("free", Nph_Free (H, Handles (1)));
    Nph_Close (H);

@@ -139,6 +139,35 @@ unsafe extern "C" {
     #[link_name = named!("most_length")] fn nph_most_length() -> u64;
 }
 
+/// The calls of a loan, and the words of an object in front of its bytes.
+struct Loan {
+    length: unsafe extern "C" fn(*mut RawHeap, u32, *mut u32) -> i32,
+    place: unsafe extern "C" fn(*mut RawHeap, u32, *mut u32) -> i32,
+    lend: unsafe extern "C" fn(*mut RawHeap, *mut *mut u64) -> i32,
+    headers: usize,
+}
+
+/// Those of the library that a feature chose.
+const LOAN: Loan = Loan { length: nph_length, place: nph_place, lend: nph_lend, headers: HEADERS };
+
+impl Loan {
+    /// Lends the heap: the bytes of N objects, in place. Fails with `Unknown` also if a handle occurs twice. The caller ends the
+    /// loan after the last use of the bytes.
+    unsafe fn objects<'a, const N: usize>(&self, heap: *mut RawHeap, objects: [u32; N]) -> Result<[&'a mut [u8]; N], Error> {
+        let (mut places, mut lengths, mut words) = ([0; N], [0; N], core::ptr::null_mut());
+        for (i, object) in objects.iter().enumerate() {
+            if objects[..i].contains(object) {
+                return Err(Error::Unknown);
+            }
+            lengths[i] = written(|bytes| (self.length)(heap, *object, bytes))? as usize;
+            places[i] = written(|place| (self.place)(heap, *object, place))? as usize;
+        }
+        result_of((self.lend)(heap, &mut words), ())?;
+        let bytes = |i: usize| words.add(places[i] + self.headers).cast::<u8>();
+        Ok(core::array::from_fn(|i| core::slice::from_raw_parts_mut(bytes(i), lengths[i])))
+    }
+}
+
 /// The value if the code is that of success, else the error of the code.
 fn result_of<T>(code: i32, value: T) -> Result<T, Error> {
     use Error::*;
@@ -294,18 +323,9 @@ impl Heap {
 
     /// The bytes of N objects, in place. Fails with `Unknown` also if a handle occurs twice.
     pub fn objects<const N: usize>(&mut self, objects: [Handle; N]) -> Result<[&mut [u8]; N], Error> {
-        let (mut places, mut lengths, mut words) = ([0; N], [0; N], core::ptr::null_mut());
-        for (i, object) in objects.iter().enumerate() {
-            if objects[..i].contains(object) {
-                return Err(Error::Unknown);
-            }
-            lengths[i] = self.length(*object)? as usize;
-            result_of(unsafe { nph_place(self.raw(), object.0, &mut places[i]) }, ())?;
-        }
-        result_of(unsafe { nph_lend(self.raw(), &mut words) }, ())?;
+        let bytes = unsafe { LOAN.objects(self.raw(), objects.map(|object| object.0)) }?;
         self.end_loan = Some(nph_return);
-        let bytes = |i: usize| unsafe { words.add(places[i] as usize + HEADERS) }.cast::<u8>();
-        Ok(core::array::from_fn(|i| unsafe { core::slice::from_raw_parts_mut(bytes(i), lengths[i]) }))
+        Ok(bytes)
     }
 
     /// The length of an object in bytes.
