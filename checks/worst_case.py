@@ -5,7 +5,7 @@
 ARCHIVES has NAME.PROCESSOR.a for each library and processor. --write writes docs/BOUNDS.md in place of comparing it.
 
  counted   checks/worst_case.c is linked with each library, and makes drawn calls and ones that are made to be long, with
-           six settings, under qemu. No call takes more instructions, more bytes of memcpy, memmove or memset, or more
+           seven settings, under qemu. No call takes more instructions, more bytes of memcpy, memmove or memset, or more
            stack than its bound. The longest of each kind is within NEAR of its bound, and the deepest stack is the
            computed one, but for those of SHALLOW.
  left out  No block ran that the bounds leave out.
@@ -23,6 +23,7 @@ import re
 import shutil
 import subprocess
 import sys
+import tempfile
 import typing
 from fractions import Fraction
 from pathlib import Path
@@ -33,6 +34,7 @@ os.chdir(TOP)
 loader = importlib.machinery.SourceFileLoader("worst_case", str(TOP / "tools/worst_case"))
 tool = importlib.util.module_from_spec(importlib.util.spec_from_loader("worst_case", loader))
 loader.exec_module(tool)
+sys.modules["worst_case"] = tool  # so that a Fault gets from one process to another
 
 # PAGES, PAGEBYTES, K, PROXIES, QUANTUM
 SETTINGS = [(16, 512, 1, 64, 7), (8, 512, 3, 16, 64), (24, 2048, 2, 200, 30), (16, 4096, 1, 256, 1000), (4, 16384, 1, 64, 1), (3, 131072, 1, 32, 16384)]
@@ -66,7 +68,8 @@ LIBRARIES = {
     "norphuen_nonmoving": About("nm", "worst_case.c", ("-DNPH_USE_NONMOVING",), (4, 1), f"{MOST} slot_words class_of malloc length has_room"),
     "norphuen_tlsf": About("tlsf", "worst_case.c", ("-DNPH_USE_TLSF",), (), f"{MOST} malloc free length has_room bytes_needed place lend return"),
     "norphuen_sliced": About("sliced", "worst_case_sliced.c", (), (1, 4),
-                             "most_malloc most_free most_step most_access most_has_room most_length version malloc free step left moving length has_room"),
+                             "most_malloc most_free most_step most_access most_has_room most_length version malloc free step left moving length has_room "
+                             "slot_words class_of figures totals place lend return"),
     "norphuen_tasks": About("tasks", "worst_case_tasks.c", (), (1, 4), "version malloc free length set_quota task unassigned"),
 }
 # Libraries that have no notes and so no bounds, which docs/BOUNDS.md says.
@@ -186,21 +189,20 @@ class Seen:
                 (what, int(tool.value_at(outside.get(what, {}), at))) for name in ("memcpy", "memmove", "memset") for what in (name, f"{name} bytes")]
         return self.known[key]
 
-    def take(self, line):
-        """What is above its bound in this call."""
+    def take(self, line, times=1):
+        """What is above its bound in this call, which was made so many times."""
         kind, code, counted, stack, steps, *rest = line.split()
         counted, steps, moved = int(counted), int(steps), list(map(int, rest[:6]))
         fields = {"memmoves": moved[2], **dict(zip(rest[6::2], map(int, rest[7::2])))}
         call, done = f"nph_{kind}", code == "0"
         row = f"{call} {case_of(kind, fields)}"
         row = row if done and row in self.bounds else call
-        self.count += 1
+        self.count += times
         self.deepest[call] = max(self.deepest[call], int(stack))
         most, outside = self.most(row, lengths(self.about, kind, done, fields, steps))
         if row not in self.nearest or most * self.nearest[row][1] < self.nearest[row][0] * counted:
             self.nearest[row] = (most, counted, line.strip())
-        if counted > self.longest.get(row, (0, 0))[0]:
-            self.longest[row] = (counted, most)
+        self.longest[row] = max(self.longest.get(row, (0, 0)), (counted, most))
         if kind == "open" and fields["Q"]:
             settings = (fields["P"], fields["W"], fields["Q"])
             self.opened[settings] = max(self.opened.get(settings, (0, 0)), (counted, most))
@@ -221,18 +223,18 @@ def run(command, settings, count, seed=1):
 
 
 def counted(name, library, notes, bounds, stacks, room, count):
-    """What was seen in all calls, and the calls of the shown setting."""
+    """What was seen in all calls, and the calls of the shown setting, each once."""
     command, starts = build(room, name, library)
     seen, ran, name = Seen(LIBRARIES[name], bounds), set(), f"{name}, {library.processor}"
     with concurrent.futures.ThreadPoolExecutor(4) as pool:
         shown = pool.submit(run, command, SHOWN, count)
         runs = [pool.submit(run, command, settings, count, seed) for seed, settings in enumerate(SETTINGS, 1)]
         for done in [shown, *runs]:
-            for line in done.result():
+            for line, times in collections.Counter(done.result()).items():
                 if line.startswith("ran "):
                     ran.add(int(line[4:], 16))
                     continue
-                for text in seen.take(line):
+                for text in seen.take(line, times):
                     fail(f"{name}: {text}")
     never_ran(name, library, notes, starts, ran)
     for row in bounds:
@@ -246,13 +248,15 @@ def counted(name, library, notes, bounds, stacks, room, count):
         if "SHOW" in os.environ:
             print(f"{name} {row}: {most / number if number else 0:.3f} {most} {line}")
     for (pages, words, proxies), (number, most) in seen.opened.items():
+        if "SHOW" in os.environ:
+            print(f"{name} opening {pages} pages of {words} words with {proxies} proxies: {most / number:.3f}")
         if most > NEAR_OPEN * number:
             fail(f"{name}: the longest opening of {pages} pages of {words} words with {proxies} proxies takes {number}, its bound is {most}")
     for export, stack in stacks.items():
         less = stack - seen.deepest[export]
         if less < 0 or less > UNUSED[library.processor] and (library.name, library.processor, export) not in SHALLOW:
             fail(f"{name}: {export} used {seen.deepest[export]} bytes of stack, not {stack}")
-    return seen, [line for line in shown.result() if not line.startswith("ran ")]
+    return seen, sorted({line for line in shown.result() if not line.startswith("ran ")})
 
 
 def far_rows():
@@ -288,11 +292,12 @@ def mutations(name, library, room, lines):
             count += refuses(f"{name}, {library.processor}: {what}", words, library.path, str(file))
 
     def is_found(number, change):
-        """Whether a counted call is above the bound of the changed notes."""
+        """Whether a counted call is above the bound of the changed notes of a function: one of those that lead to it."""
         write(number, change)
         found = tool.Bounds(library, tool.Notes(str(file), library.processor))
-        seen = Seen(LIBRARIES[name], {row: tool.split_cost(cost) for row, cost in found.bounds().items()})
-        return not found.problems and any(text for line in lines for text in seen.take(line))
+        function = next(line.name for line in reversed(read()[:number]) if line.kind == "function")
+        seen = Seen(LIBRARIES[name], {row: tool.split_cost(cost) for row, cost in found.bounds(function).items()})
+        return not found.problems and any(text for line in lines if f"nph_{line.split()[0]}" in seen.bounds for text in seen.take(line))
 
     def put(place):
         return lambda line: line.columns[column].__setitem__(0, place)
@@ -303,7 +308,6 @@ def mutations(name, library, room, lines):
             line.formula += f" - {turns * int(by[1] if by else 1)}"
         return change
 
-    lines = sorted(set(lines))
     lengths = [(n, line) for n, line in notes if line.kind in ("loop", "call") and re.search(r"\b[a-z]\b", line.formula) and "=" not in line.formula]
     small = 0
     # Those of reads and writes first, which are found at once.
@@ -398,7 +402,7 @@ STEPS = {
         "totals": "3 + 2f"}.items()},
     **{("sliced", call): steps for call, steps in {
         "malloc": "17", "free, clear": "23 + q", "free, move": "23 + q", "step, last": "15 + q", "step, next": "15 + q", "left": "0", "moving": "0", "read": "2 + w", "write": "2 + w", "length": "2",
-        "has_room": "1"}.items()},
+        "has_room": "1", "slot_words": "3", "totals": "0"}.items()},
     **{("tasks", call): steps for call, steps in {
         "malloc": "17", "free, alone": "20 + s", "free, move": "20 + s", "read": "2 + w", "write": "2 + w", "length": "2"}.items()},
 }
@@ -504,35 +508,51 @@ def document(cells, codes, writes):
         fail("docs/BOUNDS.md has its lines in another order")
 
 
+def checked(name, processor, count, archives, room):
+    """Checks a library for a processor. Returns the sum of its code, its cells of docs/BOUNDS.md, the calls of which none comes near
+    the bound, the number of counted calls and of wrong notes."""
+    library = tool.Library(f"{archives}/{name}.{processor}.a", name)
+    notes = tool.Notes(f"{tool.NOTES}/{name}", processor)
+    found = tool.Bounds(library, notes)
+    table = found.table()
+    bounds = {row: tool.split_cost(cost) for row, cost in found.bounds().items()}
+    for text in found.problems:
+        fail(f"{name}, {processor}: {text}")
+    allocator = {export for export, row in table.items() if row["allocator"]}
+    if allocator != tool.MAY_ALLOCATE:
+        fail(f"{name}, {processor}: a path leads to the allocator from {sorted(allocator)}")
+    for call in LIBRARIES[name].no_loop.split():
+        if table.get(f"nph_{call}", {"running loops": 1})["running loops"]:
+            fail(f"{name}, {processor}: {call} has a loop, or is not there")
+    stacks = {export: row["stack"] for export, row in table.items()}
+    seen, lines = counted(name, library, notes, bounds, stacks, room, count)
+    cells, far = cells_of(LIBRARIES[name], bounds, stacks, lines)
+    clauses(name, notes)
+    return library.code, cells, far, seen.count, mutations(name, library, room, lines)
+
+
+def alone(room, work, *words):
+    """Does the work in a process and a folder of its own. Returns its result, and what failed."""
+    failed.clear()
+    with tempfile.TemporaryDirectory(dir=room) as folder:
+        return work(*words, folder), list(failed)
+
+
 def main():
     room, count, archives, *rest = sys.argv[1:]
-    cells, codes, far, total, wrong = {}, {}, set(), 0, 0
-    for name in sorted(set(re.findall(r"^(norphuen\w*) staticlib:", Path("crates.txt").read_text(encoding="utf-8"), re.M)) ^ {*LIBRARIES, *NO_NOTES}):
+    known = re.findall(r"^(norphuen\w*) staticlib:", Path("crates.txt").read_text(encoding="utf-8"), re.M)
+    for name in sorted(set(known) ^ {*LIBRARIES, *NO_NOTES}):
         fail(f"{name} is a library of crates.txt, or of LIBRARIES or NO_NOTES, but not of both")
-    for name in LIBRARIES:
-        for processor in tool.PROCESSORS:
-            library = tool.Library(f"{archives}/{name}.{processor}.a", name)
-            notes = tool.Notes(f"{tool.NOTES}/{name}", processor)
-            found = tool.Bounds(library, notes)
-            table = found.table()
-            bounds = {row: tool.split_cost(cost) for row, cost in found.bounds().items()}
-            for text in found.problems:
-                fail(f"{name}, {processor}: {text}")
-            allocator = {export for export, row in table.items() if row["allocator"]}
-            if allocator != tool.MAY_ALLOCATE:
-                fail(f"{name}, {processor}: a path leads to the allocator from {sorted(allocator)}")
-            for call in LIBRARIES[name].no_loop.split():
-                if table.get(f"nph_{call}", {"running loops": 1})["running loops"]:
-                    fail(f"{name}, {processor}: {call} has a loop, or is not there")
-            stacks = {export: row["stack"] for export, row in table.items()}
-            seen, lines = counted(name, library, notes, bounds, stacks, room, int(count))
-            total += seen.count
-            codes[name, processor] = library.code
-            cells[name, processor], more = cells_of(LIBRARIES[name], bounds, stacks, lines)
-            far |= more
-            wrong += mutations(name, library, room, lines)
-            clauses(name, notes)
-    wrong += unbounded(room)
+    with concurrent.futures.ProcessPoolExecutor(4) as pool:
+        jobs = {(name, processor): pool.submit(alone, room, checked, name, processor, int(count), archives)
+                for name in LIBRARIES for processor in tool.PROCESSORS}
+        jobs["unbounded"] = pool.submit(alone, room, unbounded)
+        done = {job: future.result() for job, future in jobs.items()}
+    failed.extend(text for _, texts in done.values() for text in texts)
+    wrong, _ = done.pop("unbounded")
+    codes, cells, far, total = {}, {}, set(), 0
+    for job, ((codes[job], cells[job], more, calls, refused), _) in done.items():
+        far, total, wrong = far | more, total + calls, wrong + refused
     for short, call in sorted(far ^ FAR.keys()):
         fail(f"the longest {call} of {short} is not near its bound, or FAR should not say why")
     document(cells, codes, bool(rest))

@@ -49,13 +49,20 @@ static void read_or_write(bool writes, uint32_t handle, uint32_t at, uint32_t n)
 static void ask_handle(uint32_t handle) {
     uint32_t number;
     ASK(length, (uint64_t)&heap, handle, (uint64_t)&number);
+    ASK(slot_words, (uint64_t)&heap, handle, (uint64_t)&number);
+    ASK(place, (uint64_t)&heap, handle, (uint64_t)&number);
 }
 
 /* The calls that ask for the whole heap, and the bounds. */
 static void ask_heap(void) {
     uint64_t steps;
     uint32_t number;
+    nph_class c;
+    nph_heap_totals t;
     ASK(has_room, (uint64_t)&heap, drawn(page_words * 8));
+    ASK(class_of, (uint64_t)&heap, drawn(page_words * 8), (uint64_t)&number);
+    ASK(figures, (uint64_t)&heap, drawn(70), (uint64_t)&c);
+    ASK(totals, (uint64_t)&heap, (uint64_t)&t);
     ASK(left, (uint64_t)&heap, (uint64_t)&number);
     ASK(moving, (uint64_t)&heap, (uint64_t)&number);
     ASK(last_steps, (uint64_t)&heap, (uint64_t)&steps);
@@ -114,6 +121,21 @@ static void release_all(void) {
     finish(false);
 }
 
+/* Calls that a closed or lent heap refuses. */
+static void refused(uint32_t handle) {
+    make(8), ask_handle(handle), step(), release_handle(handle), ask_heap();
+    read_or_write(true, handle, 0, 8), read_or_write(false, handle, 0, 8);
+}
+
+/* Lends the heap, makes calls that a lent heap refuses, and takes it back. Beside a pending job it can't be lent. */
+static void lend(uint32_t handle) {
+    uint64_t *words;
+    ASK(return, (uint64_t)&heap);
+    ASK(lend, (uint64_t)&heap, (uint64_t)&words);
+    if (heap.is_lent) ASK(lend, (uint64_t)&heap, (uint64_t)&words), refused(handle);
+    ASK(return, (uint64_t)&heap);
+}
+
 static void draw_calls(uint64_t count) {
     for (uint64_t n = 0; n < count; n++) {
         uint32_t i = live ? (uint32_t)drawn(live) : 0, at;
@@ -125,7 +147,7 @@ static void draw_calls(uint64_t count) {
         case 4: finish(drawn(16) == 0); break;
         case 5: read_or_write(true, handles[i], at, (uint32_t)drawn(lengths[i] - at + 1)); break;
         case 6: read_or_write(false, handles[i], at, (uint32_t)drawn(lengths[i] - at + 1)); break;
-        default: ask_handle(handles[i]), ask_heap(); n += 8;
+        default: ask_handle(handles[i]), lend(handles[i]), ask_heap(); n += 8;
         }
     }
 }
@@ -175,18 +197,12 @@ static int32_t open_or_close(bool opens, const uint64_t *settings) {
     return code;
 }
 
-/* Calls that a closed heap refuses. */
-static void refused(void) {
-    make(8), ask_handle(0), step(), release_handle(0), ask_heap();
-    read_or_write(true, 0, 0, 8), read_or_write(false, 0, 0, 8);
-}
-
 int main(int argc, char **argv) {
     uint64_t settings[5];
     nph_needed needed;
     begin(argc, argv, settings);
     page_words = (uint32_t)settings[1] / 8, quantum = (uint32_t)settings[4];
-    refused();
+    refused(0);
     CALL("bytes_needed", nph_sliced_bytes_needed, settings[0], settings[1], settings[3], (uint64_t)&needed), printf(" W %" PRIu32 "\n", page_words);
     OPEN_WITH_LITTLE(open_or_close(true, settings));
     draw_calls(strtoull(argv[2], NULL, 10));
