@@ -122,7 +122,7 @@ function otherSaid({ verb, id, ok, reply, tokens: [, , one, two] }) {
 const CLAIM = {
   step: ["Each call of a manager does its contract's step and changes nothing else; each refusal has its cause.", 'MovingHeap, NonMovingHeap, TagHeap'],
   run: ["fixed, but for a manager's choices: a new object's number, the address of a new or resized object, which object moves, the steps (within the bound)", 'MeetsHeadline'],
-  refused: ['if every bound is 1, a malloc that fits a page is refused if and only if every proxy is in use, or with the new object the classes need more pages (Σ ⌈n/m⌉) than there are.', ''],
+  refused: ['In a heap of pages with k = 1, a malloc that fits a page is refused if and only if as many objects are live as the heap was opened for, or with it the classes need more pages (Σ ⌈n/m⌉) than there are.', ''],
   malloc: ['an unused handle, an object of zeros', 'Manager::malloc'],
   free: ['moves at most one object', 'Manager::free'],
   partly: ['no class has an empty page or more partly full pages than its bound', 'KeepsRules'],
@@ -151,7 +151,7 @@ const CLAIM = {
   admit: ["After yes the task's mallocs reply ok or live while its quota is no less and its live objects, with each new one, are within what it declared", 'an_admitted_task_is_served'],
   parts: ['all spines and parts would need more pages than there are', 'LargeHeap::malloc'],
   long: ['A malloc or free of a long one takes at most those of one malloc or free for each part and for the spine, and of an access of four bytes for each part.', 'LargeHeap'],
-  counted: ['A step is one counted access to a cell or word.', ''],
+  counted: ['A step is an access to one table entry or one word.', ''],
   classes: ['a class with n live objects, m to a page, has at most ⌊n/m⌋ + k pages; k, 1 to 64, may be partly full.', ''],
 };
 
