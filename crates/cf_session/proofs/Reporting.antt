@@ -182,7 +182,3 @@ pub applied_going : (old new : RunState) (c : Command) (lead : List ℕ) (w y : 
     → AppliesOneManager (record { run = old; written = w }) (record { command = c; lead = lead }) answer (record { run = new; written = y }) → IsGoing new
 applied_going old new c lead w y (Ok outcome) going a = step_going old new c a.0.reply going a.0.turn.step
 applied_going old new c lead w y (Err e) going a = step_going old new c a.reply going a.turn.step
-
--- a session and an open heap make a run in progress if the heap keeps its rules and the session's ids are tied to its objects
-pub going_before : (inside session : SessionState) (heap : HeapState) → inside ≡ session → IsGoing (run_at session heap) → IsGoing (run_at inside heap)
-going_before inside session heap same going = subst (λ (s : SessionState). IsGoing (run_at s heap)) (sym same) going

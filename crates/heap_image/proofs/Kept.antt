@@ -33,10 +33,6 @@ pub moved_bound : {T : Type 0} (c : Counters) (moved : Option T) (n : ℕ) → (
 moved_bound c None n = refl
 moved_bound c (Some h) n = refl
 
--- names and an open heap make a run in progress if their view is that of a session that does
-pub going_inside : (inside session : SessionState) (heap : HeapState) → inside ≡ session → IsGoing (run_at session heap) → IsGoing (run_at inside heap)
-going_inside inside session heap same going = subst (λ (s : SessionState). IsGoing (run_at s heap)) (sym same) going
-
 module _ (old new : RunState) (going : IsGoing old) (rules : KeepsRules new.heap) where
   abbrev ids : Ids
   ids = old.session.ids

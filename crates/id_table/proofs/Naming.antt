@@ -1,6 +1,6 @@
 -- Ids are tied to objects with their addresses if and only if they are tied to the bytes alone; counting keeps the ids; a call without cost is within each
 -- bound; and a write within an object has no fault.
-use Rattle.std.proofs.Common.{◌≡◌, ℕ, ◌+◌, Option, Some, None, length, ap, sym, ◌∙◌, refl, arith}
+use Rattle.std.proofs.Common.{◌≡◌, ℕ, ◌+◌, Option, Some, None, length, ap, sym, ◌∙◌, refl, arith, subst}
 use Rattle.std.specs.Prelude.{option_map}
 use Rattle.std.specs.FinMap.{get}
 use Rattle.cf_base.specs.declared.answers.AccessFault.{AccessFault}
@@ -8,12 +8,13 @@ use Rattle.cf_base.specs.declared.answers.AccessFault.TheVariants as access
 use Rattle.cf_base.specs.declared.kind.Kind.{Kind}
 use Rattle.cf_lemmas.proofs.MapValues.{get-map_values}
 use Rattle.cf_model.specs.Families.{Family, paged, tiled, family_of}
+use Rattle.cf_model.specs.State.{HeapState}
 use Rattle.cf_model.specs.Steps.{IsFault}
 use Rattle.page_model.specs.Held.{Held, Placed, objects}
 use Rattle.page_model.proofs.CallerLemmas.{bytes_held}
 use Rattle.id_table.specs.Ids.{Ids}
 use Rattle.id_table.specs.Named.{HasBytes}
-use Rattle.id_table.specs.Sessions.{CostsAtMost, RunState, SessionState, counted}
+use Rattle.id_table.specs.Sessions.{CostsAtMost, IsGoing, RunState, SessionState, counted, run_at}
 use Rattle.id_table.specs.Ties.{AreTiedTo}
 
 -- if a mapped option has a value, so has the option
@@ -39,6 +40,10 @@ module _ (ids : Ids) (m : Held) where
     once = names.once;
     all = λ q x is. names.all q x.bytes (bytes_held m q x is);
   }
+
+-- names in a session that is a run in progress are one too, if they are the session's
+pub going_inside : (inside session : SessionState) (heap : HeapState) → inside ≡ session → IsGoing (run_at session heap) → IsGoing (run_at inside heap)
+going_inside inside session heap same going = subst (λ (s : SessionState). IsGoing (run_at s heap)) (sym same) going
 
 -- a session whose counters changed keeps its ids
 pub counted_ids : {T : Type 0} (s : SessionState) (o : Option T) (n : ℕ) → (counted s o n).ids ≡ s.ids

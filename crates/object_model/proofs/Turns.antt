@@ -62,11 +62,6 @@ pub record KeepsObjects {S R F : Type 0} (calls : Calls S R F) (Stay : S → S �
   pub kept : (e : F) → is_ok (said (calls.free_text (Some e))) ≡ false
 
 -- refusals have other replies than `ok`
-pub malloc_refused : (e : Refusal) → is_ok (said (malloc_text (Err e))) ≡ false
-malloc_refused refusal.Size = refl
-malloc_refused refusal.Proxy = refl
-malloc_refused refusal.Space = refl
-
 write_refused : (e : AccessFault) → is_ok (said (write_text (Err e))) ≡ false
 write_refused access.Unknown = refl
 write_refused access.Range = refl

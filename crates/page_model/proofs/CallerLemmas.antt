@@ -7,7 +7,7 @@ pub use Rattle.page_model.proofs.Freeing.{objects_on-away, objects_on-left, obje
 pub use Rattle.page_model.proofs.Totals.{sum_same, sum_plus, sum_zeros, sum-map_values, live_is, on_none}
 pub use Rattle.page_model.proofs.PageCounts.{slots_some, sound_stand, sound_few}
 pub use Rattle.page_model.proofs.FreeSteps.{removed_twice, mover_is_other, sound_without, sound_free}
-pub use Rattle.page_model.proofs.PageLaws.{between_multiples, can_hold_one}
+pub use Rattle.page_model.proofs.PageLaws.{between_multiples, can_hold_one, wider}
 pub use Rattle.page_model.proofs.Images.{within_or, disjoint_outside, image_added, turned}
 pub use Rattle.page_model.proofs.Reading.{held_from_image, byte_below, bytes_at-AreBytes, places-held_at, held_at_is, held_at_bytes}
 pub use Rattle.page_model.proofs.Lacking.{used_is}
@@ -36,3 +36,4 @@ pub use Rattle.page_model.proofs.OrderNumbers.{numbers_spare, order_bounded, ord
 pub use Rattle.page_model.proofs.OrderLists.{pages_listed, renumbered, still_listed}
 pub use Rattle.page_model.proofs.FirstOrder.{first_is_order}
 pub use Rattle.page_model.proofs.ImageSteps.{fresh_word, image_unique}
+pub use Rattle.page_model.proofs.StepBounds.{copy_few, drop_few, either_few, fill_few, run_few, slot_few, take_few, wipe_few, word_few}

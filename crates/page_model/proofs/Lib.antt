@@ -33,4 +33,5 @@ pub mod NextSlots
 pub mod NextMoves
 pub mod OrderNumbers
 pub mod OrderSteps
+pub mod StepBounds
 pub mod CallerLemmas

@@ -144,14 +144,15 @@ greatest_passes test (suc top) p le is = go (test (suc top)) refl (λ le. greate
       | inr ne ↦ omega arith
     ]))
 
+-- objects that fit pages with bound 1 do with every bound
+pub wider : (q n m k : ℕ) → 0 < k → CanHold q n m 1 → CanHold q n m k
+wider q n m k some (parts, s) = (parts, record { few = omega (arith, s.few); within = s.within; least = s.least; most = s.most })
+
 -- n objects can be on `most_pages` pages
 pub most_pages_reached : (n m k : ℕ) → 0 < m → 0 < k → CanHold (most_pages n m k) n m k
 unfolding most_pages
 most_pages_reached n m k pos some =
     let one = one_can_hold (ceil_div n m) n m pos refl in
-    let wider : CanHold (ceil_div n m) n m k = widen one in
+    let all : CanHold (ceil_div n m) n m k = wider (ceil_div n m) n m k some one in
     test_shows (greatest (λ p. can_hold p n m k) (n / m + k)) n m k
-    (greatest_passes (λ p. can_hold p n m k) (n / m + k) (ceil_div n m) (can_hold_bound (ceil_div n m) n m k pos wider) (tested (ceil_div n m) n m k wider))
-  where
-    widen : CanHold (ceil_div n m) n m 1 → CanHold (ceil_div n m) n m k
-    widen (q, s) = (q, record { few = omega (arith, s.few); within = s.within; least = s.least; most = s.most })
+    (greatest_passes (λ p. can_hold p n m k) (n / m + k) (ceil_div n m) (can_hold_bound (ceil_div n m) n m k pos all) (tested (ceil_div n m) n m k all))

@@ -24,6 +24,11 @@ both_false false b h k = k
 abbrev pub Pooled : ℕ → List ℕ → Type 0
 Pooled n free = IsPool (record { pages = n; free = free })
 
+-- one of the free pages, if there are any
+pub some_free : (free : List ℕ) → 1 ≤ length free → (page : ℕ) × (is_in_pool free page ≡ true)
+some_free [] some = absurd (omega arith)
+some_free (page ∷ free) some = (page, rw (eq-eqb page page refl) refl)
+
 -- the first page isn't among the other free pages
 pub front_gone : (n page : ℕ) (free : List ℕ) → Pooled n (page ∷ free) → is_in_pool free page ≡ false
 front_gone n page free h = h.distinct.0

@@ -52,10 +52,6 @@ front_none : (xs : List ℕ) → None ≡ slice_get xs 0 → xs ≡ []
 front_none [] e = refl
 front_none (x ∷ xs) e = absurd (let none : is_some (slice_get (x ∷ xs) 0) ≡ false = ap is_some (sym e) in false≢true (sym none))
 
-pub none_listed : (xs : List ℕ) → length xs ≡ 0 → xs ≡ []
-none_listed [] e = refl
-none_listed (x ∷ xs) e = absurd (omega arith)
-
 pub front_some : (xs : List ℕ) → 1 ≤ length xs → None ≡ slice_get xs 0 → ⊥
 front_some xs some none = (let e = ap (λ (ys : List ℕ). length ys) (front_none xs none) in omega arith)
 

@@ -4,14 +4,14 @@ use Rattle.std.proofs.Common.{◌≡◌, ◌≢◌, ℕ, ◌+◌, ◌*◌, ◌<�
 use Rattle.std.proofs.Common.{sym, ◌∙◌, ap, subst, inl, inr}
 use Rattle.std.proofs.lemmas.Bool.{cases_lt}
 use Rattle.std.specs.FinMap.{get, len}
+use Rattle.std.proofs.lemmas.List.{nil_from_length}
 use Rattle.cf_base.specs.Classes.{class_of}
 use Rattle.cf_base.specs.declared.answers.Handle.{Handle}
 use Rattle.cf_base.specs.declared.answers.Refusal.{Refusal}
 use Rattle.cf_base.specs.declared.answers.Refusal.TheVariants as refusal
-use Rattle.cf_lemmas.proofs.Tests.{eq_yes}
 use Rattle.class_lists.specs.PageLists.{pages_in}
 use Rattle.class_lists.specs.declared.Which.TheVariants.{NotFull}
-use Rattle.page_pool.specs.Pool.{is_in_pool}
+use Rattle.page_pool.proofs.CallerLemmas.{some_free}
 use Rattle.page_model.specs.Arrangement.{LacksRoom}
 use Rattle.page_model.specs.Image.{header_word}
 use Rattle.page_model.specs.Paging.{class_for}
@@ -35,20 +35,12 @@ use Rattle.paged_heap.proofs.LayoutFacts.{paged_kind, paging_ok, sizes_are, tabl
 use Rattle.paged_heap.proofs.Preserved.{rest_from}
 use Rattle.paged_heap.proofs.MallocPreserves.{IsAdded}
 
-empty_of : (xs : List ℕ) → length xs ≡ 0 → xs ≡ []
-empty_of [] e = refl
-empty_of (x ∷ xs) e = absurd (omega arith)
-
-first_in : (free : List ℕ) → 1 ≤ length free → (page : ℕ) × (is_in_pool free page ≡ true)
-first_in [] l = absurd (omega arith)
-first_in (page ∷ free) l = (page, rw (eq_yes page page refl) refl)
-
 module _ (h : Heap) (k : IsValid h) (c : ℕ) where
   -- without a partly full page of the class and a free page there is no room
   pub lacks_slots : length (pages_in h.lists c NotFull) + length h.pool.free ≡ 0 → LacksRoom (paging_at h) (held_in h) c
   lacks_slots none =
       refused_lacks_room (paging_ok h k) k.serve.part k.occupied k.serve.whole c (tables_in h)
-      (empty_of (pages_in h.lists c NotFull) (omega arith), empty_of h.pool.free (omega arith), refl)
+      (nil_from_length (pages_in h.lists c NotFull) (omega arith), nil_from_length h.pool.free (omega arith), refl)
 
   -- with one of them there is room
   pub slot_is_room : HasSlot h.lists h.pool c → LacksRoom (paging_at h) (held_in h) c → ⊥
@@ -56,7 +48,7 @@ module _ (h : Heap) (k : IsValid h) (c : ℕ) where
     | inl lt ↦ (let e = not_full_is h k c in let z = l.full in absurd (omega arith))
     | inr none ↦ (
         let p = paging_at h in
-        let first = first_in h.pool.free (omega arith) in
+        let first = some_free h.pool.free (omega arith) in
         let below = k.serve.part.tables.pool.below first.0 first.1 in
         let free = free_page (class_table p) (tables_in h) k.serve.part.tables first.0 below first.1 in
         let bare = free_bare p (paging_ok h k) (tables_in h) k.serve.part (held_in h) k.occupied first.0 free in

@@ -16,6 +16,7 @@ use Rattle.cf_base.specs.declared.kind.Kind.TheVariants.{Moving, NonMoving, Tlsf
 use Rattle.cf_lemmas.proofs.Tests.{eq_no, eq_yes, lt_no, lt_yes}
 use Rattle.cf_model.specs.Costs.{access_bound, free_bound, resize_bound, words_touched}
 use Rattle.page_model.specs.Order.{word_steps}
+use Rattle.page_model.proofs.CallerLemmas.{run_few, slot_few, word_few}
 use Rattle.step_ledger.proofs.CallerLemmas.{rose_both, rose_none}
 use Rattle.step_ledger.specs.Counting.{RoseBy}
 use Rattle.virtual_words.specs.Words.{IsWhole, copy_steps, run_steps, slot_steps}
@@ -134,49 +135,31 @@ sizes_differ words sizes s c d in_c in_d ne e = elim (cases_lt c d) [
 ]
 
 -- the steps of each call are at most those that `Manager` allows
-pub run_low : (kind : Kind) (i n : ℕ) → run_steps kind i n ≤ 2 * n
-run_low Moving i n = omega arith
-run_low NonMoving i n = omega arith
-run_low Tlsf i n = omega arith
-run_low HalfFit i n = omega arith
-
-pub word_low : (kind : Kind) → word_steps kind ≤ 2
-word_low Moving = omega arith
-word_low NonMoving = omega arith
-word_low Tlsf = omega arith
-word_low HalfFit = omega arith
-
-slot_low : (kind : Kind) (n : ℕ) → slot_steps kind n ≤ n + n / 2
-slot_low Moving n = omega arith
-slot_low NonMoving n = omega arith
-slot_low Tlsf n = omega arith
-slot_low HalfFit n = omega arith
-
 pub free_low : (kind : Kind) (r : Result Freed NotLive) → free_steps kind r ≤ free_bound r
-free_low kind (Ok freed) = (let a = word_low kind in let b = slot_low kind freed.slot_words in omega arith)
+free_low kind (Ok freed) = (let a = word_few kind in let b = slot_few kind freed.slot_words in omega arith)
 free_low kind (Err e) = omega arith
 
 pub resize_low : (kind : Kind) (n : ℕ) (r : Result Resized ResizeFault) → resize_steps kind n r ≤ resize_bound r
 resize_low kind n (Ok done) = elim (cases_eq done.slot_words done.old_slot_words) [
   | inl is ↦ (
-      let a = word_low kind in
+      let a = word_few kind in
       let s = done.slot_words in
-      let b = run_low kind (2 + n / 8) (s - 2 - n / 8) in
+      let b = run_few kind (2 + n / 8) (s - 2 - n / 8) in
       let e : resize_steps kind n (Ok done) ≡ stay_steps kind n s = rw (eq_yes s done.old_slot_words is) refl in
       omega arith)
   | inr ne ↦ (
-      let a = word_low kind in
-      let b = slot_low kind done.old_slot_words in
-      let d = slot_low kind (min done.old_slot_words done.slot_words) in
+      let a = word_few kind in
+      let b = slot_few kind done.old_slot_words in
+      let d = slot_few kind (min done.old_slot_words done.slot_words) in
       let e : resize_steps kind n (Ok done) ≡ change_steps kind done.old_slot_words done.slot_words = rw (eq_no done.slot_words done.old_slot_words ne) refl in
       omega arith)
 ]
 resize_low kind n (Err resize.Unknown) = omega arith
 resize_low kind n (Err resize.Kind) = omega arith
 resize_low kind n (Err resize.Size) = omega arith
-resize_low kind n (Err resize.Space) = (let a = word_low kind in omega arith)
+resize_low kind n (Err resize.Space) = (let a = word_few kind in omega arith)
 
 pub access_low : (kind : Kind) (from count : ℕ) (r : Result Unit AccessFault) → access_steps kind from count r ≤ access_bound from count
-access_low kind from count (Ok u) = (let a = word_low kind in let b = run_low kind (1 + from / 8) (words_touched from count) in omega arith)
+access_low kind from count (Ok u) = (let a = word_few kind in let b = run_few kind (1 + from / 8) (words_touched from count) in omega arith)
 access_low kind from count (Err access.Unknown) = omega arith
-access_low kind from count (Err access.Range) = (let a = word_low kind in omega arith)
+access_low kind from count (Err access.Range) = (let a = word_few kind in omega arith)

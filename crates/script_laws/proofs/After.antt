@@ -53,10 +53,10 @@ pub either : {A : Type 0} (b : Bool) (x : A) → x ≡ cond b x x
 either true x = refl
 either false x = refl
 
-refused_not_ok : (e : Refusal) → is_ok (said (malloc_text (Err e))) ≡ false
-refused_not_ok refusal.Size = refl
-refused_not_ok refusal.Proxy = refl
-refused_not_ok refusal.Space = refl
+pub malloc_refused : (e : Refusal) → is_ok (said (malloc_text (Err e))) ≡ false
+malloc_refused refusal.Size = refl
+malloc_refused refusal.Proxy = refl
+malloc_refused refusal.Space = refl
 
 unresized_not_ok : (e : ResizeFault) → is_ok (said (resize_text (Err e))) ≡ false
 unresized_not_ok resize.Unknown = refl
@@ -96,7 +96,7 @@ module _ (t new : ShownHeap) where
   malloc_view : (o : Option Placed) (id n : ℕ) (reply : Reply) → ShowsMalloc o t id n reply new → view new ≡ view_after (view t) (Malloc id n) reply
   malloc_view (Some x) id n reply step = left (Malloc id n) reply (ap view step.1) refl (ap is_ok step.0)
   malloc_view None id n reply (inl step) = done (Malloc id n) reply _ (ap view step.heap_is) refl (ap is_ok step.reply_is) (malloc_objects t.heap.held id step.place n)
-  malloc_view None id n reply (inr step) = left (Malloc id n) reply (ap view step.heap_is) refl (ap is_ok step.reply_is ∙ refused_not_ok step.refusal)
+  malloc_view None id n reply (inr step) = left (Malloc id n) reply (ap view step.heap_is) refl (ap is_ok step.reply_is ∙ malloc_refused step.refusal)
 
   -- the bytes after a free
   freed_in : (f : Family) → family_of t.heap.kind ≡ f → IsArranged t.heap → (id : ℕ) (x : Placed) (moved : Option ℕ) → get t.heap.held id ≡ Some x

@@ -12,7 +12,7 @@ pub use Rattle.script_laws.proofs.PagesAtOne.{figures_alike, figures_are, live_a
 pub use Rattle.script_laws.proofs.SmallMaps.{counted, got, got_none, listed, listed_none}
 pub use Rattle.script_laws.proofs.Claims.{headline_met, run_met, shown_at}
 pub use Rattle.script_laws.proofs.OneTranscript.{bytes_are, one_shown}
-pub use Rattle.script_laws.proofs.After.{view}
+pub use Rattle.script_laws.proofs.After.{malloc_refused, view}
 pub use Rattle.script_laws.proofs.Exact.{IsInOrder, item_is}
 pub use Rattle.script_laws.proofs.Shown.{shown}
 pub use Rattle.script_laws.proofs.OneOutput.{begins_once, begun_alike, step_keeps}

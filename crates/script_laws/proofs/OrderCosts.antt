@@ -12,71 +12,17 @@ use Rattle.cf_base.specs.declared.kind.Kind.TheVariants.{Moving, NonMoving, Tlsf
 use Rattle.page_model.specs.Arrangement.{class_at, objects_on}
 use Rattle.page_model.specs.Held.{Held, Placed}
 use Rattle.page_model.specs.Image.{slot_for}
-use Rattle.page_model.specs.Order.{Order, fill_steps, new_page_steps, not_full_in, open_steps, steps_to_drop, steps_to_fill, steps_to_take, word_steps}
+use Rattle.page_model.specs.Order.{Order, word_steps}
 use Rattle.page_model.specs.Paging.{Paging, class_for, page_of, slots_of}
 use Rattle.page_model.specs.Steps.{Request}
 use Rattle.page_model.specs.WordSteps.{copy_steps, run_steps, slot_steps, wipe_steps}
+use Rattle.page_model.proofs.CallerLemmas.{copy_few, drop_few, either_few, fill_few, run_few, slot_few, take_few, wipe_few, word_few}
 use Rattle.cf_model.specs.Costs.{resize_bound}
 use Rattle.cf_model.specs.ExactCosts.{carrying_cost, free_cost, leaving_cost, malloc_cost, resize_cost, resized_cost, tail_steps}
 use Rattle.cf_model.specs.State.{HeapState, paging_in}
 
--- the steps of one word, and of several, are bounded for each kind
-word_few : (k : Kind) → word_steps k ≤ 2
-word_few Moving = omega arith
-word_few NonMoving = omega arith
-word_few Tlsf = omega arith
-word_few HalfFit = omega arith
-
-run_few : (k : Kind) (i n : ℕ) → run_steps k i n ≤ 2 * n
-run_few Moving i n = omega arith
-run_few NonMoving i n = omega arith
-run_few Tlsf i n = omega arith
-run_few HalfFit i n = omega arith
-
-copy_few : (k : Kind) (i n : ℕ) → copy_steps k i n ≤ n + n / 2 + 4
-copy_few Moving i n = omega arith
-copy_few NonMoving i n = omega arith
-copy_few Tlsf i n = omega arith
-copy_few HalfFit i n = omega arith
-
-wipe_few : (k : Kind) (n : ℕ) → wipe_steps k n ≤ n + n / 2
-wipe_few Moving n = omega arith
-wipe_few NonMoving n = omega arith
-wipe_few Tlsf n = omega arith
-wipe_few HalfFit n = omega arith
-
-slot_few : (k : Kind) (n : ℕ) → slot_steps k n ≤ n + n / 2
-slot_few Moving n = omega arith
-slot_few NonMoving n = omega arith
-slot_few Tlsf n = omega arith
-slot_few HalfFit n = omega arith
-
 pub space_few : (s : HeapState) → 4 + word_steps s.kind ≤ 160
 space_few s = (let w = word_few s.kind in omega arith)
-
--- if both branches of a test are within a bound, so is the result
-either_few : (b : Bool) (x y most : ℕ) → x ≤ most → y ≤ most → (if b then x else y) ≤ most
-either_few true x y most a b = a
-either_few false x y most a b = b
-
-module _ (p : Paging) (m : Held) where
-  take_few : (o : Order) (c : ℕ) → steps_to_take p m o c ≤ 13
-  take_few o c = by (not_full_in o c)
-    where
-      by : (pages : List ℕ) → (elim pages [ [] ↦ new_page_steps | page ∷ rest ↦ open_steps (objects_on p m c page) (slots_of p c) ]) ≤ 13
-      by [] = omega arith
-      by (page ∷ rest) = either_few (nat_eq (objects_on p m c page + 1) (slots_of p c)) 13 5 13 (omega arith) (omega arith)
-
-  drop_few : (c page : ℕ) → steps_to_drop p m c page ≤ 13
-  drop_few c page = either_few (nat_eq (objects_on p m c page) 1) 10 (if nat_eq (objects_on p m c page) (slots_of p c) then 13 else 5) 13 (omega arith)
-      (either_few (nat_eq (objects_on p m c page) (slots_of p c)) 13 5 13 (omega arith) (omega arith))
-
-  fill_few : (o : Order) (c : ℕ) → steps_to_fill p m o c ≤ 12
-  fill_few o c = by (not_full_in o c)
-    where
-      by : (pages : List ℕ) → (elim pages [ [] ↦ 0 | page ∷ rest ↦ fill_steps (objects_on p m c page) ]) ≤ 12
-      by [] = omega arith
-      by (page ∷ rest) = either_few (nat_eq (objects_on p m c page) 1) 12 7 12 (omega arith) (omega arith)
 
 module _ (s : HeapState) (o : Order) where
   pub malloc_few : (bytes : ℕ) (h : Handle) → malloc_cost s o bytes (Ok h) ≤ 64
@@ -88,7 +34,7 @@ module _ (s : HeapState) (o : Order) where
   leaving_few : (x : Placed) (moved : Option Handle) (n : ℕ) → n ≡ slot_for (paging_in s) (length x.bytes) → leaving_cost s o x moved ≤ 15 + n + n / 2
   leaving_few x None n is =
       let a : wipe_steps s.kind (slot_for (paging_in s) (length x.bytes)) ≤ n + n / 2 = subst (λ k. wipe_steps s.kind k ≤ n + n / 2) is (wipe_few s.kind n) in
-      let b = drop_few (paging_in s) s.held (class_at (paging_in s) x) (page_of (paging_in s) x.place) in
+      let b = drop_few (objects_on (paging_in s) s.held (class_at (paging_in s) x) (page_of (paging_in s) x.place)) (slots_of (paging_in s) (class_at (paging_in s) x)) in
       omega arith
   leaving_few x (Some y) n is =
       let a : slot_steps s.kind (slot_for (paging_in s) (length x.bytes)) ≤ n + n / 2 = subst (λ k. slot_steps s.kind k ≤ n + n / 2) is (slot_few s.kind n) in

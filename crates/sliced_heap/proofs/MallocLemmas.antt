@@ -4,7 +4,7 @@ use Rattle.std.proofs.Common.{◌≡◌, ◌≢◌, ℕ, ◌+◌, ◌*◌, ◌<�
 use Rattle.std.proofs.Common.{subst, inl, inr}
 use Rattle.std.specs.Prelude.{◌↔◌, Bool, IsTrue, false, nat_eq, option_map}
 use Rattle.std.proofs.lemmas.Bool.{cases_lt, false≢true}
-use Rattle.std.proofs.lemmas.List.{get_or-set_same, get_or-set_other, length-replicate, length-set}
+use Rattle.std.proofs.lemmas.List.{get_or-set_same, get_or-set_other, length-replicate, length-set, nil_from_length}
 use Rattle.std.specs.FinMap.{get, insert, len}
 use Rattle.cf_base.specs.Classes.{class_of, need, slots}
 use Rattle.cf_base.specs.declared.answers.Handle.{Handle}
@@ -12,7 +12,6 @@ use Rattle.cf_lemmas.proofs.Maps.{some_inserted}
 use Rattle.cf_lemmas.proofs.MapValues.{get-map_values}
 use Rattle.cf_lemmas.proofs.Ranges.{one}
 use Rattle.cf_lemmas.proofs.Tallies.{counted_in}
-use Rattle.cf_lemmas.proofs.Tests.{eq_yes}
 use Rattle.class_lists.specs.PageLists.{pages_in}
 use Rattle.class_lists.specs.declared.Which.TheVariants.{NotFull}
 use Rattle.page_model.specs.Arrangement.{LacksRoom, live, pages_needed, pages_needed_with}
@@ -29,7 +28,7 @@ use Rattle.page_slots.specs.Tables.{AreTables, Tables}
 use Rattle.page_slots.specs.Take.{TakesAt, TakesSlot, steps_to_take as table_take}
 use Rattle.page_slots.specs.Occupying.{Occupies, FitPages, class_table}
 use Rattle.page_slots.specs.Orders.{order_of}
-use Rattle.page_pool.specs.Pool.{is_in_pool}
+use Rattle.page_pool.proofs.CallerLemmas.{some_free}
 use Rattle.page_slots.proofs.CallerLemmas.{class_is, free_bare, free_page, not_full_pages_are, refused_lacks_room, steps_same, taken_is_free, taken_next, taken_occupied, taken_serve}
 use Rattle.proxy_table.specs.Proxies.{AreBelowLimit, with_place}
 use Rattle.size_classes.specs.Table.{ClassTable}
@@ -59,17 +58,9 @@ one_word words a v lt = record {
     other w (inl l) e = omega arith
     other w (inr r) e = omega arith
 
-empty_of : (xs : List ℕ) → length xs ≡ 0 → xs ≡ []
-empty_of [] e = refl
-empty_of (x ∷ xs) e = absurd (omega arith)
-
-first_in : (free : List ℕ) → 1 ≤ length free → (page : ℕ) × (is_in_pool free page ≡ true)
-first_in [] l = absurd (omega arith)
-first_in (page ∷ free) l = (page, rw (eq_yes page page refl) refl)
-
 -- without a partly full page of class c and without a free page the tables have no slot for it
 pub no_slots : (h : Heap) (c : ℕ) → length (pages_in h.lists c NotFull) + length h.pool.free ≡ 0 → TakesSlot h.classes (tables_in h) c None (tables_in h)
-no_slots h c none = (empty_of (pages_in h.lists c NotFull) (omega arith), empty_of h.pool.free (omega arith), refl)
+no_slots h c none = (nil_from_length (pages_in h.lists c NotFull) (omega arith), nil_from_length h.pool.free (omega arith), refl)
 
 -- with one of them there is room beside the job
 slot_is_room : (h : Heap) (k : IsValid h) (c : ℕ) → 1 ≤ length (pages_in h.lists c NotFull) + length h.pool.free
@@ -81,7 +72,7 @@ slot_is_room h k c some l = elim (cases_lt 0 (length (pages_in h.lists c NotFull
       absurd (omega arith))
   | inr none ↦ (
       let p = paging_at h in
-      let first = first_in h.pool.free (omega arith) in
+      let first = some_free h.pool.free (omega arith) in
       let below = k.serve.part.tables.pool.below first.0 first.1 in
       let free = free_page (class_table p) (tables_in h) k.serve.part.tables first.0 below first.1 in
       let bare = free_bare p (paging_ok h k) (tables_in h) k.serve.part (occupied (plan_of h) (state_of h)) k.occupied first.0 free in

@@ -7,9 +7,10 @@ use Rattle.cf_base.specs.declared.answers.Handle.{Handle}
 use Rattle.cf_lemmas.proofs.Tests.{and_false, eq_no, eq_yes, le_no, le_yes, lt_no, lt_yes}
 use Rattle.page_model.specs.Arrangement.{class_at, not_full_pages, objects_on}
 use Rattle.page_model.specs.Held.{Held, Placed}
-use Rattle.page_model.specs.Order.{Order, drop_steps, fill_steps, not_full_in, open_steps, steps_to_fill, steps_to_take}
+use Rattle.page_model.specs.Order.{Order, drop_steps, fill_steps, not_full_in, steps_to_fill}
 use Rattle.page_model.specs.Paging.{Paging, bound_of, class_for, page_of, slot_words, slots_of}
 use Rattle.page_model.specs.Steps.{MustMove}
+use Rattle.page_model.proofs.CallerLemmas.{drop_few, fill_few, take_few}
 use Rattle.slice_model.specs.declared.answers.SliceFault.{SliceFault}
 use Rattle.slice_model.specs.declared.answers.SliceRefusal.{SliceRefusal}
 use Rattle.slice_model.specs.declared.answers.SliceRefusal.TheVariants as refusal
@@ -93,42 +94,9 @@ fill_counted p m n o c same = by (not_full_in o c)
 
 -- ---- bounds
 
-open_within : (used n : ℕ) → open_steps used n ≤ 13
-open_within used n = by (nat_eq (used + 1) n)
-  where
-    by : (a : Bool) → (if a then 13 else 5) ≤ 13
-    by true = omega arith
-    by false = omega arith
-
-drop_within : (used n : ℕ) → drop_steps used n ≤ 13
-drop_within used n = by (nat_eq used 1) (nat_eq used n)
-  where
-    by : (a b : Bool) → (if a then 10 else if b then 13 else 5) ≤ 13
-    by true b = omega arith
-    by false true = omega arith
-    by false false = omega arith
-
-take_within : (p : Paging) (m : Held) (o : Order) (c : ℕ) → steps_to_take p m o c ≤ 13
-take_within p m o c = by (not_full_in o c)
-  where
-    by : (pages : List ℕ) → (elim pages [ [] ↦ 11 | page ∷ rest ↦ open_steps (objects_on p m c page) (slots_of p c) ]) ≤ 13
-    by [] = omega arith
-    by (page ∷ rest) = open_within (objects_on p m c page) (slots_of p c)
-
-fill_within : (p : Paging) (m : Held) (o : Order) (c : ℕ) → steps_to_fill p m o c ≤ 12
-fill_within p m o c = by (not_full_in o c)
-  where
-    by_test : (a : Bool) → (if a then 12 else 7) ≤ 12
-    by_test true = omega arith
-    by_test false = omega arith
-
-    by : (pages : List ℕ) → (elim pages [ [] ↦ 0 | page ∷ rest ↦ fill_steps (objects_on p m c page) ]) ≤ 12
-    by [] = omega arith
-    by (page ∷ rest) = by_test (nat_eq (objects_on p m c page) 1)
-
 end_within : (plan : Plan) (m : Held) (k : JobSlot) → end_cost plan m k ≤ 14
 end_within plan m k = by (must_move plan.paging (with_slot plan m (Some k)) (placeholder plan.paging k))
-    (drop_within (objects_on plan.paging (with_slot plan m (Some k)) k.class (page_of plan.paging k.address)) (slots_of plan.paging k.class))
+    (drop_few (objects_on plan.paging (with_slot plan m (Some k)) k.class (page_of plan.paging k.address)) (slots_of plan.paging k.class))
   where
     by : (a : Bool) {n : ℕ} → n ≤ 13 → (if a then 6 else 1 + n) ≤ 14
     by true le = omega arith
@@ -138,7 +106,7 @@ part_within : (plan : Plan) (m : Held) (k : JobSlot) → part_cost plan m k ≤ 
 part_within plan m k = words_within plan.quantum (slot_words plan.paging k.class - k.done) (end_cost plan m k) 14 (end_within plan m k)
 
 malloc_within : (plan : Plan) (s : Sliced) (o : Order) (bytes : ℕ) (r : Result Handle SliceRefusal) → malloc_cost plan s o bytes r ≤ 17
-malloc_within plan s o bytes (Ok h) = (let t = take_within plan.paging (occupied plan s) o (class_for plan.paging bytes) in omega arith)
+malloc_within plan s o bytes (Ok h) = (let t = take_few plan.paging (occupied plan s) o (class_for plan.paging bytes) in omega arith)
 malloc_within plan s o bytes (Err refusal.Size) = omega arith
 malloc_within plan s o bytes (Err refusal.Proxy) = omega arith
 malloc_within plan s o bytes (Err refusal.Space) = omega arith
@@ -155,8 +123,8 @@ slice_within plan s = by s.job
 removing_within : (plan : Plan) (s : Sliced) (o : Order) (x : Placed) → removing_cost plan s o x ≤ 22 + plan.quantum
 removing_within plan s o x =
     let c = class_at plan.paging x in
-    let f = fill_within plan.paging s.held o (class_at plan.paging x) in
-    let d = drop_within (objects_on plan.paging s.held (class_at plan.paging x) (page_of plan.paging x.place)) (slots_of plan.paging (class_at plan.paging x)) in
+    let f = fill_few plan.paging s.held o (class_at plan.paging x) in
+    let d = drop_few (objects_on plan.paging s.held (class_at plan.paging x) (page_of plan.paging x.place)) (slots_of plan.paging (class_at plan.paging x)) in
     by (must_move plan.paging s.held x) plan.quantum
     (words_within plan.quantum (slot_words plan.paging c) (1 + (steps_to_fill plan.paging s.held o c - 2)) 11 (omega arith))
     (words_within plan.quantum (slot_words plan.paging c)

@@ -1,7 +1,8 @@
 use Rattle.std.proofs.Common.{◌∙◌, ap, sym}
 use Rattle.id_table.specs.Sessions.{run_at}
 use Rattle.id_table.specs.declared.counters.Counters.{Counters}
-use Rattle.heap_image.proofs.Kept.{free_going, going_inside, moved_bound}
+use Rattle.id_table.proofs.CallerLemmas.{going_inside}
+use Rattle.heap_image.proofs.Kept.{free_going, moved_bound}
 use Rattle.heap_image.proofs.names.NamesNamer.free.Goals as goal
 
 pub returns-clause-going : goal.returns-clause-going

@@ -2,7 +2,8 @@ use Rattle.std.proofs.Common.{◌∙◌, ap, refl}
 use Rattle.std.specs.Prelude.{Ok}
 use Rattle.std.specs.FinMap.{get}
 use Rattle.id_table.specs.Sessions.{SessionState, run_at}
-use Rattle.heap_image.proofs.Kept.{going_inside, malloc_going}
+use Rattle.id_table.proofs.CallerLemmas.{going_inside}
+use Rattle.heap_image.proofs.Kept.{malloc_going}
 use Rattle.heap_image.proofs.names.NamesNamer.malloc.Goals as goal
 
 pub returns-in-Ok-clause-going : goal.returns-in-Ok-clause-going

@@ -1,6 +1,7 @@
 use Rattle.std.proofs.Common.{refl}
 use Rattle.id_table.specs.Sessions.{run_at}
-use Rattle.heap_image.proofs.Kept.{going_inside, write_going}
+use Rattle.id_table.proofs.CallerLemmas.{going_inside}
+use Rattle.heap_image.proofs.Kept.{write_going}
 use Rattle.heap_image.proofs.names.NamesNamer.write.Goals as goal
 
 pub returns-clause-going : goal.returns-clause-going

@@ -3,7 +3,8 @@ use Rattle.std.proofs.Common.{ap, arith, inl, refl, sym}
 use Rattle.slot_bitmap.specs.Maps.{SlotTable}
 use Rattle.class_lists.specs.PageLists.{pages_in}
 use Rattle.class_lists.specs.declared.Which.TheVariants.{NotFull}
-use Rattle.page_slots.proofs.Calls.{front_there, front_inside, read_back, front_small, front_room, front_slot, none_listed, took_open_steps}
+use Rattle.std.proofs.lemmas.List.{nil_from_length}
+use Rattle.page_slots.proofs.Calls.{front_there, front_inside, read_back, front_small, front_room, front_slot, took_open_steps}
 use Rattle.page_slots.proofs.TablesAfterTake.{taken_gains, taken_others}
 use Rattle.page_slots.proofs.page_tables.PageTables.take_slot.Goals as goal
 
@@ -24,7 +25,7 @@ pub address_of-requires-clause-small : goal.address_of-requires-clause-small
 address_of-requires-clause-small c = front_small _ _ c.requires.tables c.args.c c.in-Some.page c.in-Some.ensures.front
 
 pub take_on_free_page-requires-clause-none : goal.take_on_free_page-requires-clause-none
-take_on_free_page-requires-clause-none c = none_listed (pages_in c.args.lists.now c.args.c NotFull) (omega (arith, c.len.ensures.len, c.if-len-eq0.true))
+take_on_free_page-requires-clause-none c = nil_from_length (pages_in c.args.lists.now c.args.c NotFull) (omega (arith, c.len.ensures.len, c.if-len-eq0.true))
 
 pub returns-clause-taken : goal.returns-clause-taken
 returns-clause-taken c = record {

@@ -5,7 +5,7 @@ use Rattle.paged_heap.proofs.ByKind.{malloc_by_order}
 use Rattle.paged_heap.proofs.Preserved.{cost_kept}
 use Rattle.paged_heap.proofs.LayoutFacts.{paged_kind}
 use Rattle.paged_heap.proofs.MallocLemmas.{malloc_with_cost}
-use Rattle.paged_heap.proofs.StepLemmas.{word_low}
+use Rattle.page_model.proofs.CallerLemmas.{word_few}
 use Rattle.step_ledger.proofs.CallerLemmas.{rose_is}
 use Rattle.paged_heap.proofs.open_heap.OpenHeap.malloc.Goals as goal
 
@@ -27,7 +27,7 @@ returns-clause-ordered g c =
     malloc_by_order (state_of old) (paged_kind old c.requires.kept.kept) c.args.bytes _ _ _ _ (record {
       choice = c.malloc_inner-result.ensures.choice;
       cost = (
-          let is = rose_is _ _ _ _ c.requires.room (let l = word_low g.A.Mapping.kind in omega arith) c.malloc_inner-result.ensures.cost
+          let is = rose_is _ _ _ _ c.requires.room (let l = word_few g.A.Mapping.kind in omega arith) c.malloc_inner-result.ensures.cost
           c.malloc_inner-result.ensures.steps in
           let a = c.count-before.ensures in let b = c.count.ensures in
           omega arith);
@@ -35,5 +35,5 @@ returns-clause-ordered g c =
 
 pub returns-clause-bound : goal.returns-clause-bound
 returns-clause-bound g c =
-    let a = c.malloc_inner-result.ensures.steps in let l = word_low g.A.Mapping.kind in
+    let a = c.malloc_inner-result.ensures.steps in let l = word_few g.A.Mapping.kind in
     record { kept = a.kept; bound = omega (arith, a.bound, l) }
