@@ -1,7 +1,7 @@
 -- For `Names`: each of its calls keeps the run in progress.
 use Rattle.std.proofs.Common.{◌≡◌, ◌∙◌, ◌+◌, ◌*◌, ℕ, List, Option, Some, None, refl, ap, sym, subst, arith}
 use Rattle.std.specs.Prelude.{Result, Ok, Err}
-use Rattle.std.specs.FinMap.{get, insert, remove}
+use Rattle.std.specs.FinMap.{get, remove}
 use Rattle.cf_base.specs.declared.answers.Freed.{Freed}
 use Rattle.cf_base.specs.declared.answers.Handle.{Handle}
 use Rattle.cf_base.specs.declared.answers.Refusal.{Refusal}
@@ -15,7 +15,7 @@ use Rattle.page_model.specs.Held.{Held, objects}
 use Rattle.id_table.specs.Counters.{with_move}
 use Rattle.id_table.specs.Ids.{Ids}
 use Rattle.id_table.specs.Named.{ids_given}
-use Rattle.id_table.specs.Sessions.{CostsAtMost, IsGoing, RunState, SessionState, run_at}
+use Rattle.id_table.specs.Sessions.{CostsAtMost, IsGoing, RunState, SessionState}
 use Rattle.id_table.specs.Ties.{AreTiedTo}
 use Rattle.id_table.specs.declared.counters.Counters.{Counters}
 use Rattle.id_table.proofs.CallerLemmas.{names_of_held, names_of_objects, tied_less, tied_more, tied_same}
