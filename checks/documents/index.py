@@ -70,6 +70,7 @@ pub fn nothing_is_none(
     "crates/low/src/open.rt": "// No comment of a function.\n\npub fn silent()\n    ensures { 0 ≡ 0 }\n{}\n\npub trait Counted {\n    fn counted(&self) -> bool;\n}\n\nfn own() {}\n",
     "crates/low/must-fail/counts_twice.edit": "file: src/laws.rt\n",
     "checks/few": "#!/bin/sh\n# Counts the things, of which\n# there are few. Then it ends.\nset -e\n",
+    "checks/sum.py": '"""Adds."""\ndef total(a):\n    return a\n',
     "examples/c/one.c": "/* One thing. It has\n * no comment. */\nint one;\n",
     "tools/all": '#!/usr/bin/env python3\n"""Prints all things.\n\n  tools/all\n"""\n',
     "crates/low/specs/Lib.antt": "pub mod Things\npub mod Alone\n",
@@ -109,6 +110,16 @@ PAGE = """
 | **Parts** | **what is low.** |
 | [low](../crates/low) | Things that are counted: one by one \\| two. |
 | [high](../crates/high) | The program. |
+
+## Files
+
+Those in src of each crate beside `lib.rt`, without tests.
+
+**low**
+
+- `hidden.rt`
+- `laws.rt`: Its own comment.
+- `open.rt`
 """
 FILES = """
 ## low
@@ -128,6 +139,7 @@ FILES = """
 ## Outside of the crates
 
 - `checks/few`: Counts the things, of which there are few.
+- `checks/sum.py`: Adds.
 - `examples/c/one.c`: One thing.
 - `tools/all`: Prints all things.
 """
@@ -162,7 +174,15 @@ crates/low/specs/Things.antt: What things are. There are few.
 crates/low/specs/Alone.antt: What is alone.
   ◌+++◌
 """
-NAMED = "crates/low/src/open.rt: silent\ncrates/low/specs/Things.antt: silent\n"
+NAMED = {
+    ("silent",): "crates/low/src/open.rt: silent\ncrates/low/specs/Things.antt: silent\n",
+    ("is_added",): "crates/low/src/laws.rt: Things::is_added: A law of one thing.\n",
+    ("counted",): "crates/low/src/open.rt: Counted::counted\n",
+    ("open",): "crates/low/src/open.rt\n",
+    ("few",): "checks/few: Counts the things, of which there are few.\n",
+    ("total",): "checks/sum.py: total\n",
+    ("own", "comment"): "crates/low/src/laws.rt: Its own comment.\n",
+}
 
 
 def differ(wanted, found):
@@ -178,12 +198,12 @@ def check_index(fail):
             path.parent.mkdir(parents=True, exist_ok=True)
             path.write_text(text, encoding="utf-8")
         program = shutil.copy("tools/index", Path(folder, "crates"))
-        for arguments, wanted in (([], PAGE), (["--files"], FILES), (["--laws"], LAWS), (["low"], CRATE), (["silent"], NAMED)):
+        for arguments, wanted in (([], PAGE), (["--files"], FILES), (["--laws"], LAWS), (["low"], CRATE), *((list(words), lines) for words, lines in NAMED.items())):
             made = subprocess.run([program, *arguments], capture_output=True, text=True).stdout
-            made = made if arguments[:1] in (["low"], ["silent"], ["--files"]) else made[made.find("\n\n", made.find("tools/index")) + 1 :]
+            made = made if arguments and arguments[0] != "--laws" else made[made.find("\n\n", made.find("tools/index")) + 1 :]
             if made != wanted:
                 fail(f"tools/index {' '.join(arguments)} prints something else of worked sources:\n{differ(wanted, made)}")
-        for arguments, cause in ((["nowhere"], "nowhere"), ([], "crates.txt")):
+        for arguments, cause in ((["no", "where"], "no where"), ([], "crates.txt")):
             bad = subprocess.run([program, *arguments], capture_output=True, text=True)
             if bad.returncode != 2 or bad.stdout or bad.stderr.count("\n") != 1 or cause not in bad.stderr:
                 fail(f"tools/index: status {bad.returncode}, {bad.stderr} in place of status 2 and a line with {cause}")

@@ -1,6 +1,7 @@
-/* One heap of each library in one program, all open at once, with the same calls: twelve objects fill three pages, each
- * second one is freed, and then there is a malloc of a whole page. The moving heap moves objects, and the non-moving one
- * exchanges blocks of its table, so that both have a page again. TLSF has as much free memory, in small blocks. */
+/* A moving, a non-moving and a TLSF heap in one program, all open at once, with the same calls: twelve objects fill three
+ * pages, each second one is freed, and then there is a malloc of a whole page. The moving heap moves objects, and the
+ * non-moving one exchanges blocks of its table, so that both have a page again. TLSF has as much free memory, in small
+ * blocks. */
 #include "norphuen.h"
 #include <inttypes.h>
 #include <stdio.h>

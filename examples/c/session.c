@@ -1,5 +1,5 @@
 /* The session of the README: four objects of 176 bytes on two pages. The second free moves object b, whose handle and
- * bytes stay. Then each other call, and each code but NPH_MEMORY. */
+ * bytes stay. Then most other calls and codes. */
 #include "norphuen.h"
 #include <stdio.h>
 
