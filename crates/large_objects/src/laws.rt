@@ -49,10 +49,11 @@ pub fn what_is_written_is_read()
         → (q : ℕ) → q ≢ position.number → get new.objects q ≡ get old.objects q }
 {}
 
-/// The steps of calls on a long object over a moving manager that promises an order. With q parts, and x of parts
-/// and spine in classes with several slots to a page (`sharing`), a malloc takes at most 15 + 18 q + 2 x, and a free
-/// at most 16 + 19 q + 4 x plus the words of all its slots. x is at most 2 (clause `few`): a whole part has a page of
-/// its own. A read or a write takes exactly 5 for each part and 1 for each word that has one of its bytes.
+/// The steps of calls on a long object over a moving manager that promises an order. With q parts a malloc takes at
+/// most 15 + 18 q + 2 x, and a free at most 16 + 19 q + 4 x plus the words of all its slots. x counts the parts and
+/// the spine whose class has several slots to a page (`sharing`). It is at most 2 (clause `few`), since a whole part
+/// has a page of its own. A read or a write takes exactly 5 for each part and 1 for each word that has one of its
+/// bytes.
 pub fn long_calls_take_steps_for_parts_and_words()
     ensures malloc { (p : Paging) (u n : ℕ) → u < n
         → object_malloc_steps moving_costs p u n ≡ 15 + 18 * part_count u n + 2 * sharing p u n }
