@@ -276,7 +276,8 @@ def budget_test_differs(seed, library):
 def shows(layout, pages, bounds, prices, amount, i, level):
     """Whether a level shows that so many pages are enough for a new object of class i within a budget: `IsBudgetLevel`, written anew."""
     full = all(level <= m * price for m, price in zip(layout.slots, prices))
-    gaps = sum(k * max(0, level - price) for c, (k, price) in enumerate(zip(bounds, prices)) if c != i)
+    loose = [min(k, -(-(amount // price) // m)) for k, price, m in zip(bounds, prices, layout.slots)]
+    gaps = sum(k * max(0, level - price) for c, (k, price) in enumerate(zip(loose, prices)) if c != i)
     return full and amount + gaps < pages * level + prices[i]
 
 

@@ -374,12 +374,13 @@ class Budget:
     def proved(self, bounds):
         """The least pages that `are_budget_levels` of the crate `sizing` accepts, and by class the level that shows it. If a class
         lacks a slot, its pages are full. Each page then costs the level at least, but for the gap of each page of another class that
-        an object can hold. Between two costs the pages rise or fall with the level, so the costs are tried, and the greatest level."""
+        is partly full. Between two costs the pages rise or fall with the level, so the costs are tried, and the greatest level."""
+        loose = [min(k, ceil_div(most, m)) for most, m, k in zip(self.most, self.m, bounds)]
         top = min(map(int.__mul__, self.cost, self.m))
         levels = sorted({cost for cost in self.cost if cost < top} | {top})
-        gaps = [sum(k * (level - cost) for cost, k in zip(self.cost, bounds) if cost < level) for level in levels]
+        gaps = [sum(k * (level - cost) for cost, k in zip(self.cost, loose) if cost < level) for level in levels]
         best = []
-        for cost, k in zip(self.cost, bounds):
+        for cost, k in zip(self.cost, loose):
             beside = (self.amount - cost + gap - k * max(0, level - cost) for level, gap in zip(levels, gaps))
             best.append(min((most // level + 1, level) for most, level in zip(beside, levels)))
         return max(pages for pages, _ in best), [level for _, level in best]

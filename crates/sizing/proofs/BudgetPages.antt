@@ -1,15 +1,15 @@
 -- For the laws of `budget.rt`: the pages of a class, each at the level t, cost at most its objects and t - price for each page that may be partly full. At bound
 -- one the pages that objects within the budget need are pages that it affords.
-use Rattle.std.proofs.Common.{◌≡◌, ◌≢◌, ℕ, zero, suc, ◌+◌, ◌-◌, ◌*◌, ◌<◌, ◌≤◌, List, [], ◌∷◌, length, replicate, arith, ap, sym, ◌∙◌}
+use Rattle.std.proofs.Common.{◌≡◌, ◌≢◌, ℕ, zero, suc, ◌+◌, ◌-◌, ◌*◌, ◌/◌, ◌<◌, ◌≤◌, List, [], ◌∷◌, length, min, replicate, arith, ap, sym, ◌∙◌}
 use Rattle.std.proofs.Common.{inl, inr, refl, subst}
 use Rattle.std.specs.Prelude.{nat_eq, sum_by}
 use Rattle.std.specs.List.{range_with_len}
 use Rattle.std.proofs.lemmas.Bool.{cases_eq, cases_lt}
 use Rattle.std.proofs.lemmas.List.Sums.{sum_by-cons}
-use Rattle.std.proofs.lemmas.Nat.{mul-le}
+use Rattle.std.proofs.lemmas.Nat.{le-div, mul-le}
 use Rattle.std.specs.FinMap.{empty, insert, values}
 use Rattle.cf_lemmas.proofs.Induction.{map_induction}
-use Rattle.cf_lemmas.proofs.Ranges.{one, sum_le}
+use Rattle.cf_lemmas.proofs.Ranges.{one, sum_at_least, sum_le}
 use Rattle.cf_lemmas.proofs.Sums.{sum_by-inserted}
 use Rattle.cf_lemmas.proofs.Tests.{eq_no, eq_yes}
 use Rattle.cf_lemmas.proofs.Values.{no_values}
@@ -24,7 +24,7 @@ use Rattle.page_model.proofs.Lacking.{none_free}
 use Rattle.page_model.proofs.PageCounts.{sound_can_hold}
 use Rattle.page_model.proofs.RoomAtOne.{needed_with_is}
 use Rattle.std.proofs.lemmas.List.{length-replicate}
-use Rattle.sizing.specs.Certificates.{AreBudgetLevels, gap_beside}
+use Rattle.sizing.specs.Certificates.{AreBudgetLevels, gap_beside, loose_pages}
 use Rattle.sizing.specs.Checks.{with_pages}
 use Rattle.sizing.specs.Demands.{Affords, ArePrices, KeepsBudget, objects_to_open}
 use Rattle.sizing.specs.Runs.{Does, HeapCall, MallocLacks, ResizeLacks, Run, ServesMallocs, ServesResizes}
@@ -33,6 +33,7 @@ use Rattle.sizing.proofs.Calls.{live_malloced, live_moved, live_resized, run_kee
 use Rattle.sizing.proofs.ClassPages.{sum_less}
 use Rattle.sizing.proofs.Closed.{within}
 use Rattle.sizing.proofs.ModePages.{most_on}
+use Rattle.sizing.proofs.MostLive.{pages_along}
 use Rattle.sizing.proofs.MostPages.{most_at_one}
 
 -- h pages with j + 1 slots each, at most k of them partly full, that hold n objects of at least b bytes
@@ -59,16 +60,28 @@ class_cost h n j k b t some free full = elim (cases_lt b t) [
           omega arith)
     ]
 
--- the same of pages that can be, with at most `less` objects fewer afterwards, each of which costs t at most
-cost_left : (h n m k b t less most : ℕ) → 0 < m → CanHold h n m k → t ≤ m * b → n ≤ most + less → h * t ≤ most * b + k * (t - b) + less * t
-cost_left h n zero k b t less most pos can full le = absurd (omega arith)
-cost_left h n (suc j) k b t less most pos can full le =
+-- the same of pages that can be, at most `filled`, with at most `less` objects fewer afterwards, each of which costs t at most
+cost_left : (h n m k filled b t less most : ℕ) → 0 < m → CanHold h n m k → h ≤ filled → t ≤ m * b → n ≤ most + less
+    → h * t ≤ most * b + min k filled * (t - b) + less * t
+cost_left h n zero k filled b t less most pos can high full le = absurd (omega arith)
+cost_left h n (suc j) k filled b t less most pos can high full le =
     let w = within h n j k can in
     elim (cases_lt b t) [
       | inl lt ↦ (
-          let all = class_cost h (most + less) j k b t (omega (arith, w.0)) (omega (arith, w.1)) full in
           let x = mul-le less b less t (omega arith) (omega arith) in
-          omega arith)
+          elim (cases_lt k filled) [
+            | inl few ↦ (
+                let all = class_cost h (most + less) j k b t (omega (arith, w.0)) (omega (arith, w.1)) full in
+                let e : min k filled * (t - b) ≡ k * (t - b) = ap (λ i. i * (t - b)) (omega arith) in
+                omega arith)
+            | inr many ↦ (
+                let e : min k filled * (t - b) ≡ filled * (t - b) = ap (λ i. i * (t - b)) (omega arith) in
+                let d : b + (t - b) ≡ t = omega arith in
+                let split : h * (b + (t - b)) ≡ h * t = ap (λ i. h * i) d in
+                let objects = mul-le h b (most + less) b (omega (arith, w.0)) (omega arith) in
+                let gaps = mul-le h (t - b) filled (t - b) high (omega arith) in
+                omega arith)
+          ])
       | inr low ↦ (
           let x = mul-le h t (most + less) t (omega (arith, w.0)) (omega arith) in
           let y = mul-le most t most b (omega arith) low in
@@ -126,11 +139,11 @@ sum_times f t (x ∷ xs) =
     omega arith
 
 -- the gap beside class i is that of a class, but for class i
-module _ (p : Paging) (price : ℕ → ℕ) (i level c : ℕ) where
-  pub gap_other : c ≢ i → gap_beside p price i level c ≡ bound_of p c * (level - price c)
+module _ (p : Paging) (price : ℕ → ℕ) (budget i level c : ℕ) where
+  pub gap_other : c ≢ i → gap_beside p price budget i level c ≡ loose_pages p price budget c * (level - price c)
   gap_other ne = rw (eq_no c i ne) refl
 
-  pub gap_own : c ≡ i → gap_beside p price i level c ≡ 0
+  pub gap_own : c ≡ i → gap_beside p price budget i level c ≡ 0
   gap_own is = rw (eq_yes c i is) refl
 
 module _ (p : Paging) (cost price : ℕ → ℕ) (prices : ArePrices p cost price) where
@@ -228,38 +241,69 @@ module _ (p : Paging) (cost price : ℕ → ℕ) (prices : ArePrices p cost pric
         let e : sum_by (pages_of_class p m) (range_with_len 0 (classes p)) * t ≡ p.pages * t = ap (λ x. x * t) all in
         omega arith
 
-    -- When class i lacks a slot, the pages at the level t and a new object of the class cost at most the budget with all gaps. Afterwards the objects o have one
-    -- more of class i, and of each class at most `less c` fewer.
-    lack_cost : (i t : ℕ) → i < classes p → ((c : ℕ) → c < classes p → t ≤ slots_of p c * price c) → (m : Held) → IsSound p m → LacksRoom p m i
-        → (o : Objects) → KeepsBudget cost budget o → (less : ℕ → ℕ) → ((c : ℕ) → live p (objects m) c ≤ live p o c + less c)
-        → live p (objects m) i + 1 ≤ live p o i
-        → p.pages * t + price i ≤ budget + sum_by (gap_beside p price i t) (range_with_len 0 (classes p)) + sum_by (λ c. less c * t) (range_with_len 0 (classes p))
-    lack_cost i t lt full m s lacks o keeps less few more =
-        let used = used_cost m t (none_free p m s lacks.taken) in
-        let here : pages_of_class p m i * t + price i ≤ live p o i * price i =
-        cost_full (pages_of_class p m i) (live p (objects m) i) (slots_of p i) (bound_of p i) (not_full_pages p m i) (price i) t (live p o i)
-        (sound_stand p ok i lt m s) lacks.full (full i lt) more in
-        let sum = sum_less (λ c. pages_of_class p m c * t) (λ c. live p o c * price c + (gap_beside p price i t c + less c * t)) (price i) 0 (classes p) i
-        (omega arith) (omega arith)
-        (λ c _ below. elim (cases_eq c i) [
-          | inl is ↦ subst (λ d. pages_of_class p m d * t ≤ live p o d * price d + (gap_beside p price i t d + less d * t)) (sym is) (omega arith)
-          | inr ne ↦ (
-              let gap = gap_other p price i t c ne in
-              let left = cost_left (pages_of_class p m c) (live p (objects m) c) (slots_of p c) (bound_of p c) (price c) t (less c) (live p o c)
-              (slots_some p ok c (omega arith)) (sound_can_hold p ok c (omega arith) m s) (full c (omega arith)) (few c) in
-              omega arith)
-        ])
-        (omega arith) in
-        let plus = sum_plus (λ c. live p o c * price c) (λ c. gap_beside p price i t c + less c * t) (range_with_len 0 (classes p)) in
-        let gaps = sum_plus (gap_beside p price i t) (λ c. less c * t) (range_with_len 0 (classes p)) in
+    -- a class has at most the pages that the objects fill for which the budget pays
+    pages_paid : ((c : ℕ) → c < classes p → 0 < price c) → (calls : List HeapCall) (m : Held) → Run p (KeepsBudget cost budget) empty calls m
+        → (c : ℕ) → c < classes p → pages_of_class p m c ≤ ceil_div (budget / price c) (slots_of p c)
+    pages_paid some calls m run = (pages_along p ok (λ c. budget / price c) (KeepsBudget cost budget)
+        (λ o keeps c lt. (
         let all = priced o in
-        omega arith
+        let one = sum_at_least (λ d. live p o d * price d) 0 (classes p) c (omega arith) (omega arith) in
+        le-div (live p o c) budget (price c) (some c lt) (omega arith)))
+        calls m run).1
+
+    module _ (i t : ℕ) (lt : i < classes p) (full : (c : ℕ) → c < classes p → t ≤ slots_of p c * price c) (calls : List HeapCall) (m : Held)
+        (run : Run p (KeepsBudget cost budget) empty calls m) where
+      some_price : 0 < t → (c : ℕ) → c < classes p → 0 < price c
+      some_price pos c below = elim (cases_lt 0 (price c)) [
+        | inl some ↦ some
+        | inr none ↦ absurd (
+            let z : slots_of p c * price c ≡ slots_of p c * 0 = ap (λ x. slots_of p c * x) (omega arith) in
+            let f = full c below in
+            omega arith)
+      ]
+
+      class_left : (o : Objects) (c less : ℕ) → c < classes p → c ≢ i → live p (objects m) c ≤ live p o c + less
+          → pages_of_class p m c * t ≤ live p o c * price c + (gap_beside p price budget i t c + less * t)
+      class_left o c less below ne few =
+          let gap = gap_other p price budget i t c ne in
+          elim (cases_lt 0 t) [
+            | inl pos ↦ (
+                let left = cost_left (pages_of_class p m c) (live p (objects m) c) (slots_of p c) (bound_of p c) (ceil_div (budget / price c) (slots_of p c))
+                (price c) t less (live p o c) (slots_some p ok c below) (sound_can_hold p ok c below m (within_along calls m run).sound)
+                (pages_paid (some_price pos) calls m run c below) (full c below) few in
+                omega arith)
+            | inr none ↦ (
+                let z : pages_of_class p m c * t ≡ pages_of_class p m c * 0 = ap (λ x. pages_of_class p m c * x) (omega arith) in
+                omega arith)
+          ]
+
+      -- When class i lacks a slot, the pages at the level t and a new object of the class cost at most the budget with all gaps. Afterwards the objects o have one
+      -- more of class i, and of each class at most `less c` fewer.
+      lack_cost : LacksRoom p m i → (o : Objects) → KeepsBudget cost budget o → (less : ℕ → ℕ) → ((c : ℕ) → live p (objects m) c ≤ live p o c + less c)
+          → live p (objects m) i + 1 ≤ live p o i
+          → p.pages * t + price i ≤ budget + sum_by (gap_beside p price budget i t) (range_with_len 0 (classes p)) + sum_by (λ c. less c * t) (range_with_len 0 (classes p))
+      lack_cost lacks o keeps less few more =
+          let s = (within_along calls m run).sound in
+          let used = used_cost m t (none_free p m s lacks.taken) in
+          let here : pages_of_class p m i * t + price i ≤ live p o i * price i =
+          cost_full (pages_of_class p m i) (live p (objects m) i) (slots_of p i) (bound_of p i) (not_full_pages p m i) (price i) t (live p o i)
+          (sound_stand p ok i lt m s) lacks.full (full i lt) more in
+          let sum = sum_less (λ c. pages_of_class p m c * t) (λ c. live p o c * price c + (gap_beside p price budget i t c + less c * t)) (price i) 0 (classes p) i
+          (omega arith) (omega arith)
+          (λ c _ below. elim (cases_eq c i) [
+            | inl is ↦ subst (λ d. pages_of_class p m d * t ≤ live p o d * price d + (gap_beside p price budget i t d + less d * t)) (sym is) (omega arith)
+            | inr ne ↦ class_left o c (less c) (omega arith) ne (few c)
+          ])
+          (omega arith) in
+          let plus = sum_plus (λ c. live p o c * price c) (λ c. gap_beside p price budget i t c + less c * t) (range_with_len 0 (classes p)) in
+          let gaps = sum_plus (gap_beside p price budget i t) (λ c. less c * t) (range_with_len 0 (classes p)) in
+          let all = priced o in
+          omega arith
 
     pub level_mallocs : (levels : ℕ → ℕ) → AreBudgetLevels p price budget levels → ServesMallocs p (KeepsBudget cost budget)
     level_mallocs levels shown calls m h n run l =
-        let k = within_along calls m run in
         let level = shown (class_for p n) l.fits in
-        let past = lack_cost (class_for p n) (levels (class_for p n)) l.fits level.full m k.sound l.lacking (insert (objects m) h (replicate n 0)) l.asked (λ c. 0)
+        let past = lack_cost (class_for p n) (levels (class_for p n)) l.fits level.full calls m run l.lacking (insert (objects m) h (replicate n 0)) l.asked (λ c. 0)
         (λ c. (let a = live_added p (objects m) h (replicate n 0) c (bytes_missing m h l.unused) in omega arith))
         (let a = live_malloced p m h n l.unused in omega arith) in
         let none = sum_zeros (λ c. 0 * levels (class_for p n)) (range_with_len 0 (classes p)) (λ c. omega arith) in
@@ -270,14 +314,13 @@ module _ (p : Paging) (cost price : ℕ → ℕ) (prices : ArePrices p cost pric
     pub level_resizes : (levels : ℕ → ℕ) (pages : ℕ) → AreBudgetLevels (with_pages pages p) price budget levels → pages < p.pages
         → ServesResizes p (KeepsBudget cost budget)
     level_resizes levels pages shown fewer calls m h n run l =
-        let k = within_along calls m run in
         let level = shown (class_for p n) l.fits in
-        let past = lack_cost (class_for p n) (levels (class_for p n)) l.fits level.full m k.sound l.lacking (insert (objects m) h (resized l.object.bytes n)) l.asked
+        let past = lack_cost (class_for p n) (levels (class_for p n)) l.fits level.full calls m run l.lacking (insert (objects m) h (resized l.object.bytes n)) l.asked
         (λ c. one (nat_eq (class_at p l.object) c))
         (λ c. (let a = live_moved p m h n l.object l.found c in omega arith))
         (let a = live_resized p m h n l.object l.found l.other in omega arith) in
         let taken = picked (λ c. levels (class_for p n)) (class_at p l.object) 0 (classes p) (levels (class_for p n)) (λ lt. omega arith) in
         let page = mul-le (pages + 1) (levels (class_for p n)) p.pages (levels (class_for p n)) (omega arith) (omega arith) in
-        let enough : budget + sum_by (gap_beside p price (class_for p n) (levels (class_for p n))) (range_with_len 0 (classes p))
+        let enough : budget + sum_by (gap_beside p price budget (class_for p n) (levels (class_for p n))) (range_with_len 0 (classes p))
         < pages * levels (class_for p n) + price (class_for p n) = level.enough in
         absurd (omega arith)

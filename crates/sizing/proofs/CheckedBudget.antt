@@ -1,6 +1,6 @@
 -- For `budget_certificate.rt`: what the tests show of the pages of a heap holds of any pages with the same sizes and no greater bounds, and makes a heap with
 -- them serve.
-use Rattle.std.proofs.Common.{◌≡◌, ℕ, ◌-◌, ◌*◌, ◌<◌, ◌≤◌, List, length, replicate, take, ap, arith, inl, inr, subst, sym, ◌∙◌}
+use Rattle.std.proofs.Common.{◌≡◌, ℕ, ◌-◌, ◌*◌, ◌/◌, ◌<◌, ◌≤◌, List, length, replicate, take, ap, arith, inl, inr, refl, subst, sym, ◌∙◌}
 use Rattle.std.specs.Prelude.{slice_index, sum_by}
 use Rattle.std.specs.List.{range_with_len}
 use Rattle.std.specs.FinMap.{empty}
@@ -10,8 +10,9 @@ use Rattle.std.proofs.lemmas.Nat.{mul-le}
 use Rattle.cf_base.specs.Classes.{slots}
 use Rattle.cf_lemmas.proofs.Ranges.{sum_le}
 use Rattle.cf_model.specs.State.{HeapState, paging_in}
-use Rattle.page_model.specs.Paging.{EveryBoundIsOne, IsPaging, Paging, bound_of, class_for, classes}
-use Rattle.sizing.specs.Certificates.{AreBudgetLevels, IsBudgetCertificate, gap_beside}
+use Rattle.page_model.specs.Counts.{ceil_div}
+use Rattle.page_model.specs.Paging.{EveryBoundIsOne, IsPaging, Paging, bound_of, class_for, classes, slots_of}
+use Rattle.sizing.specs.Certificates.{AreBudgetLevels, IsBudgetCertificate, gap_beside, loose_pages}
 use Rattle.sizing.specs.Checks.{with_pages}
 use Rattle.sizing.specs.Demands.{Affords, ArePrices, KeepsBudget, objects_to_open}
 use Rattle.sizing.specs.Heaps.{IsFresh, ServesHeapMallocs, ServesHeapResizes}
@@ -62,22 +63,25 @@ module _ (p q : Paging) (words : p.page_words ≡ q.page_words) (all : p.sizes �
       (let e = opened_like opened in let sum = sure.all in omega arith)
 
   module _ (low : (c : ℕ) → c < classes p → bound_of p c ≤ bound_of q c) where
-    gap_like : (i level c : ℕ) → c < classes p → gap_beside p price i level c ≤ gap_beside q price i level c
+    gap_like : (i level c : ℕ) → c < classes p → gap_beside p price budget i level c ≤ gap_beside q price budget i level c
     gap_like i level c lt = elim (cases_eq c i) [
-      | inl is ↦ (let a = gap_own p price i level c is in omega arith)
+      | inl is ↦ (let a = gap_own p price budget i level c is in omega arith)
       | inr ne ↦ (
-          let a = gap_other p price i level c ne in
-          let b = gap_other q price i level c ne in
-          let le = mul-le (bound_of p c) (level - price c) (bound_of q c) (level - price c) (low c lt) (omega arith) in
+          let a = gap_other p price budget i level c ne in
+          let b = gap_other q price budget i level c ne in
+          let same : slots_of p c ≡ slots_of q c = like (λ w xs. slots w xs c ≡ slots_of q c) refl in
+          let filled : ceil_div (budget / price c) (slots_of p c) ≡ ceil_div (budget / price c) (slots_of q c) = ap (ceil_div (budget / price c)) same in
+          let bound = low c lt in
+          let le = mul-le (loose_pages p price budget c) (level - price c) (loose_pages q price budget c) (level - price c) (omega arith) (omega arith) in
           omega arith)
     ]
 
     gaps_like : (i level : ℕ)
-        → sum_by (gap_beside p price i level) (range_with_len 0 (classes p)) ≤ sum_by (gap_beside q price i level) (range_with_len 0 (classes q))
+        → sum_by (gap_beside p price budget i level) (range_with_len 0 (classes p)) ≤ sum_by (gap_beside q price budget i level) (range_with_len 0 (classes q))
     gaps_like i level =
-        let same : sum_by (gap_beside q price i level) (range_with_len 0 (classes p)) ≡ sum_by (gap_beside q price i level) (range_with_len 0 (classes q)) =
-        ap (λ (xs : List ℕ). sum_by (gap_beside q price i level) (range_with_len 0 (length xs))) all in
-        let le = sum_le (gap_beside p price i level) (gap_beside q price i level) 0 (classes p) (λ c _ lt. gap_like i level c (omega arith)) in
+        let same : sum_by (gap_beside q price budget i level) (range_with_len 0 (classes p)) ≡ sum_by (gap_beside q price budget i level) (range_with_len 0 (classes q)) =
+        ap (λ (xs : List ℕ). sum_by (gap_beside q price budget i level) (range_with_len 0 (length xs))) all in
+        let le = sum_le (gap_beside p price budget i level) (gap_beside q price budget i level) 0 (classes p) (λ c _ lt. gap_like i level c (omega arith)) in
         omega arith
 
     pub levels_like : q.pages ≤ p.pages → (levels : ℕ → ℕ) → AreBudgetLevels q price budget levels → AreBudgetLevels p price budget levels

@@ -1,6 +1,6 @@
 -- Certificates that pages are enough for the modes of a program, whatever the bounds: for each mode some numbers of pages by class, one of which no run that is
 -- in the mode exceeds. An unverified planner can compute them, and `is_certificate` tests them.
-use Rattle.std.specs.Prelude.{◌≡◌, ◌≢◌, ℕ, ◌+◌, ◌-◌, ◌*◌, ◌<◌, ◌≤◌, All, List, [], ◌∷◌, Contains, if◌then◌else◌, length, min, nat_eq, slice_index, slice_index_or, sum_by}
+use Rattle.std.specs.Prelude.{◌≡◌, ◌≢◌, ℕ, ◌+◌, ◌-◌, ◌*◌, ◌/◌, ◌<◌, ◌≤◌, All, List, [], ◌∷◌, Contains, if◌then◌else◌, length, min, nat_eq, slice_index, slice_index_or, sum_by}
 use Rattle.std.specs.List.{range_with_len}
 use Rattle.page_model.specs.Counts.{ceil_div, most_pages}
 use Rattle.page_model.specs.Paging.{Paging, bound_of, classes, slots_of}
@@ -84,16 +84,20 @@ pub record AreForResizes (p : Paging) (modes : List (List Need)) (points : List 
   pub within : KeepResized p modes points
   pub copies : HoldCopies p modes points
 
--- what the pages of class c that may be partly full cost less than the level, if each has one object; nothing of class i, whose pages are full when it lacks one
-abbrev pub gap_beside : Paging → (ℕ → ℕ) → ℕ → ℕ → ℕ → ℕ
-gap_beside p price i level c = if nat_eq c i then 0 else bound_of p c * (level - price c)
+-- how many pages of class c can be partly full: at most its bound, and no more than the objects fill for which the budget pays
+abbrev pub loose_pages : Paging → (ℕ → ℕ) → ℕ → ℕ → ℕ
+loose_pages p price budget c = min (bound_of p c) (ceil_div (budget / price c) (slots_of p c))
+
+-- what these pages cost less than the level, if each has one object; nothing of class i, whose pages are full when it lacks a slot
+abbrev pub gap_beside : Paging → (ℕ → ℕ) → (budget i level c : ℕ) → ℕ
+gap_beside p price budget i level c = if nat_eq c i then 0 else loose_pages p price budget c * (level - price c)
 
 -- `level` shows that the pages are enough for a new object of class i within a budget, if an object of class c costs at least `price c`: the objects of a full
--- page cost at least `level`, whatever its class (`full`). The level of each page and the price of the new object are more than the budget with all gaps
+-- page cost at least `level`, whatever its class (`full`). The budget with all gaps is less than the level for each page and the price of the new object
 -- (`enough`).
 pub record IsBudgetLevel (p : Paging) (price : ℕ → ℕ) (budget i level : ℕ) : Type 0 where
   pub full : (c : ℕ) → c < classes p → level ≤ slots_of p c * price c
-  pub enough : budget + sum_by (gap_beside p price i level) (range_with_len 0 (classes p)) < p.pages * level + price i
+  pub enough : budget + sum_by (gap_beside p price budget i level) (range_with_len 0 (classes p)) < p.pages * level + price i
 
 -- each class has a level that shows that the pages are enough for its objects
 abbrev pub AreBudgetLevels : Paging → (ℕ → ℕ) → ℕ → (ℕ → ℕ) → Type 0

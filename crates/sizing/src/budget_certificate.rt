@@ -17,6 +17,7 @@ use crate::certificate::has_bounds;
 use crate::points::{HeapClasses, slots_in};
 use crate::sizes::{CLASSES, fill_sizes};
 use cf_base::{Layout, Settings};
+use quota_model::pages_for;
 
 /// Whether the levels show that `pages` pages of `page_bytes` bytes are enough for a budget, if an object of each
 /// class costs at least its price and these are the bounds (`exact`). There must be a price, a level and a bound,
@@ -168,7 +169,7 @@ fn is_enough(
     if budget as u64 >= most || !is_level(heap, prices, level) {
         return false;
     }
-    gaps_fit(heap, prices, i, level, most - budget as u64 - 1)
+    gaps_fit(heap, prices, budget, i, level, most - budget as u64 - 1)
 }
 
 /// Whether the objects of a full page cost at least `level`, whatever its class.
@@ -187,14 +188,21 @@ fn is_level(heap: &HeapClasses, prices: &[u32], level: u32) -> bool
 }
 
 /// Whether the gaps beside class i are at most `most` in all.
-fn gaps_fit(heap: &HeapClasses, prices: &[u32], i: usize, level: u32, most: u64) -> bool
+fn gaps_fit(
+    heap: &HeapClasses,
+    prices: &[u32],
+    budget: u32,
+    i: usize,
+    level: u32,
+    most: u64,
+) -> bool
     requires heap { IsPaging (paging_with 0 heap.now) }
     requires prices { length prices.now ≡ classes (paging_with 0 heap.now) }
-    ensures { IsTrue result ↔ sum_by (gap (paging_with 0 heap.now) (slice_index prices.now) i level) (range_with_len 0 (classes (paging_with 0 heap.now))) ≤ most }
+    ensures { IsTrue result ↔ sum_by (gap (paging_with 0 heap.now) (slice_index prices.now) budget i level) (range_with_len 0 (classes (paging_with 0 heap.now))) ≤ most }
 {
     let mut left = most;
     for c in 0..heap.sizes.len() {
-        let gap = gap_beside(heap, prices, i, level, c);
+        let gap = gap_beside(heap, prices, budget, i, level, c);
         if gap > left {
             return false;
         }
@@ -203,18 +211,25 @@ fn gaps_fit(heap: &HeapClasses, prices: &[u32], i: usize, level: u32, most: u64)
     true
 }
 
-/// What the pages of class c that may be partly full cost less than `level`; nothing of class i.
-fn gap_beside(heap: &HeapClasses, prices: &[u32], i: usize, level: u32, c: usize) -> u64
+/// What the pages of class c that can be partly full cost less than `level`; nothing of class i.
+fn gap_beside(
+    heap: &HeapClasses,
+    prices: &[u32],
+    budget: u32,
+    i: usize,
+    level: u32,
+    c: usize,
+) -> u64
     requires heap { IsPaging (paging_with 0 heap.now) }
     requires prices { length prices.now ≡ classes (paging_with 0 heap.now) }
     requires class { c < classes (paging_with 0 heap.now) }
-    ensures { result ≡ gap (paging_with 0 heap.now) (slice_index prices.now) i level c }
+    ensures { result ≡ gap (paging_with 0 heap.now) (slice_index prices.now) budget i level c }
 {
-    if c == i {
-        0
-    } else {
-        heap.bounds[c] as u64 * level.saturating_sub(prices[c]) as u64
+    if c == i || prices[c] == 0 {
+        return 0;
     }
+    let filled = pages_for((budget / prices[c]) as u64, slots_in(heap, c) as u64);
+    filled.min(heap.bounds[c] as u64) * level.saturating_sub(prices[c]) as u64
 }
 
 /// The sum of the numbers.

@@ -12,10 +12,10 @@ pub returns-then-gap-left : goal.returns-then-gap-left
 returns-then-gap-left c = (
   λ no. absurd (false≢true no),
   λ fit. absurd (
-      let within : sum_by (gap_beside (paging_with 0 c.args.heap.now) (slice_index c.args.prices.now) c.args.i c.args.level)
+      let within : sum_by (gap_beside (paging_with 0 c.args.heap.now) (slice_index c.args.prices.now) c.args.budget c.args.i c.args.level)
       (range_with_len 0 (classes (paging_with 0 c.args.heap.now))) ≤ c.args.most = fit in
       let r = c.loop-c.invariant in
-      let n = sum_next (gap_beside (paging_with 0 c.args.heap.now) (slice_index c.args.prices.now) c.args.i c.args.level) c.loop-c.c _ c.loop-c-test.true in
+      let n = sum_next (gap_beside (paging_with 0 c.args.heap.now) (slice_index c.args.prices.now) c.args.budget c.args.i c.args.level) c.loop-c.c _ c.loop-c-test.true in
       let gap = c.gap_beside-gap.ensures in
       let over = c.if-gap-left.true in
       omega arith),
@@ -24,7 +24,7 @@ returns-then-gap-left c = (
 pub loop-c-preserved : goal.loop-c-preserved
 loop-c-preserved c =
     let r = c.loop-c.invariant in
-    let n = sum_next (gap_beside (paging_with 0 c.args.heap.now) (slice_index c.args.prices.now) c.args.i c.args.level) c.loop-c.c _ c.loop-c-test.true in
+    let n = sum_next (gap_beside (paging_with 0 c.args.heap.now) (slice_index c.args.prices.now) c.args.budget c.args.i c.args.level) c.loop-c.c _ c.loop-c-test.true in
     let gap = c.gap_beside-gap.ensures in
     let over = c.if-gap-left.false in
     omega arith

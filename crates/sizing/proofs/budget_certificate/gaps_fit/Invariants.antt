@@ -7,5 +7,5 @@ use Rattle.sizing.specs.Checks.{paging_with}
 use Rattle.sizing.proofs.budget_certificate.gaps_fit.Given as goal
 
 abbrev pub invariant-loop-c : goal.invariant-loop-c
-invariant-loop-c l = l.left + sum_by (gap_beside (paging_with 0 l.heap) (slice_index l.prices) l.i l.level) (range_with_len 0 (classes (paging_with 0 l.heap)))
-    ≡ l.most + sum_by (gap_beside (paging_with 0 l.heap) (slice_index l.prices) l.i l.level) (range_with_len l.c (classes (paging_with 0 l.heap) - l.c))
+invariant-loop-c l = l.left + sum_by (gap_beside (paging_with 0 l.heap) (slice_index l.prices) l.budget l.i l.level) (range_with_len 0 (classes (paging_with 0 l.heap)))
+    ≡ l.most + sum_by (gap_beside (paging_with 0 l.heap) (slice_index l.prices) l.budget l.i l.level) (range_with_len l.c (classes (paging_with 0 l.heap) - l.c))
