@@ -239,8 +239,9 @@ def test_differs(seed, library):
 def budget_test_differs(seed, library):
     """The same of the proved tests of a budget, `AreBudgetLevels` and `IsBudgetCertificate`."""
     draw = random.Random(seed)
-    layout = needs.Layout(draw.choice((512, 1024)), library.manager)
-    budget, _, _ = drawn_budget(draw, layout)
+    layout = needs.Layout(draw.choice((512, 1024)) if seed else 512, library.manager)
+    # (the first is one for which a search finds fewer pages than the test accepts)
+    budget = drawn_budget(draw, layout)[0] if seed else needs.Budget(layout, 5, False, 90, 120)
     ones = [1] * len(budget.classes)
     pages = budget.need(ones).pages
     prices, levels, opened = budget.certificate(ones)
@@ -258,7 +259,7 @@ def budget_test_differs(seed, library):
             return f"seed {seed}: the proved test {'refuses' if right else 'accepts'} {many} pages for a budget with {by_class} and {some}"
         if (many, by_class, some) == tried[0] and not right:
             return f"seed {seed}: the planner's certificate of a budget is none"
-    bounds = [draw.choice((1, 2, 3, 5)) for _ in ones]
+    bounds = [draw.choice((1, 2, 3, 5)) if seed else 2 for _ in ones]
     need, (prices, levels, _) = budget.need(bounds), budget.certificate(bounds)
     by_class, pages, lower[at], higher[at] = plan.spread(layout, budget.classes, bounds, 1), need.pages, levels[at] - 1, levels[at] + 1
     if not all_show(layout, pages, by_class, prices, amount, levels):
