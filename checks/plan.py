@@ -4,7 +4,8 @@
  - the tool: it serves the calls of each row of each demand with the row's pages, and refuses one with a page less; on a drawn
    history within the demand it refuses nothing, and no free takes more steps or moves more than the row says;
  - the proved tests, whose definitions are written anew, and `nph_bytes_needed`;
- - the table of budgets in docs/SIZING.md, the formula of `pages_for_a_budget_serve`, and Robson's bound in tiny cases.
+ - the table of budgets in docs/SIZING.md, the formula of `pages_for_a_budget_serve` if every bound is 1, and Robson's bound in
+   tiny cases.
 
 Each planner of `WRONG` must show a difference.
 """
@@ -236,41 +237,53 @@ def test_differs(seed, library):
 
 
 def budget_test_differs(seed, library):
-    """The same of the proved tests of a budget, `IsBudgetLevel` and `IsBudgetCertificate`."""
+    """The same of the proved tests of a budget, `AreBudgetLevels` and `IsBudgetCertificate`."""
     draw = random.Random(seed)
-    layout = needs.Layout(draw.choice((512, 1024)), library.manager)
-    budget, _, _ = drawn_budget(draw, layout)
+    layout = needs.Layout(draw.choice((512, 1024)) if seed else 512, library.manager)
+    # (the first is one for which a search finds fewer pages than the test accepts)
+    budget = drawn_budget(draw, layout)[0] if seed else needs.Budget(layout, 5, False, 90, 120)
     ones = [1] * len(budget.classes)
     pages = budget.need(ones).pages
-    prices, level, opened = budget.certificate(ones)
-    at, amount = draw.randrange(len(opened)), budget.amount
+    prices, levels, opened = budget.certificate(ones)
+    at, amount = draw.choice(budget.classes), budget.amount
+    lower, higher = ([t + (c == at) * step for c, t in enumerate(levels)] for step in (-1, 1))
     fewer = [n - (c == at) if n else n for c, n in enumerate(opened)]
     more = [n + (c == at) for c, n in enumerate(opened)]
-    tried = [(pages, level, opened), (pages - 1, level, opened), (pages + 1, level, opened), (pages, level + 1, opened), (pages, level - 1, opened)]
-    for many, t, some in [*tried, (pages, level, fewer), (pages, level, more), (pages + 1, level, more)]:
+    tried = [(pages, levels, opened), (pages - 1, levels, opened), (pages + 1, levels, opened), (pages, higher, opened), (pages, lower, opened)]
+    for many, by_class, some in [*tried, (pages, levels, fewer), (pages, levels, more), (pages + 1, levels, more)]:
         if not many:
             continue
         cost = sum(((n - 1) * m + 1) * price for n, m, price in zip(some, layout.slots, prices) if n)
-        right = shows(layout, many, [1] * len(prices), prices, amount, t) and cost <= amount and sum(some) == many
-        if library.accepts_budget(many, layout.page_bytes, prices, amount, t, some) != right:
-            return f"seed {seed}: the proved test {'refuses' if right else 'accepts'} {many} pages for a budget with {t} and {some}"
-        if (many, t, some) == tried[0] and not right:
+        right = all_show(layout, many, [1] * len(prices), prices, amount, by_class) and cost <= amount and sum(some) == many
+        if library.accepts_budget(many, layout.page_bytes, prices, amount, by_class, some) != right:
+            return f"seed {seed}: the proved test {'refuses' if right else 'accepts'} {many} pages for a budget with {by_class} and {some}"
+        if (many, by_class, some) == tried[0] and not right:
             return f"seed {seed}: the planner's certificate of a budget is none"
-    bounds = [draw.choice((1, 2, 3)) for _ in ones]
-    prices, level, opened = budget.certificate(bounds)
-    by_class, pages = plan.spread(layout, budget.classes, bounds, 1), sum(opened)
-    if not shows(layout, pages, by_class, prices, amount, level):
-        return f"seed {seed}: the planner's level {level} does not show that {pages} pages are enough for a budget with {bounds}"
-    for many, t in itertools.product((pages - 1, pages, pages + 1), (level - 1, level, level + 1)):
-        if many and library.accepts_level(many, layout.page_bytes, by_class, prices, amount, t) != shows(layout, many, by_class, prices, amount, t):
-            return f"seed {seed}: the proved test errs on {many} pages for a budget with the level {t} and {bounds}"
+    bounds = [draw.choice((1, 2, 3, 5)) if seed else 2 for _ in ones]
+    need, (prices, levels, _) = budget.need(bounds), budget.certificate(bounds)
+    by_class, pages, lower[at], higher[at] = plan.spread(layout, budget.classes, bounds, 1), need.pages, levels[at] - 1, levels[at] + 1
+    if not all_show(layout, pages, by_class, prices, amount, levels):
+        return f"seed {seed}: the planner's levels do not show that {pages} pages are enough for a budget with {bounds}"
+    top = min(m * price for m, price in zip(layout.slots, prices))
+    if all(any(shows(layout, pages - 1, by_class, prices, amount, i, t) for t in range(top + 1)) for i in budget.classes):
+        return f"seed {seed}: some levels show that fewer pages than the planner's {pages} are enough for a budget with {bounds}"
+    for many, some in itertools.product((pages - 1, pages, pages + 1), (lower, levels, higher)):
+        right = all_show(layout, many, by_class, prices, amount, some)
+        if many and library.accepts_levels(many, layout.page_bytes, by_class, prices, amount, some) != right:
+            return f"seed {seed}: the proved test errs on {many} pages for a budget with the levels {some} and {bounds}"
     return None
 
 
-def shows(layout, pages, bounds, prices, amount, level):
-    """Whether the level shows that so many pages are enough for a budget: `IsBudgetLevel`, written anew."""
+def shows(layout, pages, bounds, prices, amount, i, level):
+    """Whether a level shows that so many pages are enough for a new object of class i within a budget: `IsBudgetLevel`, written anew."""
     full = all(level <= m * price for m, price in zip(layout.slots, prices))
-    return full and amount + sum(k * max(0, level - price) for k, price in zip(bounds, prices)) < (pages + 1) * level
+    loose = [min(k, -(-(amount // price) // m)) for k, price, m in zip(bounds, prices, layout.slots)]
+    gaps = sum(k * max(0, level - price) for c, (k, price) in enumerate(zip(loose, prices)) if c != i)
+    return full and amount + gaps < pages * level + prices[i]
+
+
+def all_show(layout, pages, bounds, prices, amount, levels):
+    return all(shows(layout, pages, bounds, prices, amount, i, level) for i, level in enumerate(levels))
 
 
 def memory_differs():
@@ -332,8 +345,8 @@ def differs(seed):
         bounds, resizes = [draw.choice((1, 2, 2, 3)) for _ in program.classes], program.resizes
     need, most = program.need(bounds), searched(layout, sizes, bounds, allows, resizes)
     what = f"seed {seed}, bounds {bounds}"
-    if not need.least == need.pages == most:
-        return f"{what}: {need.least} to {need.pages} pages, and the search finds {most}"
+    if not need.least == (need.searched or need.pages) == most <= need.pages:
+        return f"{what}: {need.least} to {need.searched or need.pages} pages, and the search finds {most}"
     if isinstance(program, needs.Modes) and not proves(program, bounds, most, found(program.points(bounds)), resizes):
         return f"{what}: the planner's vectors of pages are no certificate"
     calls = program.script(bounds, need)
@@ -448,7 +461,7 @@ SETTINGS = [
 
 
 def formula(budget):
-    """The pages of `pages_for_a_budget_serve`, for the greatest t."""
+    """The pages of `pages_for_a_budget_serve` if every bound is 1 and each level is the greatest."""
     least = min(cost * m for cost, m in zip(budget.cost, budget.m))
     return (budget.amount + sum(max(0, least - cost) for cost in budget.cost)) // least
 
@@ -536,6 +549,16 @@ def less(need):
     return need._replace(pages=need.pages - 1, least=need.least - 1)
 
 
+def by_search(right):
+    """Takes what a search finds for proved."""
+
+    def need(self, bounds):
+        found = right(self, bounds)
+        return found._replace(pages=found.searched or found.pages)
+
+    return need
+
+
 def fewer_classes(right):
     """Leaves out the classes of the least requests."""
 
@@ -543,6 +566,18 @@ def fewer_classes(right):
         right(self, layout, amount, is_bytes, min(least + 20, greatest), greatest, **more)
 
     return make
+
+
+def one_level(right):
+    """Takes the greatest level for each class, so pages that are enough, but not the least that the test accepts."""
+
+    def proved(self, bounds):
+        top = min(map(int.__mul__, self.cost, self.m))
+        gaps = sum(k * max(0, top - cost) for cost, k in zip(self.cost, bounds))
+        pages = max((self.amount + gaps - k * max(0, top - cost) - cost) // top + 1 for cost, k in zip(self.cost, bounds))
+        return pages, [top] * len(bounds)
+
+    return proved
 
 
 def high_bounds(right):
@@ -569,6 +604,8 @@ WRONG = {
     "an object less to open": lambda: replaced(needs, "objects_to_open", lambda right: lambda n, m: max(n, right(n, m) - 1)),
     "an object less to hold": lambda: replaced(needs, "objects_to_hold", lambda right: lambda n, m, k: max(1, right(n, m, k) - 1)),
     "classes of a budget forgotten": lambda: replaced(needs.Budget, "__init__", fewer_classes),
+    "a search for a proof": lambda: replaced(needs.Budget, "need", by_search),
+    "one level for all": lambda: replaced(needs.Budget, "proved", one_level),
     "bounds that cost pages": lambda: replaced(plan.Planner, "by_class", high_bounds),
     "less memory": lambda: mock.patch.object(plan, "CLASS_BYTES", 24),
     "no moves": lambda: replaced(plan, "most_moved", lambda right: lambda *_: 0),

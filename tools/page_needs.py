@@ -10,6 +10,7 @@ import random
 
 MOST_COMPARED = 500_000  # vectors of pages that `Modes` compares before it gives the safe bound
 MOST_CHOICES = 20_000  # choices that `Budget` tries before it gives two bounds
+NEVER = 2**32 - 1  # the cost of an object for which the program of a `Budget` never asks
 TRIES, TRIED_OBJECTS = 30, 100_000  # orders of the mallocs that `Modes.script` tries, and the objects in them
 
 
@@ -70,9 +71,9 @@ def objects_to_hold(pages, m, k):
     return max(pages, pages * m - k * (m - 1))
 
 
-class Need(collections.namedtuple("Need", "pages least is_shared way", defaults=(False, None))):
+class Need(collections.namedtuple("Need", "pages least is_shared way searched", defaults=(False, None, None))):
     """`pages` are enough, and with fewer than `least` some calls are refused, those of `way`. `is_shared`: that `least` is least
-    is not proved, since sizes share a class."""
+    is not proved, since sizes share a class. `searched`: fewer pages, enough by a search that is not proved, or None."""
 
     def mark(self):
         return "<" if self.least < self.pages else "*" if self.is_shared else "="
@@ -364,31 +365,37 @@ class Budget:
         return pages
 
     def need(self, bounds):
-        upper, way = sum(self.cheapest(self.amount, bounds)), self.reached(bounds)
-        pages = upper
-        if sum(way) < upper and len(way) <= 6:
+        (pages, _), way, searched = self.proved(bounds), self.reached(bounds), None
+        if sum(way) < pages and len(way) <= 6:
             way, are_all = self.search(bounds, way)
-            pages = sum(way) if are_all else upper
-        return Need(pages + self.resizes, sum(way), way=way)
+            searched = sum(way) + self.resizes if are_all and sum(way) < pages else None
+        return Need(pages + self.resizes, sum(way), way=way, searched=searched)
+
+    def proved(self, bounds):
+        """The least pages that `are_budget_levels` of the crate `sizing` accepts, and by class the level that shows it. If a class
+        lacks a slot, its pages are full. Each page then costs the level at least, but for the gap of each page of another class that
+        is partly full. Between two costs the pages rise or fall with the level, so the costs are tried, and the greatest level."""
+        loose = [min(k, ceil_div(most, m)) for most, m, k in zip(self.most, self.m, bounds)]
+        top = min(map(int.__mul__, self.cost, self.m))
+        levels = sorted({cost for cost in self.cost if cost < top} | {top})
+        gaps = [sum(k * (level - cost) for cost, k in zip(self.cost, loose) if cost < level) for level in levels]
+        best = []
+        for cost, k in zip(self.cost, loose):
+            beside = (self.amount - cost + gap - k * max(0, level - cost) for level, gap in zip(levels, gaps))
+            best.append(min((most // level + 1, level) for most, level in zip(beside, levels)))
+        return max(pages for pages, _ in best), [level for _, level in best]
 
     def is_within(self, bounds, pages):
-        """Whether so many pages are enough for these bounds, by the upper bound, which is quick."""
-        return sum(self.cheapest(self.amount, bounds)) + self.resizes <= pages
+        """Whether the proved test accepts that so many pages are enough for these bounds."""
+        return self.proved(bounds)[0] + self.resizes <= pages
 
     def certificate(self, bounds):
-        """What `is_budget_level` and `is_budget_certificate` of the crate `sizing` test: by class of the page the least cost of an
-        object, and the pages of `cheapest`; and the level with which the formula gives their number. That is the cost of the least
-        full page; if the budget does not pay for the k pages of each class that an object each holds, that of the next of these."""
-        never = min(self.amount + 1, 2**32 - 1)
-        prices, opened, supply = ([number] * len(self.layout.sizes) for number in (never, 0, 1))
-        for c, cost, pages, k in zip(self.classes, self.cost, self.cheapest(self.amount, bounds), bounds):
-            prices[c], opened[c], supply[c] = cost, pages, k
-        level, left = min(map(int.__mul__, prices, self.layout.slots)), self.amount
-        for price, k in sorted(zip(prices, supply)):
-            if price >= level or price * k > left:
-                return prices, min(price, level), opened
-            left -= price * k
-        return prices, level, opened
+        """What `are_budget_levels` and `is_budget_certificate` of the crate `sizing` test, by class of the page: the least cost of an
+        object, the level, and the pages of `cheapest`, which are the most that the budget affords if every bound is 1."""
+        prices, levels, opened = ([number] * len(self.layout.sizes) for number in (NEVER, 0, 0))
+        for c, *numbers in zip(self.classes, self.cost, self.proved(bounds)[1], self.cheapest(self.amount, bounds)):
+            prices[c], levels[c], opened[c] = numbers
+        return prices, levels, opened
 
     def search(self, bounds, best):
         """The most pages that some calls reach, by trying; whether all choices were tried."""

@@ -40,7 +40,7 @@ class Library:
         whole = ["-Wl,--whole-archive", os.path.join(TOP, ARCHIVE), "-Wl,--no-whole-archive"]
         subprocess.run(["gcc", "-shared", "-o", shared, *whole], check=True, stderr=subprocess.PIPE)
         self.manager, self.calls, self.in_blocks = manager, ctypes.CDLL(shared), ctypes.c_bool(manager == "nm")
-        for name in "pages_needed", "is_certified", "is_budget_level", "is_budget_certified":
+        for name in "pages_needed", "is_certified", "are_budget_levels", "is_budget_certified":
             getattr(self.calls, "plan_" + name).restype = ctypes.c_bool
 
     def needed(self, page_bytes, mode):
@@ -56,16 +56,16 @@ class Library:
         lists = (ctypes.c_uint32, bounds), (ModeNeeds, modes), (PointPages, points)
         return self.calls.plan_is_certified(*numbers, *(part for kind, items in lists for part in listed(kind, items)), ctypes.c_bool(resizes))
 
-    def accepts_level(self, pages, page_bytes, bounds, prices, budget, level):
-        """Whether the level shows that so many pages are enough for a budget with these bounds, by the least cost of an object of each
+    def accepts_levels(self, pages, page_bytes, bounds, prices, budget, levels):
+        """Whether the levels show that so many pages are enough for a budget with these bounds, by the least cost of an object of each
         class."""
         numbers = ctypes.c_uint32(pages), ctypes.c_uint32(page_bytes), self.in_blocks
-        lists = (part for items in (bounds, prices) for part in listed(ctypes.c_uint32, items))
-        return self.calls.plan_is_budget_level(*numbers, *lists, ctypes.c_uint32(budget), ctypes.c_uint32(level))
+        bounds, prices, levels = (listed(ctypes.c_uint32, items) for items in (bounds, prices, levels))
+        return self.calls.plan_are_budget_levels(*numbers, *bounds, *prices, ctypes.c_uint32(budget), *levels)
 
-    def accepts_budget(self, pages, page_bytes, prices, budget, level, opened):
-        """Whether the level and the opened pages of each class are a certificate that so many pages are the least for a budget, by
+    def accepts_budget(self, pages, page_bytes, prices, budget, levels, opened):
+        """Whether the levels and the opened pages of each class are a certificate that so many pages are the least for a budget, by
         the least cost of an object of each class, if every bound is 1."""
         numbers = ctypes.c_uint32(pages), ctypes.c_uint32(page_bytes), self.in_blocks
-        cost, most = listed(ctypes.c_uint32, prices), (ctypes.c_uint32(budget), ctypes.c_uint32(level))
-        return self.calls.plan_is_budget_certified(*numbers, *cost, *most, *listed(ctypes.c_uint32, opened))
+        prices, levels, opened = (listed(ctypes.c_uint32, items) for items in (prices, levels, opened))
+        return self.calls.plan_is_budget_certified(*numbers, *prices, ctypes.c_uint32(budget), *levels, *opened)

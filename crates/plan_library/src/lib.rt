@@ -9,7 +9,7 @@ ghost use Rattle.cf_base.specs.Classes.{sizes};
 ghost use Rattle.cf_base.specs.Settings.{profile_from, setting_fault};
 ghost use Rattle.cf_model.specs.State.{HeapState, layout_of, paging_in};
 ghost use Rattle.page_model.specs.Paging.{EveryBoundIsOne, IsPaging, Paging, bound_of, class_for, classes, paging_of};
-ghost use Rattle.sizing.specs.Certificates.{AreForResizes, IsBudgetCertificate, IsBudgetLevel, IsCertificate};
+ghost use Rattle.sizing.specs.Certificates.{AreBudgetLevels, AreForResizes, IsBudgetCertificate, IsCertificate};
 ghost use Rattle.sizing.specs.Checks.{HasFew, needs_of, with_pages};
 ghost use Rattle.sizing.specs.Demands.{ArePrices, KeepsBudget, KeepsTo, KeepsToOne};
 ghost use Rattle.sizing.specs.Heaps.{IsFresh, ServesHeapMallocs, ServesHeapResizes};
@@ -18,7 +18,8 @@ ghost use Rattle.plan_library.specs.Slots.{layout_if};
 
 use cf_base::Layout;
 use sizing::{
-    ModeNeeds, Need, PointPages, is_budget_certificate, is_budget_level, is_certified, pages_needed,
+    ModeNeeds, Need, PointPages, are_budget_levels, is_budget_certificate, is_certified,
+    pages_needed,
 };
 
 /// Writes into `pages` the least number of pages with which no call of a program is refused for space while it keeps to its
@@ -82,22 +83,23 @@ pub extern "C" fn plan_is_certified(
     )
 }
 
-/// Whether `level` shows that `pages` pages of `page_bytes` bytes are enough for a budget with these bounds, if an object of each
-/// class costs at least its price (`is_budget_level`).
+/// Whether the levels show that `pages` pages of `page_bytes` bytes are enough for a budget with these bounds, if an object of each
+/// class costs at least its price (`are_budget_levels`).
 #[unsafe(no_mangle)]
-pub extern "C" fn plan_is_budget_level(
+pub extern "C" fn plan_are_budget_levels(
     pages: u32,
     page_bytes: u32,
     in_blocks: bool,
     bounds: &[u32],
     prices: &[u32],
     budget: u32,
-    level: u32,
+    levels: &[u32],
 ) -> bool
     ensures exact { setting_fault pages page_bytes 1 65536 ≡ None
         → IsPaging (paging_of (profile_from pages page_bytes 1 65536) (layout_if in_blocks) bounds.now)
         → length prices.now ≡ classes (paging_of (profile_from pages page_bytes 1 65536) (layout_if in_blocks) bounds.now)
-        → IsTrue result ↔ IsBudgetLevel (paging_of (profile_from pages page_bytes 1 65536) (layout_if in_blocks) bounds.now) (slice_index prices.now) budget level }
+        → length levels.now ≡ classes (paging_of (profile_from pages page_bytes 1 65536) (layout_if in_blocks) bounds.now)
+        → IsTrue result ↔ AreBudgetLevels (paging_of (profile_from pages page_bytes 1 65536) (layout_if in_blocks) bounds.now) (slice_index prices.now) budget (slice_index levels.now) }
     ensures mallocs { IsTrue result → (s : HeapState) (cost : ℕ → ℕ) → IsFresh s
         → layout_of s.kind ≡ layout_if in_blocks → s.profile.page_words ≡ page_bytes / 8 → pages ≤ s.profile.pages
         → ((c : ℕ) → c < classes (paging_in s) → bound_of (paging_in s) c ≤ slice_index bounds.now c)
@@ -107,18 +109,18 @@ pub extern "C" fn plan_is_budget_level(
         → ((c : ℕ) → c < classes (paging_in s) → bound_of (paging_in s) c ≤ slice_index bounds.now c)
         → ArePrices (paging_in s) cost (slice_index prices.now) → ServesHeapResizes (KeepsBudget cost budget) s }
 {
-    is_budget_level(
+    are_budget_levels(
         pages,
         page_bytes,
         slots_if(in_blocks),
         bounds,
         prices,
         budget,
-        level,
+        levels,
     )
 }
 
-/// Whether `level` and the pages `opened` of each class are a certificate that `pages` pages of `page_bytes` bytes are the least for
+/// Whether the levels and the pages `opened` of each class are a certificate that `pages` pages of `page_bytes` bytes are the least for
 /// a budget, if every bound is 1 and an object of each class costs at least its price (`is_budget_certificate`).
 #[unsafe(no_mangle)]
 pub extern "C" fn plan_is_budget_certified(
@@ -127,13 +129,13 @@ pub extern "C" fn plan_is_budget_certified(
     in_blocks: bool,
     prices: &[u32],
     budget: u32,
-    level: u32,
+    levels: &[u32],
     opened: &[u32],
 ) -> bool
     ensures exact { (p : Paging) → setting_fault pages page_bytes 1 65536 ≡ None → IsPaging p → EveryBoundIsOne p
         → p.pages ≡ pages → p.page_words ≡ page_bytes / 8 → p.sizes ≡ sizes (page_bytes / 8) (layout_if in_blocks)
-        → length prices.now ≡ classes p → length opened.now ≡ classes p
-        → IsTrue result ↔ IsBudgetCertificate p (slice_index prices.now) budget level (slice_index opened.now) }
+        → length prices.now ≡ classes p → length levels.now ≡ classes p → length opened.now ≡ classes p
+        → IsTrue result ↔ IsBudgetCertificate p (slice_index prices.now) budget (slice_index levels.now) (slice_index opened.now) }
     ensures mallocs { IsTrue result → (s : HeapState) (cost : ℕ → ℕ) → IsFresh s → EveryBoundIsOne (paging_in s)
         → layout_of s.kind ≡ layout_if in_blocks → s.profile.page_words ≡ page_bytes / 8 → pages ≤ s.profile.pages
         → ArePrices (paging_in s) cost (slice_index prices.now) → ServesHeapMallocs (KeepsBudget cost budget) s }
@@ -152,7 +154,7 @@ pub extern "C" fn plan_is_budget_certified(
         slots_if(in_blocks),
         prices,
         budget,
-        level,
+        levels,
         opened,
     )
 }

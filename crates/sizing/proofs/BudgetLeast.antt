@@ -1,4 +1,4 @@
--- For `budget.rt`: pages that the budget can open are needed. The program allocates for each class as many objects of its length as open the pages.
+-- For `budget.rt`: pages that the budget can open are needed. The program allocates for each class the objects of its length that open the pages.
 use Rattle.std.proofs.Common.{◌≡◌, ℕ, zero, suc, ◌+◌, ◌-◌, ◌*◌, ◌%◌, ◌<◌, ◌≤◌, List, [], ◌∷◌, None, cond, length, map, min, replicate, arith, ap, ◌∙◌, inl, inr, refl}
 use Rattle.std.specs.Prelude.{nat_eq, nat_lt, sum_by}
 use Rattle.std.specs.List.{range_with_len}
@@ -28,7 +28,7 @@ use Rattle.sizing.proofs.ModePages.{run_weakened}
 
 -- ---- the cost of a list in which each number is at most as frequent as in another
 
--- a number is as many as there are smaller ones
+-- a number n is the count of the numbers below it; from a on, k of them
 layers : (n a k : ℕ) → sum_by (λ i. one (nat_lt i n)) (range_with_len a k) ≡ min (n - a) k
 layers n a zero = omega arith
 layers n a (suc k) =

@@ -1,9 +1,8 @@
 -- For `is_certificate`: the points are a certificate if and only if each meets its conditions, and there is one if there is a mode. The tables that the test
 -- computes have the counts of the modes.
-use Rattle.std.proofs.Common.{◌≡◌, ℕ, suc, ◌+◌, ◌<◌, ◌≤◌, Bool, List, [], All, Contains, cond, get_or-set_other, get_or-set_same, length, arith, ap, sym, ◌∙◌, min, refl, subst, inl, inr}
+use Rattle.std.proofs.Common.{◌≡◌, ℕ, suc, ◌+◌, ◌<◌, ◌≤◌, Bool, List, [], All, cond, get_or-set_other, get_or-set_same, length, arith, ap, sym, ◌∙◌, min, refl, subst, inl, inr}
 use Rattle.std.proofs.Math.ListN.{set}
-use Rattle.std.specs.Prelude.{IsTrue, nat_eq, slice_index, slice_index_or, sum_by}
-use Rattle.std.specs.List.{range_with_len}
+use Rattle.std.specs.Prelude.{IsTrue, nat_eq, slice_index, slice_index_or}
 use Rattle.std.proofs.lemmas.Bool.{cases_eq, cases_lt}
 use Rattle.std.proofs.lemmas.List.{get_or-map, length-map}
 use Rattle.std.proofs.lemmas.List.Elements.{All-contains, Contains-get_or}

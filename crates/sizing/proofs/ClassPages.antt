@@ -97,7 +97,7 @@ more_than_partly_full p m c page within some full =
     ])
     (let a = less_counts 0 (objects_on p m c page) some in let b = part_over (objects_on p m c page) (slots_of p c) full in omega arith)
 
--- if a class is on at most as many pages as its bound, no free of its objects must move another
+-- if a class has at most the pages of its bound, no free of its objects must move another
 pub none_must_move : (p : Paging) → IsPaging p → (m : Held) → IsSound p m → (h : ℕ) (x : Placed) → get m h ≡ Some x
     → pages_of_class p m (class_at p x) ≤ bound_of p (class_at p x) → ¬ MustMove p m x
 none_must_move p ok m s h x there few must =

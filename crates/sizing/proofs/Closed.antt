@@ -22,7 +22,7 @@ under q k j lt = elim (cases_lt k q) [
   | inl more ↦ absurd (let b = mul-le (k + 1) j q j (omega arith) (omega arith) in omega arith)
 ]
 
--- with at most k partly full pages, P pages have at most so many free slots
+-- P pages of j + 1 slots, at most k of them partly full, have no more pages than objects and at most k * j free slots
 pub within : (P n j k : ℕ) → CanHold P n (suc j) k → (P ≤ n) × (P * suc j ≤ n + k * j)
 within P n j k (q, s) =
     let few = s.few in

@@ -36,7 +36,7 @@ lacks_or_not p m s c = elim (cases_eq (not_full_pages p m c) 0) [
   ]
 ]
 
--- the objects are as many of each length as the list has
+-- of each length the objects and the list have the same number
 record Agrees (m : Held) (pre : List ℕ) : Type 0 where
   count : len m ≡ length pre
   counts : (f : ℕ → Bool) → count_by (λ v. f (length v)) (values (objects m)) ≡ count_by f pre

@@ -1,4 +1,4 @@
--- For the laws of `laws.rt` but one: along a run each class stays within the pages that the most of its objects fill. So if there are as many pages, no malloc
+-- For the laws of `laws.rt` but one: along a run each class stays within the pages that the most of its objects fill. So if the heap has these pages, no malloc
 -- and no resize is refused for space.
 use Rattle.std.proofs.Common.{◌≡◌, ℕ, ◌+◌, ◌<◌, ◌≤◌, List, Some, length, map, replicate, arith}
 use Rattle.std.specs.Prelude.{nat_eq}
@@ -36,7 +36,7 @@ module _ (p : Paging) (ok : IsPaging p) (most : ℕ → ℕ) (allowed : Objects 
       none_must_move p ok m k.0 h x there (omega arith)
 
   module _ (enough : pages_for p most ≤ p.pages) where
-    -- a class that lacks room has as many objects as it may have
+    -- a class that lacks room has the most objects that it may have
     lacks_at_most : (calls : List HeapCall) (m : Held) → Run p allowed empty calls m → (c : ℕ) → c < classes p → LacksRoom p m c
         → live p (objects m) c + 1 ≤ most c → ⊥
     unfolding used_pages

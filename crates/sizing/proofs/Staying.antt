@@ -1,7 +1,7 @@
 -- What two needs both declare, and which objects stay over a call: without the one that the call adds, takes or changes, the objects before it and after it are
 -- the same.
-use Rattle.std.proofs.Common.{◌≡◌, ◌≢◌, ℕ, zero, suc, ◌+◌, ◌-◌, ◌<◌, ◌≤◌, List, [], ◌∷◌, Some, None, cond, drop, length, min, replicate, arith, ap, sym, ◌∙◌, inl, inr, refl, subst}
-use Rattle.std.specs.Prelude.{◌⊎◌, nat_eq, sum_by}
+use Rattle.std.proofs.Common.{◌≡◌, ◌≢◌, ℕ, zero, suc, ◌+◌, ◌-◌, ◌<◌, ◌≤◌, List, [], ◌∷◌, Some, cond, drop, length, min, replicate, arith, ap, sym, ◌∙◌, inl, inr, refl, subst}
+use Rattle.std.specs.Prelude.{◌⊎◌, nat_eq}
 use Rattle.std.specs.FinMap.{get, insert, remove}
 use Rattle.std.proofs.lemmas.Bool.{cases_eq, cases_lt}
 use Rattle.std.proofs.lemmas.List.{ext_get_or}
@@ -15,7 +15,7 @@ use Rattle.cf_lemmas.proofs.Tests.{eq_no, eq_yes}
 use Rattle.page_model.specs.Arrangement.{IsSound, class_at, live}
 use Rattle.page_model.specs.Held.{Held, Objects, Placed, objects}
 use Rattle.page_model.specs.Paging.{IsPaging, Paging, class_for, classes}
-use Rattle.page_model.specs.Steps.{CallResult, PlacesObject, RefitsObject, RemovesObject, Request, resized, resized_at, without}
+use Rattle.page_model.specs.Steps.{resized, resized_at}
 use Rattle.page_model.proofs.CallerLemmas.{bytes_held, bytes_missing, free_objects, length-resized, live_added, live_taken, malloc_objects}
 use Rattle.quota_model.specs.Admission.{declared, declared_in_all, in_order, live_of}
 use Rattle.quota_model.specs.declared.answers.Need.{Need}

@@ -1,6 +1,6 @@
 -- Certificates that pages are enough for the modes of a program, whatever the bounds: for each mode some numbers of pages by class, one of which no run that is
 -- in the mode exceeds. An unverified planner can compute them, and `is_certificate` tests them.
-use Rattle.std.specs.Prelude.{◌≡◌, ◌≢◌, ℕ, ◌+◌, ◌-◌, ◌*◌, ◌<◌, ◌≤◌, All, List, [], ◌∷◌, Contains, if◌then◌else◌, length, min, nat_eq, slice_index, slice_index_or, sum_by}
+use Rattle.std.specs.Prelude.{◌≡◌, ◌≢◌, ℕ, ◌+◌, ◌-◌, ◌*◌, ◌/◌, ◌<◌, ◌≤◌, All, List, [], ◌∷◌, Contains, if◌then◌else◌, length, min, nat_eq, slice_index, slice_index_or, sum_by}
 use Rattle.std.specs.List.{range_with_len}
 use Rattle.page_model.specs.Counts.{ceil_div, most_pages}
 use Rattle.page_model.specs.Paging.{Paging, bound_of, classes, slots_of}
@@ -17,12 +17,12 @@ mode_at modes j = slice_index_or modes j []
 abbrev pub mode_count : Paging → List (List Need) → ℕ → ℕ → ℕ
 mode_count p modes j c = count_in p (mode_at modes j) c
 
--- what both needs declare, of each length the smaller number: of an entry, as many as the others declare beyond the entries after it
+-- what both needs declare, of each length the smaller number: each entry has its count, but at most what the others declare of its length beyond the entries after it
 abbrev pub in_both : List Need → List Need → List Need
 in_both [] others = []
 in_both (e ∷ rest) others = record { bytes = e.bytes; count = min e.count (declared others e.bytes - declared rest e.bytes) } ∷ in_both rest others
 
--- how many objects of class c can stay when the program goes from mode i to mode j: of each length as many as both modes have
+-- how many objects of class c can stay when the program goes from mode i to mode j: of each length the smaller of the two modes' numbers
 abbrev pub kept_count : Paging → List (List Need) → ℕ → ℕ → ℕ → ℕ
 kept_count p modes i j c = count_in p (in_both (mode_at modes i) (mode_at modes j)) c
 
@@ -84,16 +84,28 @@ pub record AreForResizes (p : Paging) (modes : List (List Need)) (points : List 
   pub within : KeepResized p modes points
   pub copies : HoldCopies p modes points
 
--- `level` shows that the pages are enough for a budget, if an object of class c costs at least `price c`: the objects of a full page cost at least `level`,
--- whatever its class (`full`). The budget, with `level - price c` for each page of class c that may be partly full, is below `level` for each page and for one
--- more (`enough`).
-pub record IsBudgetLevel (p : Paging) (price : ℕ → ℕ) (budget level : ℕ) : Type 0 where
-  pub full : (c : ℕ) → c < classes p → level ≤ slots_of p c * price c
-  pub enough : budget + sum_by (λ c. bound_of p c * (level - price c)) (range_with_len 0 (classes p)) < (p.pages + 1) * level
+-- how many pages of class c can be partly full: at most its bound, and no more than the objects fill for which the budget pays
+abbrev pub loose_pages : Paging → (ℕ → ℕ) → ℕ → ℕ → ℕ
+loose_pages p price budget c = min (bound_of p c) (ceil_div (budget / price c) (slots_of p c))
 
--- A certificate that the pages are the least for a budget, if every bound is 1: the level shows that they are enough (`shows`). The budget pays for these pages
--- of each class (`affords`), and they are as many (`all`).
-pub record IsBudgetCertificate (p : Paging) (price : ℕ → ℕ) (budget level : ℕ) (opened : ℕ → ℕ) : Type 0 where
-  pub shows : IsBudgetLevel p price budget level
+-- what these pages cost less than the level, if each has one object; nothing of class i, whose pages are full when it lacks a slot
+abbrev pub gap_beside : Paging → (ℕ → ℕ) → (budget i level c : ℕ) → ℕ
+gap_beside p price budget i level c = if nat_eq c i then 0 else loose_pages p price budget c * (level - price c)
+
+-- `level` shows that the pages are enough for a new object of class i within a budget, if an object of class c costs at least `price c`: the objects of a full
+-- page cost at least `level`, whatever its class (`full`). The budget with all gaps is less than the level for each page and the price of the new object
+-- (`enough`).
+pub record IsBudgetLevel (p : Paging) (price : ℕ → ℕ) (budget i level : ℕ) : Type 0 where
+  pub full : (c : ℕ) → c < classes p → level ≤ slots_of p c * price c
+  pub enough : budget + sum_by (gap_beside p price budget i level) (range_with_len 0 (classes p)) < p.pages * level + price i
+
+-- each class has a level that shows that the pages are enough for its objects
+abbrev pub AreBudgetLevels : Paging → (ℕ → ℕ) → ℕ → (ℕ → ℕ) → Type 0
+AreBudgetLevels p price budget levels = (i : ℕ) → i < classes p → IsBudgetLevel p price budget i (levels i)
+
+-- A certificate that the pages are the least for a budget, if every bound is 1: the levels show that they are enough (`shows`). The budget pays for `opened c`
+-- pages of each class c (`affords`), and these are all pages (`all`).
+pub record IsBudgetCertificate (p : Paging) (price : ℕ → ℕ) (budget : ℕ) (levels opened : ℕ → ℕ) : Type 0 where
+  pub shows : AreBudgetLevels p price budget levels
   pub affords : Affords p price budget opened
   pub all : sum_by opened (range_with_len 0 (classes p)) ≡ p.pages

@@ -1,5 +1,5 @@
 -- What the test of a certificate is given, and the tables that it computes.
-use Rattle.std.specs.Prelude.{◌≡◌, ℕ, ◌-◌, ◌<◌, ◌≤◌, ◌+◌, Bool, IsTrue, List, [], drop, length, map, min, slice_index, slice_index_or}
+use Rattle.std.specs.Prelude.{◌≡◌, ℕ, ◌-◌, ◌<◌, ◌≤◌, ◌+◌, Bool, IsTrue, List, drop, length, map, min, slice_index, slice_index_or}
 use Rattle.page_model.specs.Paging.{Paging, classes}
 use Rattle.quota_model.specs.Admission.{declared, declared_in_all}
 use Rattle.quota_model.specs.declared.answers.Need.{Need}
@@ -18,13 +18,13 @@ needs_of modes = map (λ (m : ModeNeeds). m.needs) modes
 abbrev pub HasFew : ModeNeeds → Type 0
 HasFew mode = declared_in_all mode.needs ≤ 65536
 
--- the same pages and classes with so many pages
+-- the same classes and bounds with n pages
 abbrev pub with_pages : ℕ → Paging → Paging
 with_pages n p = record p { pages = n }
 
 -- ---- No public clause cites what follows.
 
--- the pages and classes of a heap with so many pages
+-- the pages and classes of a heap with this number of pages
 abbrev pub paging_with : ℕ → HeapClasses → Paging
 paging_with pages heap = record { pages = pages; page_words = heap.page_words; sizes = heap.sizes.now; bounds = heap.bounds.now }
 

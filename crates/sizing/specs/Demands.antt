@@ -1,4 +1,4 @@
--- What a program may have live: at most so many objects of each class, or of each length, or of each length in one of several modes, or objects within a budget;
+-- What a program may have live: a greatest number of objects of each class, of each length, or of each length in each of several modes, or objects within a budget;
 -- and how many pages are enough.
 use Rattle.std.specs.Prelude.{ℕ, zero, suc, ◌+◌, ◌*◌, ◌<◌, ◌≤◌, List, [], ◌∷◌, Contains, length, max, min, sum_by}
 use Rattle.std.specs.FinMap.{values}
@@ -14,7 +14,7 @@ use Rattle.quota_model.specs.declared.answers.Need.{Need}
 abbrev pub HasAtMost : Paging → (ℕ → ℕ) → Objects → Type 0
 HasAtMost p most o = (c : ℕ) → c < classes p → live p o c ≤ most c
 
--- of each length at most as many objects as the needs declare
+-- of each length at most the number of objects that the needs declare
 abbrev pub KeepsTo : List Need → Objects → Type 0
 KeepsTo needs o = (n : ℕ) → live_of o n ≤ declared needs n
 

@@ -1,29 +1,28 @@
 //! Laws of a program with a budget, as a cache: how many pages are enough, and how many are needed. `p` holds
 //! the pages and the classes. An object of n bytes costs `cost n`, and `price c` is at most what an object of
 //! class `c` costs.
-ghost use Rattle.std.specs.Prelude.{ℕ, ◌≡◌, ◌+◌, ◌-◌, ◌*◌, ◌<◌, ◌≤◌, sum_by};
+ghost use Rattle.std.specs.Prelude.{ℕ, ◌≡◌, ◌<◌, ◌≤◌, sum_by};
 ghost use Rattle.std.specs.List.{range_with_len};
 ghost use Rattle.std.specs.FinMap.{empty};
-ghost use Rattle.page_model.specs.Paging.{EveryBoundIsOne, IsPaging, Paging, bound_of, class_for, classes, slots_of};
+ghost use Rattle.page_model.specs.Paging.{EveryBoundIsOne, IsPaging, Paging, class_for, classes};
+ghost use Rattle.sizing.specs.Certificates.{AreBudgetLevels};
+ghost use Rattle.sizing.specs.Checks.{with_pages};
 ghost use Rattle.sizing.specs.Demands.{Affords, ArePrices, KeepsBudget};
 ghost use Rattle.sizing.specs.Runs.{CanBeRefused, ServesMallocs, ServesResizes};
 
-/// The objects of a full page cost at least `t`, whatever its class. Whatever the bounds, no malloc is refused
-/// for space if the budget, with `t - price c` for each page of class `c` that may be partly full, is less than
-/// `t` for each page and for one more (`mallocs`). With one page more no resize is either (`resizes`).
+/// Whatever the bounds, no malloc is refused for space if each class `i` has a level `t` (`AreBudgetLevels`): the
+/// objects of a full page cost at least `t`, whatever its class; and the budget, with `t - price c` for each page of
+/// another class `c` that can be partly full, is less than `t` for each page and `price i` for the new object
+/// (`mallocs`). With one page more no resize is refused either (`resizes`).
 pub fn pages_for_a_budget_serve()
-    ensures mallocs { (p : Paging) (cost price : ℕ → ℕ) (budget t : ℕ) → IsPaging p → ArePrices p cost price
-        → ((c : ℕ) → c < classes p → t ≤ slots_of p c * price c)
-        → budget + sum_by (λ c. bound_of p c * (t - price c)) (range_with_len 0 (classes p)) < (p.pages + 1) * t
-        → ServesMallocs p (KeepsBudget cost budget) }
-    ensures resizes { (p : Paging) (cost price : ℕ → ℕ) (budget t : ℕ) → IsPaging p → ArePrices p cost price
-        → ((c : ℕ) → c < classes p → t ≤ slots_of p c * price c)
-        → budget + sum_by (λ c. bound_of p c * (t - price c)) (range_with_len 0 (classes p)) < p.pages * t
-        → ServesResizes p (KeepsBudget cost budget) }
+    ensures mallocs { (p : Paging) (cost price levels : ℕ → ℕ) (budget : ℕ) → IsPaging p → ArePrices p cost price
+        → AreBudgetLevels p price budget levels → ServesMallocs p (KeepsBudget cost budget) }
+    ensures resizes { (p : Paging) (cost price levels : ℕ → ℕ) (budget pages : ℕ) → IsPaging p → ArePrices p cost price
+        → AreBudgetLevels (with_pages pages p) price budget levels → pages < p.pages → ServesResizes p (KeepsBudget cost budget) }
 {}
 
 /// If every bound is 1, the least number of pages of a program with a budget is the greatest number that
-/// the budget affords, over all numbers of pages by class. With as many no malloc is refused for space
+/// the budget affords, over all numbers of pages by class. With this number no malloc is refused for space
 /// (`mallocs`). With one page more no resize is either (`resizes`).
 pub fn pages_that_a_budget_affords_serve()
     ensures mallocs { (p : Paging) (cost price : ℕ → ℕ) (budget : ℕ) → IsPaging p → EveryBoundIsOne p → ArePrices p cost price

@@ -1,13 +1,13 @@
 //! The tests whether pages are enough, and the least, for a program with a budget, by numbers that an
 //! unproved planner found.
-ghost use Rattle.std.specs.Prelude.{ℕ, ◌≡◌, ◌+◌, ◌-◌, ◌*◌, ◌/◌, ◌^◌, ◌<◌, ◌≤◌, ◌↔◌, IsTrue, None, length, slice_index, sum_by};
+ghost use Rattle.std.specs.Prelude.{ℕ, ◌≡◌, ◌*◌, ◌/◌, ◌<◌, ◌≤◌, ◌↔◌, IsTrue, None, length, slice_index, sum_by};
 ghost use Rattle.std.specs.List.{range_with_len};
 ghost use Rattle.std.specs.FinMap.{empty};
 ghost use Rattle.cf_base.specs.Classes.{sizes};
 ghost use Rattle.cf_base.specs.Settings.{profile_from, setting_fault};
 ghost use Rattle.cf_model.specs.State.{HeapState, layout_of, paging_in};
 ghost use Rattle.page_model.specs.Paging.{EveryBoundIsOne, IsPaging, Paging, bound_of, class_for, classes, paging_of, slots_of};
-ghost use Rattle.sizing.specs.Certificates.{IsBudgetCertificate, IsBudgetLevel};
+ghost use Rattle.sizing.specs.Certificates.{AreBudgetLevels, IsBudgetCertificate, IsBudgetLevel, gap_beside as gap};
 ghost use Rattle.sizing.specs.Checks.{paging_with};
 ghost use Rattle.sizing.specs.Demands.{Affords, ArePrices, KeepsBudget, objects_to_open as opening};
 ghost use Rattle.sizing.specs.Heaps.{IsFresh, ServesHeapMallocs, ServesHeapResizes};
@@ -17,25 +17,27 @@ use crate::certificate::has_bounds;
 use crate::points::{HeapClasses, slots_in};
 use crate::sizes::{CLASSES, fill_sizes};
 use cf_base::{Layout, Settings};
+use quota_model::pages_for;
 
-/// Whether `level` shows that `pages` pages of `page_bytes` bytes are enough for a budget, if an object of each
-/// class costs at least its price and these are the bounds (`exact`). There must be a price and a bound, at
-/// least 1, for each class, else the result is false. If it is true, a heap with so many pages and no greater
+/// Whether the levels show that `pages` pages of `page_bytes` bytes are enough for a budget, if an object of each
+/// class costs at least its price and these are the bounds (`exact`). There must be a price, a level and a bound,
+/// at least 1, for each class, else the result is false. If it is true, a heap with these pages and no greater
 /// bounds refuses no malloc of a program within the budget for space (`mallocs`), with one page more no resize
 /// (`resizes`).
-pub fn is_budget_level(
+pub fn are_budget_levels(
     pages: u32,
     page_bytes: u32,
     layout: Layout,
     bounds: &[u32],
     prices: &[u32],
     budget: u32,
-    level: u32,
+    levels: &[u32],
 ) -> bool
     ensures exact { setting_fault pages page_bytes 1 65536 ≡ None
         → IsPaging (paging_of (profile_from pages page_bytes 1 65536) layout bounds.now)
         → length prices.now ≡ classes (paging_of (profile_from pages page_bytes 1 65536) layout bounds.now)
-        → IsTrue result ↔ IsBudgetLevel (paging_of (profile_from pages page_bytes 1 65536) layout bounds.now) (slice_index prices.now) budget level }
+        → length levels.now ≡ classes (paging_of (profile_from pages page_bytes 1 65536) layout bounds.now)
+        → IsTrue result ↔ AreBudgetLevels (paging_of (profile_from pages page_bytes 1 65536) layout bounds.now) (slice_index prices.now) budget (slice_index levels.now) }
     ensures mallocs { IsTrue result → (s : HeapState) (cost : ℕ → ℕ) → IsFresh s
         → layout_of s.kind ≡ layout → s.profile.page_words ≡ page_bytes / 8 → pages ≤ s.profile.pages
         → ((c : ℕ) → c < classes (paging_in s) → bound_of (paging_in s) c ≤ slice_index bounds.now c)
@@ -52,7 +54,7 @@ pub fn is_budget_level(
     let mut table = [0; CLASSES];
     let classes = fill_sizes(s.page_words, layout, &mut table);
     let sizes = &table[..classes];
-    if !has_bounds(sizes, bounds) || prices.len() != classes {
+    if !has_bounds(sizes, bounds) || prices.len() != classes || levels.len() != classes {
         return false;
     }
     let heap = HeapClasses {
@@ -60,13 +62,12 @@ pub fn is_budget_level(
         sizes,
         bounds,
     };
-    are_enough(s.pages, &heap, prices, budget, level)
+    are_enough(s.pages, &heap, prices, budget, levels)
 }
 
-/// Whether `level` and the pages `opened` of each class are a certificate that `pages` pages of `page_bytes`
-/// bytes are the least for a budget, if every bound is 1 and an object of each class costs at least its
-/// price (`exact`). There must be a price and a number for each class, else the result is false. If it is
-/// true, no malloc of a program within the budget is refused for space (`mallocs`), with one page more no
+/// Whether the levels and the pages `opened` of each class are a certificate that `pages` pages of `page_bytes`
+/// bytes are the least for a budget, if every bound is 1 and an object of each class costs at least its price
+/// (`exact`). There must be a price, a level and a number for each class, else the result is false. If it is true, no malloc of a program within the budget is refused for space (`mallocs`), with one page more no
 /// resize (`resizes`); and if each class that has opened pages has an object at its price, with fewer pages
 /// some malloc is refused (`least`).
 pub fn is_budget_certificate(
@@ -75,13 +76,13 @@ pub fn is_budget_certificate(
     layout: Layout,
     prices: &[u32],
     budget: u32,
-    level: u32,
+    levels: &[u32],
     opened: &[u32],
 ) -> bool
     ensures exact { (p : Paging) → setting_fault pages page_bytes 1 65536 ≡ None → IsPaging p → EveryBoundIsOne p
         → p.pages ≡ pages → p.page_words ≡ page_bytes / 8 → p.sizes ≡ sizes (page_bytes / 8) layout
-        → length prices.now ≡ classes p → length opened.now ≡ classes p
-        → IsTrue result ↔ IsBudgetCertificate p (slice_index prices.now) budget level (slice_index opened.now) }
+        → length prices.now ≡ classes p → length levels.now ≡ classes p → length opened.now ≡ classes p
+        → IsTrue result ↔ IsBudgetCertificate p (slice_index prices.now) budget (slice_index levels.now) (slice_index opened.now) }
     ensures mallocs { IsTrue result → (s : HeapState) (cost : ℕ → ℕ) → IsFresh s → EveryBoundIsOne (paging_in s)
         → layout_of s.kind ≡ layout → s.profile.page_words ≡ page_bytes / 8 → pages ≤ s.profile.pages
         → ArePrices (paging_in s) cost (slice_index prices.now) → ServesHeapMallocs (KeepsBudget cost budget) s }
@@ -100,7 +101,7 @@ pub fn is_budget_certificate(
     };
     let mut table = [0; CLASSES];
     let classes = fill_sizes(s.page_words, layout, &mut table);
-    if prices.len() != classes || opened.len() != classes {
+    if prices.len() != classes || levels.len() != classes || opened.len() != classes {
         return false;
     }
     let ones = [1; CLASSES];
@@ -109,7 +110,7 @@ pub fn is_budget_certificate(
         sizes: &table[..classes],
         bounds: &ones[..classes],
     };
-    are_least(s.pages, &heap, prices, budget, level, opened)
+    are_least(s.pages, &heap, prices, budget, levels, opened)
 }
 
 /// Whether the certificate is one for a heap of `pages` pages.
@@ -118,33 +119,57 @@ fn are_least(
     heap: &HeapClasses,
     prices: &[u32],
     budget: u32,
-    level: u32,
+    levels: &[u32],
     opened: &[u32],
 ) -> bool
     requires heap { IsPaging (paging_with pages heap.now) }
     requires words { heap.now.page_words ≤ 16384 }
     requires few { pages ≤ 4096 }
     requires prices { length prices.now ≡ classes (paging_with pages heap.now) }
+    requires levels { length levels.now ≡ classes (paging_with pages heap.now) }
     requires opened { length opened.now ≡ classes (paging_with pages heap.now) }
-    ensures { IsTrue result ↔ IsBudgetCertificate (paging_with pages heap.now) (slice_index prices.now) budget level (slice_index opened.now) }
+    ensures { IsTrue result ↔ IsBudgetCertificate (paging_with pages heap.now) (slice_index prices.now) budget (slice_index levels.now) (slice_index opened.now) }
 {
-    if sum_of(opened) != pages as u64 || !are_enough(pages, heap, prices, budget, level) {
+    if sum_of(opened) != pages as u64 || !are_enough(pages, heap, prices, budget, levels) {
         return false;
     }
     affords(heap, prices, budget, opened)
 }
 
-/// Whether the level shows that `pages` pages are enough.
-fn are_enough(pages: u32, heap: &HeapClasses, prices: &[u32], budget: u32, level: u32) -> bool
+/// Whether the levels show that `pages` pages are enough.
+fn are_enough(pages: u32, heap: &HeapClasses, prices: &[u32], budget: u32, levels: &[u32]) -> bool
     requires heap { IsPaging (paging_with pages heap.now) }
     requires prices { length prices.now ≡ classes (paging_with pages heap.now) }
-    ensures { IsTrue result ↔ IsBudgetLevel (paging_with pages heap.now) (slice_index prices.now) budget level }
+    requires levels { length levels.now ≡ classes (paging_with pages heap.now) }
+    ensures { IsTrue result ↔ AreBudgetLevels (paging_with pages heap.now) (slice_index prices.now) budget (slice_index levels.now) }
 {
-    let most = (pages as u64 + 1) * level as u64;
+    for i in 0..heap.sizes.len() {
+        if !is_enough(pages, heap, prices, budget, i, levels[i]) {
+            return false;
+        }
+    }
+    true
+}
+
+/// Whether the level shows that `pages` pages are enough for a new object of class i.
+fn is_enough(
+    pages: u32,
+    heap: &HeapClasses,
+    prices: &[u32],
+    budget: u32,
+    i: usize,
+    level: u32,
+) -> bool
+    requires heap { IsPaging (paging_with pages heap.now) }
+    requires prices { length prices.now ≡ classes (paging_with pages heap.now) }
+    requires class { i < classes (paging_with pages heap.now) }
+    ensures { IsTrue result ↔ IsBudgetLevel (paging_with pages heap.now) (slice_index prices.now) budget i level }
+{
+    let most = pages as u64 * level as u64 + prices[i] as u64;
     if budget as u64 >= most || !is_level(heap, prices, level) {
         return false;
     }
-    gaps_fit(heap, prices, level, most - budget as u64 - 1)
+    gaps_fit(heap, prices, budget, i, level, most - budget as u64 - 1)
 }
 
 /// Whether the objects of a full page cost at least `level`, whatever its class.
@@ -162,21 +187,49 @@ fn is_level(heap: &HeapClasses, prices: &[u32], level: u32) -> bool
     true
 }
 
-/// Whether `level` less the price, summed over the pages that may be partly full, is at most `most`.
-fn gaps_fit(heap: &HeapClasses, prices: &[u32], level: u32, most: u64) -> bool
+/// Whether the gaps beside class i are at most `most` in all.
+fn gaps_fit(
+    heap: &HeapClasses,
+    prices: &[u32],
+    budget: u32,
+    i: usize,
+    level: u32,
+    most: u64,
+) -> bool
     requires heap { IsPaging (paging_with 0 heap.now) }
     requires prices { length prices.now ≡ classes (paging_with 0 heap.now) }
-    ensures { IsTrue result ↔ sum_by (λ c. bound_of (paging_with 0 heap.now) c * (level - slice_index prices.now c)) (range_with_len 0 (classes (paging_with 0 heap.now))) ≤ most }
+    ensures { IsTrue result ↔ sum_by (gap (paging_with 0 heap.now) (slice_index prices.now) budget i level) (range_with_len 0 (classes (paging_with 0 heap.now))) ≤ most }
 {
     let mut left = most;
     for c in 0..heap.sizes.len() {
-        let gap = heap.bounds[c] as u64 * level.saturating_sub(prices[c]) as u64;
+        let gap = gap_beside(heap, prices, budget, i, level, c);
         if gap > left {
             return false;
         }
         left -= gap;
     }
     true
+}
+
+/// What the pages of class c that can be partly full cost less than `level`; nothing of class i.
+fn gap_beside(
+    heap: &HeapClasses,
+    prices: &[u32],
+    budget: u32,
+    i: usize,
+    level: u32,
+    c: usize,
+) -> u64
+    requires heap { IsPaging (paging_with 0 heap.now) }
+    requires prices { length prices.now ≡ classes (paging_with 0 heap.now) }
+    requires class { c < classes (paging_with 0 heap.now) }
+    ensures { result ≡ gap (paging_with 0 heap.now) (slice_index prices.now) budget i level c }
+{
+    if c == i || prices[c] == 0 {
+        return 0;
+    }
+    let filled = pages_for((budget / prices[c]) as u64, slots_in(heap, c) as u64);
+    filled.min(heap.bounds[c] as u64) * level.saturating_sub(prices[c]) as u64
 }
 
 /// The sum of the numbers.

@@ -35,7 +35,7 @@ pub enum NeedsFault {
 /// while it keeps to its `needs`. A manager with pages and slots of this layout that was opened with so
 /// many pages, and has any bounds, serves each malloc (`mallocs`) and resize (`resizes`). With fewer
 /// pages some malloc is refused (`least`). `k` is only tested: it may be the bound of a heap (`setting`). A
-/// heap may have as many proxies as the needs declare objects (`proxies`).
+/// heap may have a proxy for each declared object (`proxies`).
 pub fn pages_needed(
     page_bytes: u32,
     k: u32,
@@ -61,7 +61,7 @@ pub fn pages_needed(
     }
 }
 
-/// Settings of a heap with as many proxies as possible, which can have the declared objects.
+/// Settings of a heap with the most proxies, 65,536, if its pages can hold each declared object.
 fn settings_for(page_bytes: u32, k: u32, needs: &[Need]) -> Result<Settings, NeedsFault>
     ensures few { IfOk result (λ s. length needs.now ≤ 64) }
     ensures page { IfOk result (λ s. s.page_words ≡ page_bytes / 8) }

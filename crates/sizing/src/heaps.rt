@@ -14,7 +14,7 @@ ghost use Rattle.sizing.specs.Demands.{KeepsTo, KeepsToOne, count_in, spread_of_
 ghost use Rattle.sizing.specs.Heaps.{Answered, HeapRun, IsFresh, ServesHeapMallocs, ServesHeapResizes};
 ghost use Rattle.sizing.specs.declared.certificate.PointPages.{PointPages};
 
-/// A manager with pages, moving or not, with any bounds, has as many pages as the declared objects
+/// A manager with pages, moving or not, with any bounds, has at least the pages that the declared objects
 /// need. The program keeps to its `needs`. Whatever it called before, in whatever order, no malloc
 /// with which it still keeps to them is refused for space (`mallocs`), and no such resize (`resizes`).
 pub fn no_call_within_the_needs_is_refused_space()

@@ -22,8 +22,8 @@ pub fn pages_follow_the_most_live()
         → pages_of_class p m c ≤ ceil_div (most c) (slots_of p c) }
 {}
 
-/// If there are as many pages as `most c` objects of each class `c` fill, rounded up by class, no
-/// malloc and no resize of such a run is refused for space.
+/// If there are at least the pages that `most c` objects of each class `c` fill, rounded up by class, no
+/// malloc and no resize of such a run is refused for space (`counts`); so for objects by length (`needs`).
 pub fn enough_pages_serve()
     ensures counts { (p : Paging) (most : ℕ → ℕ) → IsPaging p → pages_for p most ≤ p.pages
         → IsServed p (HasAtMost p most) }

@@ -22,7 +22,7 @@ use quota_model::{Need, count_in_all, first_large};
 /// words, `Blocks` if it exchanges blocks. The pages and the bound of the settings don't matter.
 ///
 /// `value`: for each class the objects over the slots of a page, rounded up, summed. `enough`: with
-/// so many pages none is refused, whatever the calls were and in whatever order. `least`: with fewer
+/// this number none is refused, whatever the calls were and in whatever order. `least`: with fewer
 /// pages some run within the needs has a malloc that is refused for space. `quota`: for a task it is
 /// the least quota for which `admit` returns `Yes`. `some`: the result is None if and only if an
 /// object is larger than a page, or the counts sum to more than the proxies.
@@ -49,7 +49,7 @@ pub fn least_pages(s: &Settings, layout: Layout, needs: &[Need]) -> Option<u32>
 }
 
 /// The pages that the modes of a program need, with one mode more, in which it keeps to `needs`:
-/// `pages` are those of the modes so far, 0 before the first. If every bound is 1, so many pages are
+/// `pages` are those of the modes so far, 0 before the first. If every bound is 1, this number is
 /// enough, and with fewer some malloc is refused for space (`pages_for_modes_serve_at_bound_one`,
 /// `fewer_pages_for_modes_refuse`). None as for `least_pages`.
 pub fn pages_with_mode(s: &Settings, layout: Layout, pages: u32, needs: &[Need]) -> Option<u32>

@@ -1,7 +1,7 @@
 //! Sizing: how many pages a program needs so that no malloc is refused for space, whatever the order
 //! of its calls. The program declares what it has live at most: objects by length, in one or several
 //! modes, or a budget. `least_pages`, `pages_with_mode` and `pages_needed` compute the number;
-//! `is_certificate`, `is_budget_level` and `is_budget_certificate` test one that an unproved planner
+//! `is_certificate`, `are_budget_levels` and `is_budget_certificate` test one that an unproved planner
 //! found. The functions without arguments do nothing, and their contracts are laws.
 #![tactic(auto)]
 
@@ -23,7 +23,7 @@ pub use budget::{
     fewer_pages_than_a_budget_affords_refuse, pages_for_a_budget_serve,
     pages_that_a_budget_affords_serve,
 };
-pub use budget_certificate::{is_budget_certificate, is_budget_level};
+pub use budget_certificate::{are_budget_levels, is_budget_certificate};
 pub use by_numbers::{NeedsFault, is_certified, pages_needed};
 pub use certificate::{ENTRIES, ModeNeeds, PointPages, is_certificate};
 pub use heaps::{

@@ -65,7 +65,7 @@ fn needs_in_both(needs: &[Need; ENTRIES], others: &[Need; ENTRIES]) -> [Need; EN
     both
 }
 
-/// Of entry i, as many as the others declare beyond the entries after it.
+/// Entry i with its count, but at most what the others declare of its length beyond the entries after it.
 fn entry_in_both(needs: &[Need; ENTRIES], others: &[Need; ENTRIES], i: usize) -> Need
     requires { i < 64 }
     ensures { result ≡ entry_of needs.now others.now i }
@@ -78,7 +78,7 @@ fn entry_in_both(needs: &[Need; ENTRIES], others: &[Need; ENTRIES], i: usize) ->
     }
 }
 
-/// How many objects of so many bytes the needs declare.
+/// How many objects of `bytes` bytes the needs declare.
 fn count_of(needs: &[Need], bytes: u32) -> u64
     requires few { length needs.now ≤ 64 }
     ensures { result ≡ declared needs.now bytes }

@@ -1,8 +1,8 @@
-//! Tests of `least_pages`, `pages_with_mode`, `is_certificate`, `is_certified` and `is_budget_level` against numbers worked out by
+//! Tests of `least_pages`, `pages_with_mode`, `is_certificate`, `is_certified` and `are_budget_levels` against numbers worked out by
 //! hand.
 use cf_base::{Layout, Settings};
 use sizing::{
-    CLASSES, ENTRIES, ModeNeeds, Need, PointPages, is_budget_level, is_certificate, is_certified,
+    CLASSES, ENTRIES, ModeNeeds, Need, PointPages, are_budget_levels, is_certificate, is_certified,
     least_pages, pages_with_mode,
 };
 use std::test::Fail;
@@ -129,21 +129,28 @@ fn a_resize_within_a_class_keeps_an_object_more(rt: HostRuntime) -> Result<(), F
     Ok(())
 }
 
-// The objects of class 11, two to a page, cost 100 each, all others more than the budget of 400. If one page may be
-// partly full, the pages cost 100, 200 and 200: two are paid. If two may be, they cost 100, 100 and 200: three are.
+// The objects of the classes 11 and 12, two to a page, cost 100 each, all others more than the budget of 500. If one page may
+// be partly full, an object of class 12 and four of class 11 take three pages. If two may be, two objects of class 12, left of
+// three, and three of class 11 take four.
 #[test]
 fn a_greater_bound_needs_a_page_more(rt: HostRuntime) -> Result<(), Fail> {
-    let mut prices = [401; 20];
+    let mut prices = [501; 20];
     prices[11] = 100;
+    prices[12] = 100;
+    let mut levels = [0; 20];
+    levels[11] = 200;
+    levels[12] = 200;
+    let mut high = levels;
+    high[12] = 201;
     let ones = [1; 20];
     let twos = [2; 20];
     let found = [
-        is_budget_level(1, 512, Layout::Words, &ones, &prices, 400, 200),
-        is_budget_level(2, 512, Layout::Words, &ones, &prices, 400, 200),
-        is_budget_level(2, 512, Layout::Words, &twos, &prices, 400, 200),
-        is_budget_level(3, 512, Layout::Words, &twos, &prices, 400, 200),
-        is_budget_level(3, 512, Layout::Words, &twos, &prices, 400, 201),
-        is_budget_level(3, 512, Layout::Words, &twos[1..], &prices, 400, 200),
+        are_budget_levels(2, 512, Layout::Words, &ones, &prices, 500, &levels),
+        are_budget_levels(3, 512, Layout::Words, &ones, &prices, 500, &levels),
+        are_budget_levels(3, 512, Layout::Words, &twos, &prices, 500, &levels),
+        are_budget_levels(4, 512, Layout::Words, &twos, &prices, 500, &levels),
+        are_budget_levels(4, 512, Layout::Words, &twos, &prices, 500, &high),
+        are_budget_levels(4, 512, Layout::Words, &twos[1..], &prices, 500, &levels),
     ];
     assert_eq!(rt; found, [false, true, false, true, false, false], "budgets");
     Ok(())

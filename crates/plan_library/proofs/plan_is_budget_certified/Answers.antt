@@ -3,8 +3,8 @@ use Rattle.cf_base.specs.Classes.{sizes}
 use Rattle.plan_library.proofs.plan_is_budget_certified.Goals as goal
 
 pub returns-clause-exact : goal.returns-clause-exact
-returns-clause-exact c = λ p set ok ones pages words all one another.
-    c.is_budget_certificate.ensures.exact p set ok ones pages words (all ∙ sym (ap (sizes (c.args.page_bytes / 8)) c.slots_if.ensures)) one another
+returns-clause-exact c = λ p set ok ones pages words all one other another.
+    c.is_budget_certificate.ensures.exact p set ok ones pages words (all ∙ sym (ap (sizes (c.args.page_bytes / 8)) c.slots_if.ensures)) one other another
 
 pub returns-clause-mallocs : goal.returns-clause-mallocs
 returns-clause-mallocs c = λ yes s cost fresh ones slots words le prices.

@@ -1,5 +1,4 @@
-use Rattle.std.proofs.Common.{◌≡◌, arith, length, refl, rules}
-use Rattle.std.proofs.lemmas.Bool.{false≢true}
+use Rattle.std.proofs.Common.{◌≡◌, arith, length, rules}
 use Rattle.std.proofs.lemmas.Grind.{common_steps}
 use Rattle.sizing.specs.Checks.{paging_with}
 use Rattle.sizing.proofs.CheckedPoints.{all_rows, certified, none_without}

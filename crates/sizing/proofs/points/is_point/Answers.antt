@@ -1,10 +1,10 @@
-use Rattle.std.proofs.Common.{◌≤◌, ap, arith, below_more, refl, rules, slice_index, subst, sym, ◌∙◌}
+use Rattle.std.proofs.Common.{◌≤◌, arith, below_more, refl, rules, slice_index, subst, sym}
 use Rattle.std.proofs.lemmas.Bool.{false≢true}
 use Rattle.std.proofs.lemmas.Grind.{common_steps}
 use Rattle.std.proofs.lemmas.List.{length-map}
 use Rattle.page_model.specs.Counts.{ceil_div}
 use Rattle.page_model.specs.Paging.{slots_of}
-use Rattle.sizing.specs.Checks.{needs_of, paging_with}
+use Rattle.sizing.specs.Checks.{paging_with}
 use Rattle.sizing.specs.declared.certificate.ModeNeeds.{ModeNeeds}
 use Rattle.sizing.proofs.CheckedPoints.{count_at}
 use Rattle.sizing.proofs.points.is_point.Goals as goal
