@@ -4,10 +4,11 @@
  *   program SEED COUNT PAGES PAGEBYTES K PROXIES QUANTUM
  *
  * It runs under qemu, for x86-64 or ARM64. The plugin worst_case_count.c adds 1 to `instructions` for each instruction of
- * the library that runs. A line of output has a call, its code, the instructions, the bytes of stack, the steps, and what
- * its lengths follow from. The calls run on a stack of their own, which is painted before. The functions outside of the
- * library run on the stack of main. After COUNT drawn calls it makes those that are made to be long. Lines `ran OFFSET`
- * come last, for each instruction of the library that ran. */
+ * the library that runs. A line of output has a call, its code, the instructions, the bytes of stack, the steps, what was
+ * counted of its loops (the number of a path and a counter after #, and its most), and what its lengths follow from. The
+ * calls run on a stack of their own, which is painted before. The functions outside of the library run on the stack of
+ * main. After COUNT drawn calls it makes those that are made to be long. Lines `ran OFFSET` come last, for each instruction
+ * of the library that ran. */
 #ifndef WORST_CASE_H
 #define WORST_CASE_H
 #include "norphuen.h"
@@ -25,6 +26,10 @@ static uint8_t buffer[1 << 17];
 static int paint;
 /* The plugin writes here: the instructions, and how often each one ran, by its distance from the library's first byte. */
 volatile uint64_t instructions, ran[1 << 16];
+/* And here what it counts within a call: the number of pairs, the pairs, and the first word of a pair for the next call of a
+ * function outside. */
+enum { PAIRS = 1024 };
+volatile uint64_t turns[2 + 2 * PAIRS];
 /* Calls and bytes of memcpy, memmove and memset, in one call of the library. */
 static uint64_t copied[3][2];
 
@@ -59,9 +64,14 @@ __asm__(".text\ncall_on_stack:\n stp x29, x30, [sp, #-16]!\n" AT
 #endif
 OUTSIDE(memcpy) OUTSIDE(memmove) OUTSIDE(memset) OUTSIDE(rattle_alloc) OUTSIDE(rattle_realloc) OUTSIDE(rattle_dealloc)
 
-void *real_memcpy(void *to, const void *from, size_t n) { copied[0][0]++, copied[0][1] += n; return memcpy(to, from, n); }
-void *real_memmove(void *to, const void *from, size_t n) { copied[1][0]++, copied[1][1] += n; return memmove(to, from, n); }
-void *real_memset(void *to, int byte, size_t n) { copied[2][0]++, copied[2][1] += n; return memset(to, byte, n); }
+static void count_bytes(int function, size_t n) {
+    copied[function][0]++, copied[function][1] += n;
+    if (turns[0] == PAIRS) exit(1);
+    turns[1 + 2 * turns[0]] = turns[1 + 2 * PAIRS], turns[2 + 2 * turns[0]] = n, turns[0]++;
+}
+void *real_memcpy(void *to, const void *from, size_t n) { count_bytes(0, n); return memcpy(to, from, n); }
+void *real_memmove(void *to, const void *from, size_t n) { count_bytes(1, n); return memmove(to, from, n); }
+void *real_memset(void *to, int byte, size_t n) { count_bytes(2, n); return memset(to, byte, n); }
 nph_block real_rattle_alloc(size_t bytes, size_t align) {
     if (!allocations_left) return (nph_block){false, (void *)align};
     allocations_left--;
@@ -76,15 +86,15 @@ void real_rattle_dealloc(void *at) { free(at); }
 
 /* Makes a call of the library, and prints the first words of its line. `returns` is false of a call that returns nothing. */
 static int32_t make_call(const char *name, void *function, const uint64_t *arguments, bool returns) {
-    uint64_t counted, moved[3][2];
+    uint64_t counted, pairs, moved[3][2];
     unsigned char *low = stack, *top = stack + STACK - 64;
     int32_t code;
     trampoline = (struct trampoline){(uint64_t)function, {0}, (uint64_t)top, 0, 0, 0};
     memcpy(trampoline.arguments, arguments, sizeof trampoline.arguments);
-    instructions = 0;
+    instructions = turns[0] = 0;
     memset(copied, 0, sizeof copied);
     code = call_on_stack();
-    counted = instructions;
+    counted = instructions, pairs = turns[0];
     memcpy(moved, copied, sizeof moved);
     for (uint64_t word; low < top && (memcpy(&word, low, 8), word == paints[paint] * 0x0101010101010101u);) low += 8;
     while (low < top && *low == paints[paint]) low++;
@@ -92,6 +102,7 @@ static int32_t make_call(const char *name, void *function, const uint64_t *argum
     memset(stack, paints[paint], STACK);
     printf("%s %" PRId32 " %" PRIu64 " %d %" PRIu64, name, returns ? code : 0, counted, (int)(top - low), last_steps());
     for (int i = 0; i < 3; i++) printf(" %" PRIu64 " %" PRIu64, moved[i][0], moved[i][1]);
+    for (uint64_t i = 0; i < pairs; i++) printf(" #%" PRIu64 " %" PRIu64, turns[1 + 2 * i], turns[2 + 2 * i]);
     return code;
 }
 #define CALL(name, function, ...) make_call(name, (void *)function, (const uint64_t[6]){__VA_ARGS__}, true)

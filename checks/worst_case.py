@@ -8,6 +8,8 @@ ARCHIVES has NAME.PROCESSOR.a for each library and processor. --write writes doc
            seven settings, under qemu. No call takes more instructions, more bytes of memcpy, memmove or memset, or more
            stack than its bound. The longest of each kind is within NEAR of its bound, and the deepest stack is the
            computed one, but for those of SHALLOW.
+ turns     No loop has more turns, and no call of memcpy, memmove or memset more bytes than its note has for the call's lengths.
+           With one less in a note that some call reaches, the calls are above it; the others are printed.
  left out  No block ran that the bounds leave out.
  refused   Wrong notes, and libraries that have no bound, are refused by a line that names what to look at.
  clauses   Each clause that a note trusts is one of the function it names, and the header has each duty of the caller.
@@ -35,9 +37,10 @@ loader = importlib.machinery.SourceFileLoader("worst_case", str(TOP / "tools/wor
 tool = importlib.util.module_from_spec(importlib.util.spec_from_loader("worst_case", loader))
 loader.exec_module(tool)
 sys.modules["worst_case"] = tool  # so that a Fault gets from one process to another
+from worst_case_turns import Turns  # noqa: E402
 
 # PAGES, PAGEBYTES, K, PROXIES, QUANTUM
-SETTINGS = [(16, 512, 1, 64, 7), (8, 512, 3, 16, 64), (24, 2048, 2, 200, 30), (16, 4096, 1, 256, 1000), (4, 16384, 1, 64, 1), (3, 131072, 1, 32, 16384)]
+SETTINGS = [(16, 512, 1, 64, 7), (8, 512, 3, 16, 64), (24, 2048, 2, 200, 30), (16, 4096, 1, 256, 1000), (4, 16384, 1, 64, 1), (3, 131072, 1, 32, 16384), (2, 512, 1, 4, 1)]
 # The setting of the column "longest seen".
 SHOWN = (16, 16384, 1, 4096, 256)
 NEAR = Fraction(11, 10)
@@ -88,7 +91,7 @@ def fail(text):
 MACHINES = {tool.X86: ("gcc", "", "qemu-x86_64"), tool.ARM: ("aarch64-linux-gnu-gcc", "aarch64-linux-gnu-", "qemu-aarch64")}
 
 
-def build(room, name, library):
+def build(room, name, library, turns):
     """The command that makes the calls, and where each function of the library stands behind its first one."""
     compiler, prefix, emulator = MACHINES[library.processor]
     begin = f"{room}/{name}.{library.processor}"
@@ -111,8 +114,10 @@ def build(room, name, library):
     strangers = {symbol for at, symbol in code if first <= at < past} - symbols
     if strangers:
         raise tool.Fault(f"{name}: {sorted(strangers)[0]} stands within the library's code")
-    words = f"{plugin},first={first:x},past={past:x},instructions={places['instructions']:x},ran={places['ran']:x}"
-    return [emulator, "-B", "0", "-cpu", "max", "-plugin", words, begin], {
+    watched = turns.watched(lambda function, one: places[function.symbol] + one.at - function.place[2])
+    Path(f"{begin}.watched").write_text("".join(f"{line}\n" for line in watched), encoding="utf-8")
+    words = {"first": f"{first:x}", "past": f"{past:x}", "watched": f"{begin}.watched", **{word: f"{places[word]:x}" for word in ("instructions", "ran", "turns")}}
+    return [emulator, "-B", "0", "-cpu", "max", "-plugin", ",".join([plugin, *map("=".join, words.items())]), begin], {
         name: places[function.symbol] - first for name, function in library.functions.items()}
 
 
@@ -176,8 +181,8 @@ def case_of(kind, fields):
 class Seen:
     """Of each kind of call the one that is nearest to its bound, the longest one, the deepest stack, and the number of calls."""
 
-    def __init__(self, about, bounds):
-        self.about, self.bounds, self.nearest, self.longest, self.opened = about, bounds, {}, {}, {}
+    def __init__(self, about, bounds, turns=None):
+        self.about, self.bounds, self.turns, self.nearest, self.longest, self.opened = about, bounds, turns, {}, {}, {}
         self.deepest, self.count, self.known = collections.Counter(), 0, {}
 
     def most(self, row, at):
@@ -185,21 +190,24 @@ class Seen:
         key = (row, *at.values())
         if key not in self.known:
             own, outside = self.bounds[row]
-            self.known[key] = max(int(tool.value_at(poly, at)) for poly in own), [
+            self.known[key] = max((int(tool.value_at(poly, at)) for poly in own), default=0), [
                 (what, int(tool.value_at(outside.get(what, {}), at))) for name in ("memcpy", "memmove", "memset") for what in (name, f"{name} bytes")]
         return self.known[key]
 
     def take(self, line, times=1):
         """What is above its bound in this call, which was made so many times."""
         kind, code, counted, stack, steps, *rest = line.split()
-        counted, steps, moved = int(counted), int(steps), list(map(int, rest[:6]))
-        fields = {"memmoves": moved[2], **dict(zip(rest[6::2], map(int, rest[7::2])))}
+        counted, steps, moved, words = int(counted), int(steps), list(map(int, rest[:6])), list(zip(rest[6::2], map(int, rest[7::2])))
+        fields = {"memmoves": moved[2], **{word: number for word, number in words if word[0] != "#"}}
         call, done = f"nph_{kind}", code == "0"
         row = f"{call} {case_of(kind, fields)}"
         row = row if done and row in self.bounds else call
         self.count += times
         self.deepest[call] = max(self.deepest[call], int(stack))
-        most, outside = self.most(row, lengths(self.about, kind, done, fields, steps))
+        at = lengths(self.about, kind, done, fields, steps)
+        if self.turns:
+            self.turns.take(at, [(int(word[1:]), number) for word, number in words if word[0] == "#"])
+        most, outside = self.most(row, at)
         if row not in self.nearest or most * self.nearest[row][1] < self.nearest[row][0] * counted:
             self.nearest[row] = (most, counted, line.strip())
         self.longest[row] = max(self.longest.get(row, (0, 0)), (counted, most))
@@ -224,8 +232,9 @@ def run(command, settings, count, seed=1):
 
 def counted(name, library, notes, bounds, stacks, room, count):
     """What was seen in all calls, and the calls of the shown setting, each once."""
-    command, starts = build(room, name, library)
-    seen, ran, name = Seen(LIBRARIES[name], bounds), set(), f"{name}, {library.processor}"
+    turns = Turns(library, notes)
+    command, starts = build(room, name, library, turns)
+    seen, ran, name = Seen(LIBRARIES[name], bounds, turns), set(), f"{name}, {library.processor}"
     with concurrent.futures.ThreadPoolExecutor(4) as pool:
         shown = pool.submit(run, command, SHOWN, count)
         runs = [pool.submit(run, command, settings, count, seed) for seed, settings in enumerate(SETTINGS, 1)]
@@ -237,13 +246,15 @@ def counted(name, library, notes, bounds, stacks, room, count):
                 for text in seen.take(line, times):
                     fail(f"{name}: {text}")
     never_ran(name, library, notes, starts, ran)
+    for text in turns.faults(notes):
+        fail(f"{name}: {text}")
     for row in bounds:
         most, number, line = seen.nearest.get(row, (0, 0, ""))
         if any(other.startswith(row + " ") for other in bounds):
             continue  # its cases are compared
         if not line:
             fail(f"{name}: no call of {row} was made")
-        elif most > NEAR * number and (library.name, row) not in far_rows():
+        elif most > NEAR * number:
             fail(f"{name}: no call of {row} is near its bound; the nearest has {most}: {line}")
         if "SHOW" in os.environ:
             print(f"{name} {row}: {most / number if number else 0:.3f} {most} {line}")
@@ -259,10 +270,6 @@ def counted(name, library, notes, bounds, stacks, room, count):
     return seen, sorted({line for line in shown.result() if not line.startswith("ran ")})
 
 
-def far_rows():
-    return {(name, "nph_" + call.replace(", ", " ")) for name, about in LIBRARIES.items() for short, call in FAR if short == about.short}
-
-
 def refuses(what, words, archive, notes):
     """The tool refuses these notes or this library, by a line with the words."""
     done = subprocess.run(["tools/worst_case", archive, "--notes", notes], capture_output=True, text=True, check=False)
@@ -271,7 +278,7 @@ def refuses(what, words, archive, notes):
     return 1
 
 
-def mutations(name, library, room, lines):
+def mutations(name, library, room, lines, turns):
     """Notes that are wrong, each in one way: the tool refuses them, or a counted call is above their bound."""
     column, file = tool.PROCESSORS.index(library.processor), Path(room) / f"{name}.wrong"
     text, count = Path(f"{tool.NOTES}/{name}").read_text(encoding="utf-8"), 0
@@ -291,21 +298,29 @@ def mutations(name, library, room, lines):
             write(number, change)
             count += refuses(f"{name}, {library.processor}: {what}", words, library.path, str(file))
 
+    def found(number, change):
+        """The changed notes, and their bounds."""
+        write(number, change)
+        wrong = tool.Notes(str(file), library.processor)
+        return wrong, tool.Bounds(library, wrong)
+
+    def function_of(number):
+        """The function that the line with this number is of."""
+        return next(line.name for line in reversed(read()[:number]) if line.kind == "function")
+
     def is_found(number, change):
         """Whether a counted call is above the bound of the changed notes of a function: one of those that lead to it."""
-        write(number, change)
-        found = tool.Bounds(library, tool.Notes(str(file), library.processor))
-        function = next(line.name for line in reversed(read()[:number]) if line.kind == "function")
-        seen = Seen(LIBRARIES[name], {row: tool.split_cost(cost) for row, cost in found.bounds(function).items()})
-        return not found.problems and any(text for line in lines if f"nph_{line.split()[0]}" in seen.bounds for text in seen.take(line))
+        _, wrong = found(number, change)
+        seen = Seen(LIBRARIES[name], {row: tool.split_cost(cost) for row, cost in wrong.bounds(function_of(number)).items()})
+        return not wrong.problems and any(text for line in lines if f"nph_{line.split()[0]}" in seen.bounds for text in seen.take(line))
 
     def put(place):
         return lambda line: line.columns[column].__setitem__(0, place)
 
-    def less(turns):
+    def less(times):
         def change(line):
             by = re.search(r" by (\d+)$", line.columns[column][0])
-            line.formula += f" - {turns * int(by[1] if by else 1)}"
+            line.formula += f" - {times * int(by[1] if by else 1)}"
         return change
 
     lengths = [(n, line) for n, line in notes if line.kind in ("loop", "call") and re.search(r"\b[a-z]\b", line.formula) and "=" not in line.formula]
@@ -316,6 +331,15 @@ def mutations(name, library, room, lines):
     if not small:
         fail(f"{name}, {library.processor}: no length can be made too small so that a counted call is above the bound")
     count += small
+    # A block that never runs in a call, in another call of the function.
+    for number, line in notes:
+        for call, (block, _) in enumerate(library.functions[function_of(number)].calls if line.kind == "never" and line.name else (), 1):
+            right = line.columns[column][0]
+            moved = re.sub(r"in call .*", f"in call {call}.{block.sum}", right)
+            wrong, bounds = found(number, put(moved))
+            if moved != right and not bounds.problems and not any(turns.faults(wrong)):
+                fail(f"{name}, {library.processor}: in place of '{right}' the notes may have '{moved}'")
+            count += moved != right
     loop, call, never = first("loop"), first("call"), first("never")
     place = lambda number: read()[number].columns[column][0]
     try_one("a loop without a note", "has no note", loop, lambda line: line.columns[column].pop(0))
@@ -327,6 +351,19 @@ def mutations(name, library, room, lines):
     try_one("a wrong stride", "changes no register by 4711", strided := first("loop", " by "), lambda line: put(re.sub(r"by .*", "by 4711", place(strided)))(line))
     try_one("a fact on another block", "stale note: no (block|jump)", never, lambda line: put(re.sub(r"\.\w+$", ".0000", place(never)))(line))
     return count
+
+
+def lower_notes(name, library, turns):
+    """With a turn or a byte less in a note, counted calls are above it. Returns the number of such notes, and those that no call
+    reaches."""
+    reached, far = turns.reached(), []
+    for counter in turns.counters:
+        text = f"{name}, {library.processor}: {counter.kind} {counter.number} of {counter.function}"
+        if counter in reached and not turns.is_found(counter):
+            fail(f"{text}: with one less in its note no counted call is above it")
+        if counter not in reached and counter.kind != "inside":
+            far.append(f"{text}: {turns.nearest(counter)}")
+    return len(reached), far
 
 
 # Libraries that have no bound, in C, and words of the line that says so.
@@ -375,7 +412,7 @@ def clauses(name, notes):
     """Each clause that a note trusts is one of the function that it names, and the header has the words of a duty. Without a kit
     its clauses are not looked up."""
     for function, note in notes.functions.items():
-        for place, (_, (where, *words)) in [*note["never"].items(), *note["jump"].items()]:
+        for place, (_, (where, *words)) in [*note["never"].items(), *note["jump"].items(), *note["inside"].items()]:
             if "/" in where:
                 text = Path(where).read_text(encoding="utf-8")
                 found = all(word in text for word in words)
@@ -408,10 +445,9 @@ STEPS = {
 }
 
 
-def cells_of(about, bounds, stacks, lines):
-    """Of each call its cells in docs/BOUNDS.md: instructions, the longest call seen with its bound if that varies, stack. And the
-    calls of which none comes near the bound."""
-    seen, cells, far = Seen(about, bounds), {}, set()
+def cells_of(name, bounds, stacks, lines):
+    """Of each call its cells in docs/BOUNDS.md: instructions, the longest call seen with its bound if that varies, stack."""
+    seen, cells = Seen(LIBRARIES[name], bounds), {}
     for line in lines:
         for _ in seen.take(line):
             pass
@@ -423,15 +459,10 @@ def cells_of(about, bounds, stacks, lines):
             longest = f"{number:,}" if bound.isdigit() else f"{number:,} of {most:,}"
             cells[call] = (bound, longest, f"{stacks[row.split()[0]]:,}")
             if most > NEAR * number:
-                far.add((about.short, call))
-    return cells, far
+                fail(f"{name}: with the shown setting the longest {call} takes {number}, its bound is {most}")
+    return cells
 
 
-# Why the longest call that was seen in the shown setting is not within NEAR of its bound.
-TWICE = "the bound counts two objects that begin to move, at the free and at the end of its job; but a job of the same free begins no other"
-FAR = {
-    ("sliced", "free, move"): TWICE,
-}
 # docs/BOUNDS.md in front of its tables, and between the two.
 HEAD = """`checks/worst_case --write` writes this page, and `checks/worst_case` compares it.
 
@@ -463,10 +494,6 @@ HEAD = """`checks/worst_case --write` writes this page, and `checks/worst_case` 
 | library | call | steps | instructions, x86-64 | longest | stack | instructions, ARM64 | longest | stack |
 |---|---|---|---|---|---|---|---|---|
 """
-WHY = """
-Where the longest call is not within a tenth of the bound:
-
-"""
 SUMS = """
 Sums of the code that was bounded, which `tools/worst_case` prints:
 
@@ -495,8 +522,7 @@ def document(cells, codes, writes):
     path = Path("docs/BOUNDS.md")
     sums = [" | ".join([f"| `lib{name}.a`", *(codes[name, processor] for processor in tool.PROCESSORS)]) + " |\n" for name in LIBRARIES]
     lacking = [f"\nNo bounds are computed of `lib{name}.a`.\n" for name in NO_NOTES]
-    why = [f"- `{short}` {call}: {reason}\n" for (short, call), reason in FAR.items()]
-    whole = "".join([HEAD, *(row for name in LIBRARIES for row in rows_of(name, cells)), *([WHY, *why] if why else []), *lacking, SUMS, *sums])
+    whole = "".join([HEAD, *(row for name in LIBRARIES for row in rows_of(name, cells)), *lacking, SUMS, *sums])
     if writes:
         path.write_text(whole, encoding="utf-8")
         subprocess.run(["tools/index", "--write"], check=True)  # docs/CALLS.md has the steps too
@@ -509,8 +535,8 @@ def document(cells, codes, writes):
 
 
 def checked(name, processor, count, archives, room):
-    """Checks a library for a processor. Returns the sum of its code, its cells of docs/BOUNDS.md, the calls of which none comes near
-    the bound, the number of counted calls and of wrong notes."""
+    """Checks a library for a processor. Returns the sum of its code, its cells of docs/BOUNDS.md, the number of counted calls, the lengths
+    in the notes that some call reaches and those that none does, and the number of wrong notes."""
     library = tool.Library(f"{archives}/{name}.{processor}.a", name)
     notes = tool.Notes(f"{tool.NOTES}/{name}", processor)
     found = tool.Bounds(library, notes)
@@ -526,9 +552,9 @@ def checked(name, processor, count, archives, room):
             fail(f"{name}, {processor}: {call} has a loop, or is not there")
     stacks = {export: row["stack"] for export, row in table.items()}
     seen, lines = counted(name, library, notes, bounds, stacks, room, count)
-    cells, far = cells_of(LIBRARIES[name], bounds, stacks, lines)
+    cells = cells_of(name, bounds, stacks, lines)
     clauses(name, notes)
-    return library.code, cells, far, seen.count, mutations(name, library, room, lines)
+    return library.code, cells, seen.count, *lower_notes(name, library, seen.turns), mutations(name, library, room, lines, seen.turns)
 
 
 def alone(room, work, *words):
@@ -550,15 +576,16 @@ def main():
         done = {job: future.result() for job, future in jobs.items()}
     failed.extend(text for _, texts in done.values() for text in texts)
     wrong, _ = done.pop("unbounded")
-    codes, cells, far, total = {}, {}, set(), 0
-    for job, ((codes[job], cells[job], more, calls, refused), _) in done.items():
-        far, total, wrong = far | more, total + calls, wrong + refused
-    for short, call in sorted(far ^ FAR.keys()):
-        fail(f"the longest {call} of {short} is not near its bound, or FAR should not say why")
+    codes, cells, total, reached, unreached = {}, {}, 0, 0, []
+    for job, ((codes[job], cells[job], calls, met, unmet, refused), _) in done.items():
+        total, reached, unreached, wrong = total + calls, reached + met, unreached + unmet, wrong + met + refused
+    for text in unreached:
+        print(f"checks/worst_case: no call reaches the length of {text}", file=sys.stderr)
     document(cells, codes, bool(rest))
     if failed:
         sys.exit(1)
-    print(f"checks/worst_case: of {total:,} counted calls none is above its bound, and {wrong} wrong notes and libraries are refused", file=sys.stderr)
+    print(f"checks/worst_case: of {total:,} counted calls none is above its bound, nor above one of {reached + len(unreached)} lengths in the notes, of which "
+          f"{reached} are reached; {wrong} wrong notes and libraries are refused", file=sys.stderr)
 
 
 try:
