@@ -1,0 +1,5 @@
+pub mod Places
+pub mod Sent
+mod Naming
+mod Lengths
+mod Loading
