@@ -3,3 +3,5 @@ pub mod Sent
 mod Naming
 mod Lengths
 mod Loading
+mod ObjectsByIds
+mod ThereAndBack

@@ -1,9 +1,10 @@
 -- What a caller in C has for a heap whose objects have ids, and what an exported call does to it. `None` is a closed heap, `Some` the state of an open one.
 use Rattle.std.specs.Prelude.{◌≡◌, ◌⊎◌, ℕ, ℤ, pos, List, Option, Some, None}
-use Rattle.cf_base.specs.Settings.{Profile, profile_from, setting_fault}
+use Rattle.cf_base.specs.Settings.{Profile, at_bound_one, profile_from, setting_fault}
 use Rattle.cf_base.specs.declared.settings.SettingFault.{SettingFault}
 use Rattle.c_base.specs.Codes.{fault_code}
 use Rattle.heap_image.specs.Decoded.{IsBroken}
+use Rattle.heap_image.specs.Heaps.{live_objects}
 use Rattle.id_table.specs.Sessions.{RunState}
 use Rattle.held_images.specs.Calls.{HoldsImage, IsFreshRun}
 
@@ -44,3 +45,8 @@ IsLoaded bytes before code after (Some h) = (code ≡ pos 0) × (after ≡ befor
 abbrev pub IsLoadCall : Option RunState → List ℕ → ℕ → ℤ → ℕ → Option RunState → Type 0
 IsLoadCall None bytes before code after new = IsLoaded bytes before code after new
 IsLoadCall (Some h) bytes before code after new = (code ≡ pos 8) × (after ≡ before) × (new ≡ Some h)
+
+-- what a load of the image of `s` left: a heap with its settings, but with the bound 1, and its objects by id; or, if out of memory, a closed heap
+abbrev pub IsLoadedAgain : RunState → ℤ → Option RunState → Type 0
+IsLoadedAgain s code None = code ≡ pos 10
+IsLoadedAgain s code (Some h) = (code ≡ pos 0) × (h.heap.profile ≡ at_bound_one s.heap.profile) × (live_objects h ≡ live_objects s)

@@ -1,6 +1,6 @@
 -- For `HeldImages`: what each call of a C library does to an open heap whose objects have ids (`old`, `new`), and to the caller's number or buffer (`before`, `after`), and the
 -- `code` that it returns. A refused call changes nothing.
-use Rattle.std.specs.Prelude.{◌≡◌, ℕ, ◌<◌, ◌≤◌, ◌⊎◌, ◌++◌, ⊤, ℤ, pos, true, List, Option, Some, None, Result, Err, drop, length}
+use Rattle.std.specs.Prelude.{◌≡◌, ℕ, ◌<◌, ◌≤◌, ◌⊎◌, ◌++◌, ⊤, ℤ, pos, true, List, Option, Some, None, Result, Err, drop, length, take}
 use Rattle.std.specs.FinMap.{get}
 use Rattle.cf_base.specs.Settings.{Profile}
 use Rattle.cf_base.specs.declared.answers.AccessFault.{AccessFault}
@@ -81,6 +81,10 @@ pub record IsImageBytesCall (old : RunState) (code : ℤ) (after : ℕ) (new : R
 pub record Saved : Type 0 where
   pub out : List ℕ
   pub written : ℕ
+
+-- the bytes written by a save
+abbrev pub image_in : Saved → List ℕ
+image_in s = take s.written s.out
 
 -- A save of the heap into the caller's buffer. 0: the buffer begins with the image, and its other bytes are unchanged. 5 (`RANGE`): the image is longer than the buffer. The heap is unchanged.
 abbrev pub IsSaveCall : RunState → Saved → ℤ → Saved → RunState → Type 0
