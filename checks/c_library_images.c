@@ -1,5 +1,6 @@
 /* Drawn calls through the library of images do what a plain model does: c_library_images CALLS SEED. The model has the bytes under each
- * id, makes the image of them itself, and reads damaged images by the format's rules. */
+ * id, makes the image of them itself, and reads damaged images by the format's rules. Memory is refused too, at each block of an open or
+ * a load; no other call takes any. */
 #include "norphuen.h"
 #include <stdio.h>
 #include <stdlib.h>
@@ -14,6 +15,9 @@ static object objects[IDS]; /* by rising id */
 static uint32_t pages, page_bytes, k, live, call;
 static uint8_t image[MOST_IMAGE + 64], given[MOST_IMAGE + 64];
 static uint64_t state;
+/* What was asked for since the heap was last closed, the blocks that were not returned, and the number of blocks until one is refused. */
+static nph_needed asked;
+static uint32_t taken, left = UINT32_MAX;
 
 static void fail(const char *what, long seen, long wanted) {
     fprintf(stderr, "call %u: %s is %ld, not %ld\n", call, what, seen, wanted);
@@ -26,6 +30,41 @@ static void same(const char *what, long seen, long wanted) {
 static uint32_t drawn(uint32_t below) {
     state = state * 6364136223846793005u + 1442695040888963407u;
     return (uint32_t)(state >> 33) % below;
+}
+
+nph_block rattle_alloc(size_t bytes, size_t align) {
+    nph_block block = {left > 0, &state};
+    if (left == 0) return block;
+    left--, taken++;
+    block.at = aligned_alloc(align, (bytes + align - 1) / align * align);
+    asked.total += bytes, asked.blocks++;
+    if (asked.largest < bytes) asked.largest = bytes;
+    if (block.at == NULL) fail("the memory", 0, 1);
+    return block;
+}
+nph_block rattle_realloc(void *at, size_t kept, size_t bytes, size_t align) {
+    (void)at, (void)kept, (void)bytes, (void)align;
+    fail("a call of rattle_realloc", 1, 0);
+    exit(1);
+}
+void rattle_dealloc(void *at) {
+    taken--;
+    free(at);
+}
+
+static void close_heap(void) {
+    nph_images_close(&heap);
+    same("blocks not returned", taken, 0);
+    memset(&asked, 0, sizeof asked);
+}
+/* What was asked for is what bytes_needed writes. */
+static void needed_now(uint32_t bound) {
+    nph_needed needed;
+    same("bytes_needed", nph_images_bytes_needed(pages, page_bytes, bound, PROXIES, &needed), NPH_OK);
+    same("bytes asked for", (long)asked.total, (long)needed.total);
+    same("blocks asked for", asked.blocks, needed.blocks);
+    same("the largest block", (long)asked.largest, (long)needed.largest);
+    left = 0; /* no other call takes memory */
 }
 
 /* The pages that objects need, `counts` of each size class of pages of `words` words. */
@@ -103,7 +142,14 @@ static long broken(size_t count) {
 static void open_heap(void) {
     pages = 4 + drawn(20), page_bytes = 512u << drawn(2), k = drawn(2) ? 1 : 1 + drawn(4), live = 0;
     for (int i = 0; i < IDS; i++) objects[i].live = 0, objects[i].id = i == 0 ? 0 : i == IDS - 1 ? 65535 : (uint32_t)i * 700 + drawn(700);
-    same("open", nph_images_open(&heap, pages, page_bytes, k, PROXIES), NPH_OK);
+    for (uint32_t blocks = drawn(2) ? 99 : 0;; blocks++) {
+        left = blocks;
+        nph_status status = nph_images_open(&heap, pages, page_bytes, k, PROXIES);
+        if (status == NPH_OK) break;
+        same("open without memory", status, NPH_MEMORY);
+        close_heap();
+    }
+    needed_now(k);
     same("open again", nph_images_open(&heap, pages, page_bytes, k, PROXIES), NPH_OPEN);
 }
 
@@ -191,7 +237,8 @@ static void load(void) {
     size_t bytes = save(), count = bytes;
     uint64_t offset = 7;
     same("load over it", nph_images_load(&heap, given, bytes, &offset), NPH_OPEN);
-    nph_images_close(&heap);
+    close_heap();
+    left = UINT32_MAX;
     if (drawn(4)) {
         switch (drawn(4)) {
         case 0: count = drawn((uint32_t)bytes); break;
@@ -202,11 +249,19 @@ static void load(void) {
         long at = broken(count);
         same("load of a damaged image", nph_images_load(&heap, given, count, &offset), at < 0 ? NPH_OK : NPH_IMAGE);
         same("the offset", (long)offset, at < 0 ? 7 : at);
-        if (at < 0) nph_images_close(&heap);
-        else same("closed then", nph_images_free(&heap, 0), NPH_CLOSED);
+        if (at >= 0) same("closed then", nph_images_free(&heap, 0), NPH_CLOSED);
+        close_heap();
+        offset = 7;
     }
-    same("load", nph_images_load(&heap, image, bytes, &offset), NPH_OK);
-    k = 1;
+    for (uint32_t blocks = drawn(8) ? 99 : 0;; blocks++) {
+        left = blocks;
+        nph_status status = nph_images_load(&heap, image, bytes, &offset);
+        same("the offset", (long)offset, 7);
+        if (status == NPH_OK) break;
+        same("load without memory", status, NPH_MEMORY);
+        close_heap();
+    }
+    needed_now(k = 1);
     (void)save();
 }
 
@@ -226,12 +281,12 @@ int main(int words_given, char **words) {
         default: load(); break;
         }
         if (drawn(2000) == 0) {
-            nph_images_close(&heap);
-            nph_images_close(&heap);
+            close_heap();
+            close_heap();
             open_heap();
         }
     }
-    nph_images_close(&heap);
+    close_heap();
     printf("%u calls\n", calls);
     return 0;
 }
