@@ -76,7 +76,7 @@ LIBRARIES = {
     "norphuen_tasks": About("tasks", "worst_case_tasks.c", (), (1, 4), "version malloc free length set_quota task unassigned"),
 }
 # Libraries that have no notes and so no bounds, which docs/BOUNDS.md says.
-NO_NOTES = []
+NO_NOTES = ["norphuen_images"]
 # The lengths that the notes may use (docs/BOUNDS.md).
 NAMES = "smtcwbfpnqPWQS"
 failed = []

@@ -4,7 +4,7 @@
  * A heap has one region of words of 8 bytes, cut into equal pages. A page in use has slots of one size, a size class; an object
  * takes the smallest slot that holds it and its header of a word. nph_open takes all memory, so that later calls take none. Each
  * call on an open heap takes a bounded number of steps (docs/CALLS.md), accesses to a word or to an entry of a table;
- * nph_last_steps returns the steps of the last one. There are five libraries, and a program may link several:
+ * nph_last_steps returns the steps of the last one. There are six libraries, and a program may link several:
  *
  *   libnorphuen.a            Compact-fit, moving: a free may move one object, whose handle stays the same
  *   libnorphuen_nonmoving.a  Compact-fit, non-moving: a free may exchange entries of a block table. Lends nothing, since
@@ -12,10 +12,11 @@
  *   libnorphuen_tlsf.a       TLSF, for comparison: blocks in place of pages. No object moves or changes its length
  *   libnorphuen_sliced.a     Compact-fit, moving, with frees in slices of a set length: "Frees in slices" below
  *   libnorphuen_tasks.a      Compact-fit, moving, shared by sixteen tasks with quotas: "Heaps of tasks" below. Lends nothing
+ *   libnorphuen_images.a     Compact-fit, moving, with objects under ids, saved and loaded as an image: "Images" below. Lends nothing
  *
  * Each has names and a type of heap of its own: nph_open and nph_heap, nph_nm_open and nph_nm_heap, nph_tlsf_open and
- * nph_tlsf_heap, nph_sliced_open and nph_sliced_heap, nph_tasks_open and nph_tasks_heap, and so on. The comments below speak
- * of the short names, those of the moving library. With the macro
+ * nph_tlsf_heap, nph_sliced_open and nph_sliced_heap, nph_tasks_open and nph_tasks_heap, nph_images_open and nph_images_heap, and
+ * so on. The comments below speak of the short names, those of the moving library. With the macro
  * NPH_USE_NONMOVING or NPH_USE_TLSF, defined before the header is included, the short names mean that library instead.
  *
  * The program defines the three functions rattle_alloc, rattle_realloc and rattle_dealloc, by which the library takes
@@ -65,6 +66,7 @@ typedef struct nph_nm_heap { void *at; uint32_t last; bool is_open; bool is_lent
 typedef struct nph_tlsf_heap { void *at; uint32_t last; bool is_open; bool is_lent; } nph_tlsf_heap;
 typedef struct nph_sliced_heap { void *at; uint32_t last; bool is_open; bool is_lent; } nph_sliced_heap;
 typedef struct nph_tasks_heap { void *at; uint32_t last; bool is_open; } nph_tasks_heap;
+typedef struct nph_images_heap { void *at; bool is_open; } nph_images_heap;
 
 /* A closed heap, to initialize or to assign. A static heap is closed without it; with it gcc -pedantic warns. */
 #ifdef __cplusplus
@@ -73,15 +75,17 @@ typedef struct nph_tasks_heap { void *at; uint32_t last; bool is_open; } nph_tas
 #define NPH_TLSF_HEAP nph_tlsf_heap{}
 #define NPH_SLICED_HEAP nph_sliced_heap{}
 #define NPH_TASKS_HEAP nph_tasks_heap{}
+#define NPH_IMAGES_HEAP nph_images_heap{}
 #else
 #define NPH_HEAP (nph_heap){ NULL, 0, false, false }
 #define NPH_NM_HEAP (nph_nm_heap){ NULL, 0, false, false }
 #define NPH_TLSF_HEAP (nph_tlsf_heap){ NULL, 0, false, false }
 #define NPH_SLICED_HEAP (nph_sliced_heap){ NULL, 0, false, false }
 #define NPH_TASKS_HEAP (nph_tasks_heap){ NULL, 0, false }
+#define NPH_IMAGES_HEAP (nph_images_heap){ NULL, false }
 #endif
 
-/* What a call returns. A call that does not return NPH_OK writes nothing through its pointers. */
+/* What a call returns. A call that does not return NPH_OK writes nothing through its pointers; but see nph_images_load. */
 typedef enum nph_status {
     NPH_OK = 0,
     NPH_SIZE = 1,    /* the object with its header needs more words than a page has */
@@ -103,7 +107,9 @@ typedef enum nph_status {
     NPH_ENTRIES = 17,    /* nph_pages_needed: there are more than 64 needs */
     NPH_BUSY = 18,       /* nph_sliced_free, nph_sliced_lend: a job is pending; nph_sliced_malloc: no slot is left but that of the
                             pending job */
-    NPH_QUANTUM = 19     /* nph_sliced_open: a quantum is 1 to 16384 words */
+    NPH_QUANTUM = 19,    /* nph_sliced_open: a quantum is 1 to 16384 words */
+    NPH_LIVE = 20,       /* nph_images_make: an object has the id already */
+    NPH_IMAGE = 21       /* nph_images_load: the bytes are no image, and `offset` says where */
 } nph_status;
 
 /* A text for a message. */
@@ -129,6 +135,8 @@ static inline const char *nph_text(nph_status status) {
     case NPH_ENTRIES: return "too many needs";
     case NPH_BUSY: return "a job is pending";
     case NPH_QUANTUM: return "quantum out of range";
+    case NPH_LIVE: return "the id has an object already";
+    case NPH_IMAGE: return "no image";
     default: return "no status";
     }
 }
@@ -560,6 +568,50 @@ NPH_CALL_OR_NULL static inline nph_status nph_tasks_free_or_null(nph_tasks_heap 
     return nph_tasks_free(heap, task, handle, freed ? freed : &ignored);
 }
 #define nph_tasks_free(heap, task, handle, freed) nph_tasks_free_or_null(heap, task, handle, freed)
+
+/* Images: libnorphuen_images.a. A program names an object by an id that it chooses, 0 to 65535, in place of a handle. It can save
+ * the whole heap as an image and load it later: the same objects under the same ids. The image of a heap depends on its settings
+ * without k, and on the bytes under each id, but not on how the heap came about. docs/USING.md describes the format.
+ * These calls count no steps. A call on an id without an object, or on an id of more than 16 bits, fails with NPH_UNKNOWN. */
+
+/* Opens a heap as nph_open does. It takes 512 KiB more memory, for the table of ids. */
+NPH_CALL nph_status nph_images_open(nph_images_heap *heap, uint32_t pages, uint32_t page_bytes, uint32_t k, uint32_t proxies);
+
+/* As nph_bytes_needed, for nph_images_open, and for nph_images_load of an image with these settings. */
+NPH_CALL nph_status nph_images_bytes_needed(uint32_t pages, uint32_t page_bytes, uint32_t k, uint32_t proxies, nph_needed *needed);
+
+/* Opens a heap with the settings and the objects of an image of `count` bytes; its k is 1, since an image has none. Fails with
+ * NPH_OPEN, NPH_MEMORY or NPH_IMAGE, and then the heap is closed as before. With NPH_IMAGE it writes into `offset` where the bytes
+ * stop being an image: the first byte of the field that breaks a rule or is cut by the end, or of what follows the image. */
+NPH_CALL nph_status nph_images_load(nph_images_heap *heap, const void *bytes, size_t count, uint64_t *offset);
+
+/* As nph_close. */
+NPH_NONNULL void nph_images_close(nph_images_heap *heap);
+
+/* Makes an object of `bytes` bytes, all zero, under an id. Fails with NPH_UNKNOWN, NPH_LIVE, NPH_SIZE, NPH_PROXY or NPH_SPACE. */
+NPH_CALL nph_status nph_images_make(nph_images_heap *heap, uint32_t id, uint32_t bytes);
+
+/* Frees the object of an id, which may then name another. */
+NPH_CALL nph_status nph_images_free(nph_images_heap *heap, uint32_t id);
+
+/* As nph_write. */
+NPH_CALL nph_status nph_images_write(nph_images_heap *heap, uint32_t id, uint32_t at, const void *bytes, size_t count);
+
+/* As nph_read. */
+NPH_CALL nph_status nph_images_read(nph_images_heap *heap, uint32_t id, uint32_t at, void *bytes, size_t count);
+
+/* As nph_length. */
+NPH_CALL nph_status nph_images_length(nph_images_heap *heap, uint32_t id, uint32_t *bytes);
+
+/* Writes how many bytes the heap's image has: 20, and for each object 6 and its bytes. */
+NPH_CALL nph_status nph_images_image_bytes(nph_images_heap *heap, uint64_t *bytes);
+
+/* Writes the heap's image to the start of a buffer of `count` bytes, and its length into `written`. Fails with NPH_RANGE if the image
+ * has more bytes. The heap stays as it is. */
+NPH_CALL nph_status nph_images_save(nph_images_heap *heap, void *bytes, size_t count, uint64_t *written);
+
+/* As nph_version. */
+uint32_t nph_images_version(void);
 
 /* A block of memory at the address `at`. If out of memory, `ok` is false and `at` is any address but null. */
 typedef struct nph_block {

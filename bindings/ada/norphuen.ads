@@ -44,6 +44,8 @@ package Norphuen is
    Entries    : constant Code := 17;
    Busy       : constant Code := 18;
    Quantum    : constant Code := 19;
+   Live       : constant Code := 20;
+   Image      : constant Code := 21;
 
    --  In place of a handle in Freed and Resized: no object moved.
    None : constant Unsigned_32 := Unsigned_32'Last;

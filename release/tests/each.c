@@ -76,6 +76,33 @@ int main(void) {
     printf("%d.%d.%d\n", NPH_VERSION / 10000, NPH_VERSION / 100 % 100, NPH_VERSION % 100);
     return 0;
 }
+#elif defined EACH_IMAGES
+int main(void) {
+    nph_images_heap heap = NPH_IMAGES_HEAP;
+    nph_needed needed;
+    uint32_t number;
+    uint64_t bytes, offset;
+    char back[6] = "";
+    unsigned char image[300];
+    MUST(nph_images_version() == NPH_VERSION);
+    MUST(nph_images_make(&heap, 7, 8) == NPH_CLOSED);
+    MUST(nph_images_open(&heap, 4, 500, 1, 8) == NPH_PAGE_BYTES && nph_images_open(&heap, 4, 512, 1, 2) == NPH_OK);
+    MUST(nph_images_open(&heap, 4, 512, 1, 2) == NPH_OPEN);
+    MUST(nph_images_bytes_needed(4, 512, 1, 2, &needed) == NPH_OK && needed.total > 4 * 512 && needed.largest <= needed.total);
+    MUST(nph_images_make(&heap, 7, 200) == NPH_OK && nph_images_make(&heap, 7, 8) == NPH_LIVE && nph_images_make(&heap, 3, 8) == NPH_OK);
+    MUST(nph_images_write(&heap, 7, 194, "hello", 6) == NPH_OK && nph_images_length(&heap, 7, &number) == NPH_OK && number == 200);
+    MUST(nph_images_image_bytes(&heap, &bytes) == NPH_OK && bytes == 20 + 6 + 8 + 6 + 200);
+    MUST(nph_images_save(&heap, image, 239, &bytes) == NPH_RANGE && nph_images_save(&heap, image, 300, &bytes) == NPH_OK && bytes == 240);
+    MUST(nph_images_free(&heap, 3) == NPH_OK && nph_images_free(&heap, 3) == NPH_UNKNOWN);
+    nph_images_close(&heap);
+    MUST(nph_images_load(&heap, image, 239, &offset) == NPH_IMAGE && offset == 40);
+    MUST(nph_images_load(&heap, image, 240, &offset) == NPH_OK && nph_images_read(&heap, 7, 194, back, 6) == NPH_OK);
+    MUST(strcmp(back, "hello") == 0 && nph_images_length(&heap, 3, &number) == NPH_OK && number == 8);
+    nph_images_close(&heap);
+    MUST(nph_images_image_bytes(&heap, &bytes) == NPH_CLOSED);
+    printf("%d.%d.%d\n", NPH_VERSION / 10000, NPH_VERSION / 100 % 100, NPH_VERSION % 100);
+    return 0;
+}
 #else
 int main(void) {
     static char all[200];

@@ -23,7 +23,7 @@ pub struct Handle(pub u32);
 /// Why a call fails; the header explains each, `Size` under the name NPH_SIZE.
 #[derive(Clone, Copy, Debug, PartialEq, Eq)]
 #[rustfmt::skip]
-pub enum Error { Size, Proxy, Space, Unknown, Range, Kind, Closed, Open, Lent, Memory, Pages, PageBytes, Bound, Proxies, Region, NotLent, Entries, Busy, Quantum }
+pub enum Error { Size, Proxy, Space, Unknown, Range, Kind, Closed, Open, Lent, Memory, Pages, PageBytes, Bound, Proxies, Region, NotLent, Entries, Busy, Quantum, Live, Image }
 
 /// The memory that `Heap::open` asks for: the bytes of all blocks, those of the largest block, and how many blocks.
 #[repr(C)]
@@ -191,7 +191,9 @@ fn result_of<T>(code: i32, value: T) -> Result<T, Error> {
         16 => NotLent,
         17 => Entries,
         18 => Busy,
-        _ => Quantum,
+        19 => Quantum,
+        20 => Live,
+        _ => Image,
     })
 }
 

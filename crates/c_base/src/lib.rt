@@ -12,9 +12,9 @@ mod unboxed;
 
 pub use answers::{NphClass, NphFreed, NphHeapTotals, NphNeeded, NphResized};
 pub use codes::{
-    BOUND, BUSY, CLOSED, DONE, ENTRIES, KIND, LENT, MEMORY, NONE, NOT_LENT, OPEN, PAGE_BYTES,
-    PAGES, PROXIES, PROXY, QUANTUM, RANGE, REGION, SIZE, SPACE, UNKNOWN, VERSION, of_access,
-    of_refusal, of_resize, of_setting,
+    BOUND, BUSY, CLOSED, DONE, ENTRIES, IMAGE, KIND, LENT, LIVE, MEMORY, NONE, NOT_LENT, OPEN,
+    PAGE_BYTES, PAGES, PROXIES, PROXY, QUANTUM, RANGE, REGION, SIZE, SPACE, UNKNOWN, VERSION,
+    of_access, of_refusal, of_resize, of_setting,
 };
 pub use handles::Handles;
 pub use needed::needed_with;

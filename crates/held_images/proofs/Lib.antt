@@ -1,0 +1,7 @@
+pub mod Places
+pub mod Sent
+mod Naming
+mod Lengths
+mod Loading
+mod ObjectsByIds
+mod ThereAndBack

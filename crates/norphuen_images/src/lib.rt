@@ -1,0 +1,166 @@
+//! The heap whose objects have ids, with its images, as a library for C. `include/norphuen.h` describes each export for C. An export calls
+//! the function of `held_images` that its comment names, and its contract is that function's. Each export but
+//! `nph_images_close` returns a code: 0 (`DONE`) if the call is done, else the cause (`c_base`, file `codes`).
+//! While the heap is closed, each export but `nph_images_open`, `nph_images_load` and `nph_images_close` returns `CLOSED` and changes
+//! nothing (`IsCallOnOpen`).
+#![tactic(auto)]
+
+ghost use Rattle.std.specs.Prelude.{◌≡◌, None};
+ghost use Rattle.c_base.specs.Version.{version};
+ghost use Rattle.held_images.specs.CallerImages.{IsCallOnOpen, IsLoadCall, IsOpenCall};
+ghost use Rattle.held_images.specs.Calls.{IsFreeCall, IsImageBytesCall, IsLengthCall, IsMakeCall, IsReadCall, IsSaveCall, IsWriteCall};
+ghost use Rattle.held_images.specs.Needed.{IsNeededCall};
+ghost use Rattle.held_images.specs.Place.{held_in};
+
+use c_base::{CLOSED, NphNeeded, VERSION};
+use held_images::images::NphHeap;
+use std::rt::Memory;
+
+/// Opens the heap with these settings: `pages` pages of `page_bytes` bytes, the bound `k`, and at most `proxies` live objects
+/// (`NphHeap::open`). `memory`, here, in `nph_images_load` and in `nph_images_close`, is the kit's value for the memory of the process;
+/// a caller in C passes none.
+#[unsafe(no_mangle)]
+pub extern "C" fn nph_images_open(
+    heap: &mut NphHeap,
+    memory: Memory,
+    pages: u32,
+    page_bytes: u32,
+    k: u32,
+    proxies: u32,
+) -> i32
+    ensures { IsOpenCall (held_in heap.old) pages page_bytes k proxies result (held_in heap.new) }
+{
+    heap.open(memory, pages, page_bytes, k, proxies)
+}
+
+/// Writes into `needed` what `nph_images_open` with these settings asks of the functions that take and return memory, and
+/// `nph_images_load` with an image of these settings (`NphHeap::bytes_needed`).
+#[unsafe(no_mangle)]
+pub extern "C" fn nph_images_bytes_needed(
+    pages: u32,
+    page_bytes: u32,
+    k: u32,
+    proxies: u32,
+    needed: &mut NphNeeded,
+) -> i32
+    ensures { IsNeededCall pages page_bytes k proxies result needed.old needed.new }
+{
+    NphHeap::bytes_needed(pages, page_bytes, k, proxies, needed)
+}
+
+/// Opens the heap with the settings and the objects of an image (`NphHeap::load`).
+#[unsafe(no_mangle)]
+pub extern "C" fn nph_images_load(
+    heap: &mut NphHeap,
+    memory: Memory,
+    bytes: &[u8],
+    offset: &mut u64,
+) -> i32
+    ensures { IsLoadCall (held_in heap.old) bytes.now offset.old result offset.new (held_in heap.new) }
+{
+    heap.load(memory, bytes, offset)
+}
+
+/// Closes the heap and frees its memory; does nothing if it is closed (`NphHeap::close`).
+#[unsafe(no_mangle)]
+pub extern "C" fn nph_images_close(heap: &mut NphHeap, memory: Memory)
+    ensures { held_in heap.new ≡ None }
+{
+    heap.close(memory);
+}
+
+/// Makes an object of `bytes` zeros under the id (`HeldImages::make`).
+#[unsafe(no_mangle)]
+pub extern "C" fn nph_images_make(heap: &mut NphHeap, id: u32, bytes: u32) -> i32
+    ensures { IsCallOnOpen (held_in heap.old) result (held_in heap.new) (Unit {0}) (λ h h2. IsMakeCall h id bytes result h2) }
+{
+    if heap.is_open() {
+        heap.held().make(id, bytes)
+    } else {
+        CLOSED
+    }
+}
+
+/// Frees the object of the id (`HeldImages::free`).
+#[unsafe(no_mangle)]
+pub extern "C" fn nph_images_free(heap: &mut NphHeap, id: u32) -> i32
+    ensures { IsCallOnOpen (held_in heap.old) result (held_in heap.new) (Unit {0}) (λ h h2. IsFreeCall h id result h2) }
+{
+    if heap.is_open() {
+        heap.held().free(id)
+    } else {
+        CLOSED
+    }
+}
+
+/// Writes `bytes` into the object of the id, from its byte `at` on (`HeldImages::write`).
+#[unsafe(no_mangle)]
+pub extern "C" fn nph_images_write(heap: &mut NphHeap, id: u32, at: u32, bytes: &[u8]) -> i32
+    ensures { IsCallOnOpen (held_in heap.old) result (held_in heap.new) (Unit {0}) (λ h h2. IsWriteCall h id at bytes.now result h2) }
+{
+    if heap.is_open() {
+        heap.held().write(id, at, bytes)
+    } else {
+        CLOSED
+    }
+}
+
+/// Fills `out` with bytes of the object of the id, from its byte `at` on (`HeldImages::read`).
+#[unsafe(no_mangle)]
+pub extern "C" fn nph_images_read(heap: &mut NphHeap, id: u32, at: u32, out: &mut [u8]) -> i32
+    ensures { IsCallOnOpen (held_in heap.old) result (held_in heap.new) (out.new ≡ out.old)
+        (λ h h2. IsReadCall h id at out.old result out.new h2) }
+{
+    if heap.is_open() {
+        heap.held().read(id, at, out)
+    } else {
+        CLOSED
+    }
+}
+
+/// Writes the length in bytes of the object of the id into `bytes` (`HeldImages::length`).
+#[unsafe(no_mangle)]
+pub extern "C" fn nph_images_length(heap: &mut NphHeap, id: u32, bytes: &mut u32) -> i32
+    ensures { IsCallOnOpen (held_in heap.old) result (held_in heap.new) (bytes.new ≡ bytes.old)
+        (λ h h2. IsLengthCall h id bytes.old result bytes.new h2) }
+{
+    if heap.is_open() {
+        heap.held().length(id, bytes)
+    } else {
+        CLOSED
+    }
+}
+
+/// Writes the bytes of the heap's image into `bytes` (`HeldImages::image_bytes`).
+#[unsafe(no_mangle)]
+pub extern "C" fn nph_images_image_bytes(heap: &mut NphHeap, bytes: &mut u64) -> i32
+    ensures { IsCallOnOpen (held_in heap.old) result (held_in heap.new) (bytes.new ≡ bytes.old)
+        (λ h h2. IsImageBytesCall h result bytes.new h2) }
+{
+    if heap.is_open() {
+        heap.held().image_bytes(bytes)
+    } else {
+        CLOSED
+    }
+}
+
+/// Writes the heap's image to the start of `out`, and its length into `written` (`HeldImages::save`).
+#[unsafe(no_mangle)]
+pub extern "C" fn nph_images_save(heap: &mut NphHeap, out: &mut [u8], written: &mut u64) -> i32
+    ensures { IsCallOnOpen (held_in heap.old) result (held_in heap.new) ((out.new ≡ out.old) × (written.new ≡ written.old))
+        (λ h h2. IsSaveCall h (record { out = out.old; written = written.old }) result (record { out = out.new; written = written.new }) h2) }
+{
+    if heap.is_open() {
+        heap.held().save(out, written)
+    } else {
+        CLOSED
+    }
+}
+
+/// Returns the version of this library (`VERSION`).
+#[unsafe(no_mangle)]
+pub extern "C" fn nph_images_version() -> u32
+    ensures { result ≡ version }
+{
+    VERSION
+}
