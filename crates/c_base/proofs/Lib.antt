@@ -1,5 +1,6 @@
 pub mod Opened
 pub mod Parts
+pub mod Blocks
 pub mod Crosses
 pub mod Generations
 pub mod HandleLaws

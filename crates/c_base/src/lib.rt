@@ -3,6 +3,7 @@
 #![tactic(auto)]
 
 mod answers;
+mod block;
 mod codes;
 mod handles;
 pub mod laws;
@@ -11,6 +12,7 @@ mod place;
 mod unboxed;
 
 pub use answers::{NphClass, NphFreed, NphHeapTotals, NphNeeded, NphResized};
+pub use block::HeapBlock;
 pub use codes::{
     BOUND, BUSY, CLOSED, DONE, ENTRIES, KIND, LENT, MEMORY, NONE, NOT_LENT, OPEN, PAGE_BYTES,
     PAGES, PROXIES, PROXY, QUANTUM, RANGE, REGION, SIZE, SPACE, UNKNOWN, VERSION, of_access,
