@@ -31,21 +31,21 @@ module _ (R : RattleType) {M : Type 1} {𝓤 : Ura M} {𝓛 : Logic 𝓤} {K : T
       nothing t $ feq_i t (List Val) (ptr_val p ∷ []) (ptr_val p ∷ []) refl $ fjoin t $ feq_i t (List Val) (place_val p ∷ []) (place_val p ∷ []) refl $ fjoin t $
       fpack t (Valss (RawPtr ∷ [])) (within (shape (P.the_type R)) (p, tt) (place_val p ∷ [])) (ptr_val p ∷ [], tt) $ fjoin t $ s)
 
-  place_some : K → (d : (P.the_row R).Denot) (vs : List Val) (x : R.Denot) → d.held ≡ Some x
-      → ((b o : ℕ) → d.at ≡ block_ptr b o → vs ≡ place_val (block_ptr b o) ∷ [] → Seq K 𝓛 (‵ (lies_in_block R (block_ptr b o) x) ∷ Γ) G)
+  -- who owns a `HeapBlock` owns what it owns; its machine value is its address
+  pub place_ptr : K → (d : (P.the_row R).Denot) (vs : List Val) → (vs ≡ place_val d.at ∷ [] → Seq K 𝓛 (‵ (place_owns R d.at d.held) ∷ Γ) G)
       → Seq K 𝓛 (‵ ((P.the_row R).own_val d vs) ∷ Γ) G
-  place_some t d vs x held k =
+  place_ptr t d vs k =
       fsplit t $ fpick t (λ vss. fsplit t $ feq_l t (λ whole. fsplit t $ feq_l t (λ first. drop t $
-      rewrite t 0 (λ (h : Option R.Denot). ‵ (place_owns R d.at h)) held refl $
-      in_a_block t d.at (λ p. lies_in_block R p x) (fst∗ 𝓤 (never 𝓤) (sem 𝓛 (ghosts.dealloc_token (record { memory = record { seal = tt } }) (bare (lone R.mir)) null_ptr))) (λ b o at. k b o at
-      (subst (λ (p : Ptr). vs ≡ vstruct (of_list (ptr_val p ∷ [])) ∷ []) at
-      (subst (λ (ps : List Val). vs ≡ vstruct (of_list (ps ++ [])) ∷ []) first whole))))))
+      k (subst (λ (ps : List Val). vs ≡ vstruct (of_list (ps ++ [])) ∷ []) first whole))))
 
   place_case : K → (d : (P.the_row R).Denot) (vs : List Val) (h : Option R.Denot) → d.held ≡ h → IsSome h
       → ((x : R.Denot) → d.held ≡ Some x → (b o : ℕ) → d.at ≡ block_ptr b o → vs ≡ place_val (block_ptr b o) ∷ []
       → Seq K 𝓛 (‵ (lies_in_block R (block_ptr b o) x) ∷ Γ) G)
       → Seq K 𝓛 (‵ ((P.the_row R).own_val d vs) ∷ Γ) G
-  place_case t d vs (Some x) e some k = place_some t d vs x e (k x e)
+  place_case t d vs (Some x) held some k =
+      place_ptr t d vs (λ is. rewrite t 0 (λ (h : Option R.Denot). ‵ (place_owns R d.at h)) held refl $
+      in_a_block t d.at (λ p. lies_in_block R p x) (fst∗ 𝓤 (never 𝓤) (sem 𝓛 (ghosts.dealloc_token (record { memory = record { seal = tt } }) (bare (lone R.mir)) null_ptr)))
+      (λ b o at. k x held b o at (subst (λ (p : Ptr). vs ≡ place_val p ∷ []) at is)))
   place_case t d vs None e some k = absurd (true≢false (sym some))
 
   -- who owns a `HeapBlock` that has a heap may own the heap at its address instead

@@ -1,6 +1,7 @@
 pub mod Opened
 pub mod Parts
 pub mod Blocks
+pub mod Loans
 pub mod Crosses
 pub mod Generations
 pub mod HandleLaws

@@ -3,6 +3,8 @@ pub mod Handles
 pub mod Frees
 pub mod HandleRules
 pub mod HeapBlock
-pub mod Loan
+pub mod Borrow
+pub mod Lending
+pub mod Lent
 pub mod Needed
 pub mod Version

@@ -23,7 +23,7 @@ impl<T> Model for HeapBlock<T> {
 unsafe impl<T: Send> Send for HeapBlock<T> {}
 
 impl<T> HeapBlock<T> {
-    ghost use Rattle.c_base.specs.Loan.{LendsPlace};
+    ghost use Rattle.c_base.specs.Borrow.{LendsPlace};
 
     /// Returns the `HeapBlock` with the null pointer, for a closed heap.
     pub fn nowhere() -> HeapBlock<T>

@@ -30,7 +30,7 @@ use denote.Steps.{nothing, opens, heard}
 use denote.Triple.Walked.{Stays, walk_of, stay_dropped, Goes-spent_ref}
 use Rattle.core.proofs.alloc.Shapes.{after}
 use Rattle.std.specs.contracts.prelude.GlobalAllocator.TheImpl.{ghosts}
-use Rattle.c_base.specs.Loan.{with_heap}
+use Rattle.c_base.specs.Borrow.{with_heap}
 use Rattle.c_base.specs.contracts.block.HeapBlock.{the_row as P}
 use Rattle.c_base.specs.contracts.block.HeapBlock.lend as f
 use Rattle.c_base.proofs.block.HeapBlock.lend.Statement.{statement}
