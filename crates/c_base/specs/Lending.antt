@@ -1,12 +1,13 @@
 -- A heap whose words can be lent, and the fields that it has in memory, without its invariant.
 use Rattle.std.specs.Prelude.{◌≡◌, ℕ, ◌^◌, ◌<◌, List, Option, Some, None, get_or, length}
 
--- for the type T of an open heap and the type S of its fields: the words of a heap, the fields with other words in place of the heap's, whether they are those of a heap, and of which
+-- for the type T of an open heap and the type S of its fields: the words of a heap, the fields with other words in place of the heap's, whether they are those of a heap, and of which; and the largest handle that a number of a heap has
 pub record Lending (T S : Type 0) : Type 1 where
   pub words : T → List ℕ
   pub with_words : S → List ℕ → S
   pub fits : S → Type 0
   pub state : S → T
+  pub last : T → ℕ
 
 -- a are the fields of the heap x
 pub record IsOf {T S : Type 0} (L : Lending T S) (a : S) (x : T) : Type 0 where

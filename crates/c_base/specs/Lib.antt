@@ -4,6 +4,9 @@ pub mod Frees
 pub mod HandleRules
 pub mod HeapBlock
 pub mod Borrow
+pub mod CallerHeap
+pub mod AtPlace
+pub mod Place
 pub mod Lending
 pub mod Lent
 pub mod Needed

@@ -7,6 +7,7 @@ mod block;
 mod codes;
 mod handles;
 pub mod laws;
+mod heap;
 mod loan;
 mod needed;
 mod place;
@@ -20,6 +21,7 @@ pub use codes::{
     of_refusal, of_resize, of_setting,
 };
 pub use handles::Handles;
+pub use heap::NphHeap;
 pub use loan::{Lendable, Loan};
 pub use needed::needed_with;
 pub use place::Sealed;

@@ -30,6 +30,10 @@ pub trait Lendable<S>: Sized {
         ensures* writes_back { sem 𝓛 (Lends S.row (Array u64 0) parts.entry result (lending.with_words parts.old)) }
         ensures value { result.now ≡ lending.words (lending.state parts.old) };
 
+    /// The largest handle that a number has.
+    fn last(&self) -> u32
+        ensures { result ≡ lending.last self.now };
+
     /// A heap with its own words in their place is the same.
     ghost restored: { (a : S) → lending.fits a → AreWords (lending.words (lending.state a)) → lending.with_words a (lending.words (lending.state a)) ≡ a };
 
