@@ -1,5 +1,8 @@
 pub mod Opened
 pub mod Parts
+pub mod Blocks
+pub mod Loans
+pub mod Again
 pub mod Crosses
 pub mod Generations
 pub mod HandleLaws

@@ -3,5 +3,11 @@ pub mod Handles
 pub mod Frees
 pub mod HandleRules
 pub mod HeapBlock
+pub mod Borrow
+pub mod CallerHeap
+pub mod AtPlace
+pub mod Place
+pub mod Lending
+pub mod Lent
 pub mod Needed
 pub mod Version

@@ -3,20 +3,26 @@
 #![tactic(auto)]
 
 mod answers;
+mod block;
 mod codes;
 mod handles;
 pub mod laws;
+mod heap;
+mod loan;
 mod needed;
 mod place;
 mod unboxed;
 
 pub use answers::{NphClass, NphFreed, NphHeapTotals, NphNeeded, NphResized};
+pub use block::HeapBlock;
 pub use codes::{
     BOUND, BUSY, CLOSED, DONE, ENTRIES, IMAGE, KIND, LENT, LIVE, MEMORY, NONE, NOT_LENT, OPEN,
     PAGE_BYTES, PAGES, PROXIES, PROXY, QUANTUM, RANGE, REGION, SIZE, SPACE, UNKNOWN, VERSION,
     of_access, of_refusal, of_resize, of_setting,
 };
 pub use handles::Handles;
+pub use heap::NphHeap;
+pub use loan::{Lendable, Loan};
 pub use needed::needed_with;
 pub use place::Sealed;
 pub use unboxed::Unboxed;

@@ -1,0 +1,141 @@
+//! `NphHeap`: what a caller in C has for its heap, open, lent or closed.
+ghost use Rattle.std.specs.Prelude.{◌≡◌};
+ghost use Rattle.std.specs.Borrow.{sem};
+ghost use Rattle.c_base.specs.CallerHeap.{block_in, heap_of, lent_now, opened_now};
+
+use crate::block::HeapBlock;
+use crate::codes::{CLOSED, DONE, LENT, NOT_LENT};
+use crate::loan::{Lendable, Loan};
+use std::alloc::Global;
+use std::rt::Memory;
+
+/// A heap in memory of a caller in C: closed, open, or lent, and then the words of its region are the caller's. `shown`
+/// and `lent_shown` say which of these the flags mean, `same` that the words are those of the heap at this address. `last` is
+/// the largest handle of the heaps that it had. Call `close` before it is dropped: a drop does not free the memory of a heap.
+#[repr(C)]
+#[derive(Drop)]
+pub struct NphHeap<T: Lendable<S>, S> {
+    place: HeapBlock<T>,
+    loan: Loan<T, S>,
+    last: u32,
+    is_open: bool,
+    is_lent: bool,
+    ghost shown: { is_open ≡ opened_now (heap_of place.held loan.heap loan.words last) },
+    ghost lent_shown: { is_lent ≡ lent_now (heap_of place.held loan.heap loan.words last) },
+    ghost same: { loan.block ≡ block_in (heap_of place.held loan.heap loan.words last) place.at loan.block },
+}
+
+impl<T: Lendable<S>, S> NphHeap<T, S> {
+    ghost use Rattle.std.specs.Prelude.{ℕ, IsTrue};
+    ghost use Rattle.c_base.specs.AtPlace.{IsLendCall, IsReturnCall};
+    ghost use Rattle.c_base.specs.CallerHeap.{Closed, Opened, refusal_code};
+    ghost use Rattle.c_base.specs.Place.{LendsHeap, held_in};
+
+    /// Returns whether the heap is open, and not lent.
+    pub fn is_open(&self) -> bool
+        ensures { result ≡ opened_now (held_in self.now) }
+    {
+        self.is_open
+    }
+
+    /// Returns whether the heap is lent.
+    pub fn is_lent(&self) -> bool
+        ensures { result ≡ lent_now (held_in self.now) }
+    {
+        self.is_lent
+    }
+
+    /// Returns the largest handle of the heaps before this one, which is closed.
+    pub fn last(&self) -> u32
+        ensures { (last : ℕ) → held_in self.now ≡ Closed last → result ≡ last }
+    {
+        self.last
+    }
+
+    /// Returns the code of a call on a heap that is not open: `LENT` or `CLOSED`.
+    pub fn refusal(&self) -> i32
+        ensures { result ≡ refusal_code (held_in self.now) }
+    {
+        if self.is_lent { LENT } else { CLOSED }
+    }
+
+    /// Borrows the open heap. When the borrow ends, the heap as it then is belongs to this struct again.
+    pub fn held(&mut self) -> &mut T
+        requires { IsTrue (opened_now (held_in self.old)) }
+        ensures* writes_back { sem 𝓛 (LendsHeap T.row S.row ⟦<T as Lendable<S>>⟧ self.entry result) }
+        ensures value { held_in self.old ≡ Opened result.now }
+    {
+        self.place.lend()
+    }
+
+    /// Lends the words of the region, and writes their address into `words`: until `end_loan` they are the caller's.
+    /// The caller may read them, and write the bytes of objects (the law `bytes_are_written` of the manager). Returns `DONE`,
+    /// or the code of the refusal, and then `words` is unchanged.
+    pub fn lend(&mut self, words: &mut *mut u64) -> i32
+        ensures { IsLendCall (held_in self.old) result (held_in self.new) words.old words.new }
+    {
+        if self.is_open {
+            self.is_open = false;
+            let block = std::mem::replace(&mut self.place, HeapBlock::nowhere());
+            let (place, loan, at) = Loan::new(block);
+            self.place = place;
+            self.loan = loan;
+            self.is_lent = true;
+            *words = at;
+            DONE
+        } else {
+            self.refusal()
+        }
+    }
+
+    /// Ends the loan: the heap is open, with the words as the caller left them. Returns `DONE`, or `NOT_LENT` or
+    /// `CLOSED` if the heap isn't lent.
+    pub fn end_loan(&mut self) -> i32
+        ensures { IsReturnCall (held_in self.old) result (held_in self.new) }
+    {
+        if self.is_lent {
+            let block = std::mem::replace(&mut self.place, HeapBlock::nowhere());
+            let loan = std::mem::replace(&mut self.loan, Loan::none());
+            self.place = loan.end(block);
+            self.is_lent = false;
+            self.is_open = true;
+            DONE
+        } else if self.is_open {
+            NOT_LENT
+        } else {
+            CLOSED
+        }
+    }
+}
+
+impl<T: Lendable<S> + Drop, S> NphHeap<T, S> {
+    ghost use Rattle.std.specs.Prelude.{ℕ};
+    ghost use Rattle.c_base.specs.CallerHeap.{Closed, Opened, closed_with};
+    ghost use Rattle.c_base.specs.Place.{held_in};
+
+    /// Opens a heap that is closed: it is this one.
+    pub fn put(&mut self, heap: Box<T, Global>)
+        requires { (last : ℕ) × (held_in self.old ≡ Closed last) }
+        ensures { held_in self.new ≡ Opened heap.value }
+    {
+        self.place = HeapBlock::of(heap);
+        self.is_open = true;
+    }
+
+    /// Closes the heap and frees its memory, also if it is lent; does nothing if it is closed.
+    pub fn close(&mut self, memory: Memory)
+        ensures { held_in self.new ≡ closed_with T.lending.last (held_in self.old) }
+    {
+        if self.is_lent {
+            let _code = self.end_loan();
+        }
+        if !self.is_open {
+            return;
+        }
+        self.last = self.place.lend().last();
+        self.is_open = false;
+        self.loan = Loan::none();
+        let place = std::mem::replace(&mut self.place, HeapBlock::nowhere());
+        drop(place.into_box(Global::new(memory)));
+    }
+}
