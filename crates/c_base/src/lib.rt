@@ -10,11 +10,11 @@ mod needed;
 mod place;
 mod unboxed;
 
-pub use answers::{NphClass, NphFreed, NphHeapTotals, NphNeeded, NphResized};
+pub use answers::{NphClass, NphCounted, NphFreed, NphHeapTotals, NphNeeded, NphResized};
 pub use codes::{
-    BOUND, BUSY, CLOSED, DONE, ENTRIES, KIND, LENT, MEMORY, NONE, NOT_LENT, OPEN, PAGE_BYTES,
-    PAGES, PROXIES, PROXY, QUANTUM, RANGE, REGION, SIZE, SPACE, UNKNOWN, VERSION, of_access,
-    of_refusal, of_resize, of_setting,
+    BOUND, BUSY, CLOSED, DONE, ENTRIES, KIND, LENT, MEMORY, NONE, NOT_EMPTY, NOT_LENT, OPEN,
+    PAGE_BYTES, PAGES, PROXIES, PROXY, QUANTUM, RANGE, REGION, SIZE, SPACE, UNKNOWN, VERSION,
+    of_access, of_refusal, of_resize, of_setting,
 };
 pub use handles::Handles;
 pub use needed::needed_with;
