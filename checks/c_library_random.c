@@ -1,14 +1,15 @@
 /* Drawn calls beside a plain model: each object's handle, bytes and place. Bytes are written and read by copies and in place,
  * two objects at once. Handles of objects that were freed of late are refused, drawn numbers unless a live object has them;
  * a lent heap refuses each call, and no call that fails writes anything. No call takes more steps than its bound, and the
- * words of a slot are known before its free. Ends with 1 at the first difference. Arguments: the
+ * words of a slot are known before its free. A walk finds each live object once; the heap counts what the model counts; and no
+ * class has more partly full pages than the bound that was set. Ends with 1 at the first difference. Arguments: the
  * number of calls, and the seed. */
 #include "norphuen.h"
 #include <stdio.h>
 #include <stdlib.h>
 #include <string.h>
 
-enum { MOST = 200, PAGES = 32, PAGE = 2048, STALE = 64 };
+enum { MOST = 200, NUMBERS = 256, PAGES = 32, PAGE = 2048, STALE = 64, LONG = 100000, CLASSES = 67 };
 
 typedef struct object {
     uint32_t handle;
@@ -20,7 +21,9 @@ typedef struct object {
 static nph_heap heap = NPH_HEAP;
 static object objects[MOST];
 static uint32_t live, stale[STALE], freed;
-static uint64_t state, asked, moves, loans, refused, full;
+static uint64_t state, asked, moves, loans, refused, full, walks;
+static nph_counted counted; /* of the model */
+static uint32_t bounds[CLASSES], most_not_full;
 
 #define CHECK(x) do { if (!(x)) { printf("line %d: not %s\n", __LINE__, #x); exit(1); } } while (0)
 
@@ -56,6 +59,16 @@ static void note_move(uint32_t handle) {
     CHECK(o != NULL);
     find_place(o);
     moves++;
+    counted.moves++;
+}
+
+/* Notes what is asked for and free after a call. */
+static void note_peaks(void) {
+    nph_heap_totals t;
+    CHECK(nph_totals(&heap, &t) == NPH_OK);
+    uint64_t left = nph_kind() == NPH_TLSF ? t.held - t.taken : t.free;
+    if (asked > counted.most_asked) counted.most_asked = asked;
+    if (left < counted.least_free) counted.least_free = left;
 }
 
 static void make(void) {
@@ -66,7 +79,7 @@ static void make(void) {
     status = nph_malloc(&heap, length, &handle);
     CHECK(taken() <= nph_most_malloc());
     CHECK(room == status && (status == NPH_OK || status == NPH_SPACE));
-    if (status != NPH_OK) { CHECK(handle == 77); full++; return; }
+    if (status != NPH_OK) { CHECK(handle == 77); full++; counted.space++; return; }
     CHECK(with(handle) == NULL && handle != NPH_NONE);
     o->handle = handle;
     o->length = length;
@@ -74,6 +87,51 @@ static void make(void) {
     find_place(o);
     asked += length;
     live++;
+    note_peaks();
+}
+
+/* Mallocs and resizes that are refused for another cause than space. */
+static void ask_too_much(object *o) {
+    uint32_t handle = 77;
+    CHECK(nph_malloc(&heap, LONG, &handle) == NPH_SIZE);
+    counted.size++;
+    if (live == MOST) {
+        CHECK(nph_malloc(&heap, 1, &handle) == NPH_PROXY);
+        counted.proxy++;
+    }
+    CHECK(handle == 77);
+    if (live == 0) return;
+    nph_status status = nph_resize(&heap, o->handle, LONG, NULL);
+    CHECK(status == (nph_kind() == NPH_TLSF ? NPH_KIND : NPH_SIZE));
+    if (status == NPH_SIZE) counted.size++;
+}
+
+/* A walk finds each live object once, by rising number. */
+static void walk(void) {
+    uint32_t found = 0, handle = NPH_NONE, before = 0;
+    uint64_t steps = 0;
+    for (;;) {
+        CHECK(nph_next(&heap, handle, &handle) == NPH_OK);
+        steps += taken();
+        CHECK(taken() <= 1 + NUMBERS);
+        if (handle == NPH_NONE) break;
+        CHECK(with(handle) != NULL && (found == 0 || handle % NUMBERS > before));
+        before = handle % NUMBERS;
+        found++;
+    }
+    CHECK(found == live && steps == NUMBERS + live);
+    walks++;
+}
+
+/* The heap counted what the model did, and no class has too many partly full pages. */
+static void compare(void) {
+    nph_counted c;
+    nph_class f;
+    CHECK(nph_counts(&heap, &c) == NPH_OK && memcmp(&c, &counted, sizeof c) == 0);
+    for (uint32_t i = 0; nph_figures(&heap, i, &f) == NPH_OK; i++) {
+        CHECK(i < CLASSES && f.not_full <= bounds[i]);
+        if (f.not_full > most_not_full) most_not_full = f.not_full;
+    }
 }
 
 /* The words of the slot of an object; 0 with TLSF. */
@@ -101,7 +159,11 @@ static void release(object *o) {
     uint32_t moved = f.moved;
     *o = objects[--live];
     if (f.slot_words > 0) { note_move(moved); return; }
-    for (uint32_t i = 0; i < live; i++) find_place(&objects[i]); /* it is not known what moved */
+    for (uint32_t i = 0; i < live; i++) { /* it is not known what moved */
+        uint32_t place = objects[i].place;
+        find_place(&objects[i]);
+        counted.moves += objects[i].place != place;
+    }
 }
 
 static void resize(object *o) {
@@ -109,12 +171,13 @@ static void resize(object *o) {
     nph_resized r = {0, 0, 77};
     nph_status status = nph_resize(&heap, o->handle, length, &r);
     CHECK(status != NPH_OK || taken() <= nph_most_resize(length, r.old_slot_words, r.slot_words));
-    if (status != NPH_OK) { CHECK((status == NPH_SPACE || status == NPH_KIND) && r.moved == 77); full++; return; }
+    if (status != NPH_OK) { CHECK((status == NPH_SPACE || status == NPH_KIND) && r.moved == 77); full++; counted.space += status == NPH_SPACE; return; }
     if (length < o->length) memset(o->bytes + length, 0, PAGE - length);
     asked = asked - o->length + length;
     o->length = length;
     find_place(o);
     note_move(r.moved);
+    note_peaks();
 }
 
 /* Writes and reads a range by copies, which may pass the end of the object. */
@@ -144,7 +207,12 @@ static void all_refused(nph_status code, uint32_t handle) {
     CHECK(nph_read(&heap, handle, 0, &byte, 1) == code && nph_write(&heap, handle, 0, &byte, 1) == code);
     CHECK(nph_length(&heap, handle, &number) == code && nph_has_room(&heap, 1) == code && nph_figures(&heap, 0, &c) == code);
     CHECK(nph_totals(&heap, &t) == code && nph_last_steps(&heap, &steps) == code && nph_place(&heap, handle, &number) == code);
-    CHECK(nph_lend(&heap, &words) == code);
+    CHECK(nph_lend(&heap, &words) == code && nph_next(&heap, NPH_NONE, &number) == code);
+    nph_counted counts = {77, 77, 77, 77, 77, 77, 77};
+    CHECK(nph_counts(&heap, &counts) == code && counts.most_asked == 77 && counts.space == 77);
+#ifndef NPH_USE_TLSF
+    CHECK(nph_set_bound(&heap, 3, 1) == code);
+#endif
     CHECK(number == 77 && steps == 77 && words == NULL && byte == 77 && f.slot_words == 77 && f.moved == 77);
     CHECK(r.old_slot_words == 77 && r.moved == 77 && c.slot_words == 77 && c.not_full == 77 && t.asked == 77 && t.largest == 77);
 }
@@ -180,8 +248,28 @@ static void refuse(uint32_t handle) {
     CHECK(nph_resize(&heap, handle, 1, NULL) == NPH_UNKNOWN || nph_resize(&heap, handle, 1, NULL) == NPH_KIND);
     CHECK(nph_read(&heap, handle, 0, &byte, 1) == NPH_UNKNOWN && nph_write(&heap, handle, 0, &byte, 1) == NPH_UNKNOWN);
     CHECK(nph_length(&heap, handle, &number) == NPH_UNKNOWN && nph_place(&heap, handle, &number) == NPH_UNKNOWN);
+    CHECK(nph_next(&heap, handle, &number) == NPH_UNKNOWN);
+    counted.unknown += 3;
     CHECK(number == 77 && byte == 77 && f.slot_words == 77 && f.moved == 77);
     refused++;
+}
+
+/* Sets drawn bounds of the classes of a heap without objects. */
+static void set_bounds(void) {
+    for (uint32_t i = 0; i < CLASSES; i++) bounds[i] = 1;
+#ifndef NPH_USE_TLSF
+    nph_class f;
+    uint32_t handle;
+    CHECK(nph_set_bound(&heap, 3, 0) == NPH_BOUND && nph_set_bound(&heap, 3, 65) == NPH_BOUND && nph_set_bound(&heap, 0, 1) == NPH_UNKNOWN);
+    for (uint32_t i = 0; nph_figures(&heap, i, &f) == NPH_OK; i++) {
+        if (draw(2)) continue;
+        bounds[i] = 1 + draw(4);
+        CHECK(nph_set_bound(&heap, f.slot_words, bounds[i]) == NPH_OK);
+    }
+    CHECK(nph_malloc(&heap, 0, &handle) == NPH_OK && nph_set_bound(&heap, 3, 1) == NPH_LIVE && nph_free(&heap, handle, NULL) == NPH_OK);
+    note_peaks();
+    counted.least_free = PAGES - 1;
+#endif
 }
 
 /* Closes the heap, which may be lent or closed already, and opens it again. All its handles are stale. */
@@ -196,6 +284,9 @@ static void reopen(void) {
     all_refused(NPH_CLOSED, stale[0]);
     CHECK(nph_return(&heap) == NPH_CLOSED);
     CHECK(nph_open(&heap, PAGES, PAGE, 1, MOST) == NPH_OK && nph_open(&heap, 1, 512, 1, 1) == NPH_OPEN);
+    memset(&counted, 0, sizeof counted);
+    counted.least_free = nph_kind() == NPH_TLSF ? PAGES * PAGE : PAGES;
+    set_bounds();
 }
 
 int main(int argc, char **argv) {
@@ -205,9 +296,10 @@ int main(int argc, char **argv) {
     reopen();
     for (long i = 0; i < calls; i++) {
         object *o = &objects[live > 0 ? draw(live) : 0];
-        uint32_t kind = draw(9), handle;
+        uint32_t kind = draw(10), handle;
         switch (live == 0 ? 0 : kind) {
         case 0: if (live < MOST) make(); break;
+        case 9: ask_too_much(o); break;
         case 1: release(o); break;
         case 2: resize(o); break;
         case 3: case 4: copy(o); break;
@@ -219,10 +311,12 @@ int main(int argc, char **argv) {
             if (with(handle) == NULL) refuse(handle);
         }
         if (i % 50000 == 49999) reopen();
+        if (i % 64 == 0) { walk(); compare(); }
         if (i % 1024 == 0) CHECK(nph_totals(&heap, &t) == NPH_OK && t.live == live && t.asked == asked);
     }
-    printf("%ld calls: %lu moves, %lu loans, %lu handles refused, %lu times no room\n", calls, (unsigned long)moves,
-           (unsigned long)loans, (unsigned long)refused, (unsigned long)full);
+    CHECK(nph_kind() == NPH_TLSF || calls < 10000 || most_not_full > 1);
+    printf("%ld calls: %lu moves, %lu loans, %lu handles refused, %lu times no room, %lu walks\n", calls, (unsigned long)moves,
+           (unsigned long)loans, (unsigned long)refused, (unsigned long)full, (unsigned long)walks);
     nph_close(&heap);
     return 0;
 }

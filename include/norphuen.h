@@ -108,7 +108,7 @@ typedef enum nph_status {
     NPH_BUSY = 18,       /* nph_sliced_free, nph_sliced_lend: a job is pending; nph_sliced_malloc: no slot is left but that of the
                             pending job */
     NPH_QUANTUM = 19,    /* nph_sliced_open: a quantum is 1 to 16384 words */
-    NPH_LIVE = 20,       /* nph_images_make: an object has the id already */
+    NPH_LIVE = 20,       /* nph_set_bound: an object is live; nph_images_make: one has the id */
     NPH_IMAGE = 21       /* nph_images_load: the bytes are no image, and `offset` says where */
 } nph_status;
 
@@ -135,13 +135,14 @@ static inline const char *nph_text(nph_status status) {
     case NPH_ENTRIES: return "too many needs";
     case NPH_BUSY: return "a job is pending";
     case NPH_QUANTUM: return "quantum out of range";
-    case NPH_LIVE: return "the id has an object already";
+    case NPH_LIVE: return "an object is live";
     case NPH_IMAGE: return "no image";
     default: return "no status";
     }
 }
 
-/* In place of a handle in nph_freed and nph_resized: no object moved. It names no object: a call with it fails with NPH_UNKNOWN. */
+/* In place of a handle: in nph_freed and nph_resized no object moved; nph_next takes and writes it at the two ends of a walk. It
+ * names no object: each other call with it fails with NPH_UNKNOWN. */
 #define NPH_NONE UINT32_MAX
 
 /* The memory that nph_open asks for: the bytes of all blocks, those of the largest block, and how many blocks. */
@@ -191,6 +192,20 @@ typedef struct nph_heap_totals {
     uint32_t free;
     uint32_t largest;
 } nph_heap_totals;
+
+/* What a heap counted since it was opened. After each call its live objects asked for at most `most_asked` bytes, and at least
+ * `least_free` pages were free, with TLSF so many bytes: pages - least_free were in use at most. `moves` counts the objects
+ * that a free or a resize moved (`moved`), and the others the nph_malloc, nph_free and nph_resize that failed with NPH_UNKNOWN,
+ * NPH_SIZE, NPH_PROXY and NPH_SPACE. A count stops at UINT64_MAX. */
+typedef struct nph_counted {
+    uint64_t most_asked;
+    uint64_t least_free;
+    uint64_t moves;
+    uint64_t unknown;
+    uint64_t size;
+    uint64_t proxy;
+    uint64_t space;
+} nph_counted;
 
 /* Opens a heap without objects, of `pages` pages of `page_bytes` bytes. At most `proxies` objects are live at a time, and each
  * size class has at most `k` partly full pages. With TLSF the pages are one region without classes, and k means nothing.
@@ -247,8 +262,21 @@ NPH_CALL nph_status nph_figures(nph_heap *heap, uint32_t size_class, nph_class *
 /* Writes the figures of the whole heap. With TLSF this visits each free block. */
 NPH_CALL nph_status nph_totals(nph_heap *heap, nph_heap_totals *totals);
 
-/* Writes the steps of the last call on the heap. nph_figures, nph_lend, nph_return and this call take none, and leave the
- * count as it was. */
+/* Writes the handle of the live object after `handle` into `next`, in a fixed order: the first one if `handle` is NPH_NONE, and
+ * NPH_NONE after the last. Fails with NPH_UNKNOWN, also if the object of `handle` was freed: ask for the next one before a free. An
+ * object that was made during the walk may be left out. Takes a step for `handle`, and one for each number of an object that it
+ * looks at: at most 1 and the proxies, rounded up to a power of two. A walk over n objects takes n and as many. */
+NPH_CALL nph_status nph_next(nph_heap *heap, uint32_t handle, uint32_t *next);
+
+/* Writes what the heap counted. */
+NPH_CALL nph_status nph_counts(nph_heap *heap, nph_counted *counts);
+
+/* Sets to `k`, 1 to 64, how many pages of the size class with slots of `slot_words` words may be partly full. Fails with NPH_BOUND,
+ * with NPH_LIVE if an object is live, or with NPH_UNKNOWN if no class has such slots. TLSF lacks this call. */
+NPH_CALL nph_status nph_set_bound(nph_heap *heap, uint32_t slot_words, uint32_t k);
+
+/* Writes the steps of the last call on the heap. nph_figures, nph_counts, nph_set_bound, nph_lend, nph_return and this call
+ * take none, and leave the count as it was. */
 NPH_CALL nph_status nph_last_steps(nph_heap *heap, uint64_t *steps);
 
 /* Returns the version of the library, in the form of NPH_VERSION. */
@@ -314,6 +342,8 @@ static inline void *nph_tlsf_bytes(uint64_t *words, uint32_t place) { return wor
     NPH_CALL nph_status nph##_has_room(nph##_heap *heap, uint32_t bytes); \
     NPH_CALL nph_status nph##_figures(nph##_heap *heap, uint32_t size_class, nph_class *figures); \
     NPH_CALL nph_status nph##_totals(nph##_heap *heap, nph_heap_totals *totals); \
+    NPH_CALL nph_status nph##_next(nph##_heap *heap, uint32_t handle, uint32_t *next); \
+    NPH_CALL nph_status nph##_counts(nph##_heap *heap, nph_counted *counts); \
     NPH_CALL nph_status nph##_last_steps(nph##_heap *heap, uint64_t *steps); \
     uint32_t nph##_version(void); \
     uint32_t nph##_kind(void); \
@@ -329,6 +359,7 @@ NPH_CALLS_OF(nph_tlsf)
 NPH_CALL nph_status nph_nm_pages_needed(uint32_t page_bytes, uint32_t k, const nph_need *needs, size_t count, uint32_t *pages);
 NPH_CALL nph_status nph_nm_slot_words(nph_nm_heap *heap, uint32_t handle, uint32_t *words);
 NPH_CALL nph_status nph_nm_class_of(nph_nm_heap *heap, uint32_t bytes, uint32_t *size_class);
+NPH_CALL nph_status nph_nm_set_bound(nph_nm_heap *heap, uint32_t slot_words, uint32_t k);
 NPH_CALL nph_status nph_tlsf_place(nph_tlsf_heap *heap, uint32_t handle, uint32_t *place);
 NPH_CALL nph_status nph_tlsf_lend(nph_tlsf_heap *heap, uint64_t **words);
 NPH_CALL nph_status nph_tlsf_return(nph_tlsf_heap *heap);
@@ -479,6 +510,9 @@ NPH_OR_NULL_OF(nph_tlsf)
 #define nph_class_of NPH_NAME(class_of)
 #define nph_figures NPH_NAME(figures)
 #define nph_totals NPH_NAME(totals)
+#define nph_next NPH_NAME(next)
+#define nph_counts NPH_NAME(counts)
+#define nph_set_bound NPH_NAME(set_bound)
 #define nph_last_steps NPH_NAME(last_steps)
 #define nph_version NPH_NAME(version)
 #define nph_kind NPH_NAME(kind)

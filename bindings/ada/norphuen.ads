@@ -47,7 +47,8 @@ package Norphuen is
    Live       : constant Code := 20;
    Image      : constant Code := 21;
 
-   --  In place of a handle in Freed and Resized: no object moved.
+   --  In place of a handle: in Freed and Resized no object moved; the two
+   --  ends of a walk by Nph_Next.
    None : constant Unsigned_32 := Unsigned_32'Last;
 
    --  The memory that Nph_Open asks for: the bytes of all blocks, those of
@@ -105,6 +106,18 @@ package Norphuen is
       Used    : Unsigned_32 := 0;
       Free    : Unsigned_32 := 0;
       Largest : Unsigned_32 := 0;
+   end record
+   with Convention => C;
+
+   --  What a heap counted since it was opened.
+   type Counted is record
+      Most_Asked : Unsigned_64 := 0;
+      Least_Free : Unsigned_64 := 0;
+      Moves      : Unsigned_64 := 0;
+      Unknown    : Unsigned_64 := 0;
+      Size       : Unsigned_64 := 0;
+      Proxy      : Unsigned_64 := 0;
+      Space      : Unsigned_64 := 0;
    end record
    with Convention => C;
 
@@ -187,6 +200,19 @@ package Norphuen is
    function Nph_Totals
      (H : in out Heap; Result : in out Heap_Totals) return Code
    with Import, Convention => C, External_Name => Prefix & "totals";
+
+   function Nph_Next
+     (H : in out Heap; Handle : Unsigned_32; Next : in out Unsigned_32)
+      return Code
+   with Import, Convention => C, External_Name => Prefix & "next";
+
+   function Nph_Counts (H : in out Heap; Result : in out Counted) return Code
+   with Import, Convention => C, External_Name => Prefix & "counts";
+
+   --  The TLSF library lacks this call.
+   function Nph_Set_Bound
+     (H : in out Heap; Slot_Words, K : Unsigned_32) return Code
+   with Import, Convention => C, External_Name => Prefix & "set_bound";
 
    function Nph_Last_Steps
      (H : in out Heap; Steps : in out Unsigned_64) return Code

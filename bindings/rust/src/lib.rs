@@ -71,6 +71,12 @@ pub struct Class { pub slot_words: u32, pub slots: u32, pub live: u32, pub pages
 #[rustfmt::skip]
 pub struct HeapTotals { pub asked: u64, pub taken: u64, pub held: u64, pub live: u32, pub used: u32, pub free: u32, pub largest: u32 }
 
+/// What a heap counted since it was opened; the header's nph_counted explains each.
+#[repr(C)]
+#[derive(Clone, Copy, Debug, Default, PartialEq, Eq)]
+#[rustfmt::skip]
+pub struct Counted { pub most_asked: u64, pub least_free: u64, pub moves: u64, pub unknown: u64, pub size: u64, pub proxy: u64, pub space: u64 }
+
 /// The header's nph_heap. Without a loan the last field is padding.
 #[repr(C)]
 struct RawHeap {
@@ -124,6 +130,10 @@ unsafe extern "C" {
     #[link_name = named!("class_of")] fn nph_class_of(heap: *mut RawHeap, bytes: u32, size_class: *mut u32) -> i32;
     #[link_name = named!("figures")] fn nph_figures(heap: *mut RawHeap, size_class: u32, figures: *mut Class) -> i32;
     #[link_name = named!("totals")] fn nph_totals(heap: *mut RawHeap, totals: *mut HeapTotals) -> i32;
+    #[link_name = named!("next")] fn nph_next(heap: *mut RawHeap, handle: u32, next: *mut u32) -> i32;
+    #[link_name = named!("counts")] fn nph_counts(heap: *mut RawHeap, counts: *mut Counted) -> i32;
+    #[cfg(not(feature = "tlsf"))]
+    #[link_name = named!("set_bound")] fn nph_set_bound(heap: *mut RawHeap, slot_words: u32, k: u32) -> i32;
     #[link_name = named!("last_steps")] fn nph_last_steps(heap: *mut RawHeap, steps: *mut u64) -> i32;
     #[link_name = named!("place")] fn nph_place(heap: *mut RawHeap, handle: u32, place: *mut u32) -> i32;
     #[link_name = named!("lend")] fn nph_lend(heap: *mut RawHeap, words: *mut *mut u64) -> i32;
@@ -204,7 +214,7 @@ fn written<T: Default>(call: impl FnOnce(&mut T) -> i32) -> Result<T, Error> {
     result_of(code, value)
 }
 
-/// The handle with this number, none for NPH_NONE: no object moved.
+/// The handle with this number, none for NPH_NONE.
 fn handle_of<H>(number: u32, handle: fn(u32) -> H) -> Option<H> {
     (number != u32::MAX).then(|| handle(number))
 }
@@ -360,6 +370,23 @@ impl Heap {
     /// The figures of the whole heap.
     pub fn totals(&mut self) -> HeapTotals {
         written(|totals| unsafe { nph_totals(self.raw(), totals) }).unwrap_or_default()
+    }
+
+    /// The live object after this one in a fixed order, the first one for `None`; none after the last.
+    pub fn next(&mut self, object: Option<Handle>) -> Result<Option<Handle>, Error> {
+        let handle = object.map_or(u32::MAX, |object| object.0);
+        written(|next| unsafe { nph_next(self.raw(), handle, next) }).map(|next| handle_of(next, Handle))
+    }
+
+    /// What the heap counted since it was opened.
+    pub fn counts(&mut self) -> Counted {
+        written(|counts| unsafe { nph_counts(self.raw(), counts) }).unwrap_or_default()
+    }
+
+    /// Sets how many pages of the class with slots of `slot_words` words may be partly full, while no object is live.
+    #[cfg(not(feature = "tlsf"))]
+    pub fn set_bound(&mut self, slot_words: u32, k: u32) -> Result<(), Error> {
+        result_of(unsafe { nph_set_bound(self.raw(), slot_words, k) }, ())
     }
 
     /// The steps of the last call.

@@ -56,3 +56,19 @@ pub struct NphHeapTotals {
     pub free: u32,
     pub largest: u32,
 }
+
+/// What a heap counts from its opening on. `most_asked` is the most bytes that its live objects asked for after a call, and
+/// `least_free` the fewest pages that were free after one; with blocks, the fewest bytes outside used blocks. `moves` is how
+/// often a free or a resize moved another object. The others are how many mallocs, frees and resizes were refused with the code
+/// of their name: `UNKNOWN`, `SIZE`, `PROXY` or `SPACE`. A count that would pass `2^64 - 1` stays there.
+#[repr(C)]
+#[derive(Clone, Copy, Drop)]
+pub struct NphCounted {
+    pub most_asked: u64,
+    pub least_free: u64,
+    pub moves: u64,
+    pub unknown: u64,
+    pub size: u64,
+    pub proxy: u64,
+    pub space: u64,
+}

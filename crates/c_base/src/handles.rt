@@ -75,6 +75,14 @@ impl Handles {
         BytesNeeded::block(4 * u64::from(proxies.next_power_of_two()))
     }
 
+    /// How many numbers have a handle.
+    pub fn count(&self) -> u32
+        ensures value { result ≡ length self.now }
+        ensures few { result < 131072 }
+    {
+        self.mask + 1
+    }
+
     /// The number of a handle: its low bits.
     fn number(&self, handle: u32) -> u32
         ensures value { result ≡ handle % length self.now }

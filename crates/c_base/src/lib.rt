@@ -6,14 +6,14 @@ mod answers;
 mod block;
 mod codes;
 mod handles;
-pub mod laws;
 mod heap;
+pub mod laws;
 mod loan;
 mod needed;
 mod place;
 mod unboxed;
 
-pub use answers::{NphClass, NphFreed, NphHeapTotals, NphNeeded, NphResized};
+pub use answers::{NphClass, NphCounted, NphFreed, NphHeapTotals, NphNeeded, NphResized};
 pub use block::HeapBlock;
 pub use codes::{
     BOUND, BUSY, CLOSED, DONE, ENTRIES, IMAGE, KIND, LENT, LIVE, MEMORY, NONE, NOT_LENT, OPEN,

@@ -15,12 +15,14 @@ use Rattle.cf_base.specs.declared.answers.ResizeFault.{ResizeFault}
 use Rattle.cf_base.specs.declared.answers.ResizeFault.TheVariants as resize
 use Rattle.cf_base.specs.declared.kind.Kind.{Kind}
 use Rattle.cf_base.specs.declared.kind.Kind.TheVariants.{Moving, NonMoving, Tlsf, HalfFit}
+use Rattle.cf_model.specs.Answers.{with_bound}
 use Rattle.cf_model.specs.Bounds.{Bounds}
 use Rattle.cf_model.specs.Rules.{KeepsRules}
 use Rattle.cf_model.specs.State.{HeapState}
 use Rattle.cf_model.specs.Steps.{ChangesCost, IsFreeStep, IsLeftByRefusal, IsMallocStep, IsReadAnswer, IsResizeStep, IsWriteStep, Position}
 use Rattle.page_model.specs.Held.{Placed}
 use Rattle.page_model.specs.Steps.{Request}
+use Rattle.held_heap.specs.Bound.{IsBoundCall, bound_code, class_to_bound}
 use Rattle.held_heap.specs.Calls.{IsFreeCall, IsFreshHeap, IsLengthCall, IsMallocCall, IsPlaceCall, IsReadCall, IsResizeCall, IsWriteCall, found_code, found_number, freed_shown, malloc_number, resized_shown}
 use Rattle.c_base.specs.Codes.{access_code, free_code, malloc_code, resize_code}
 use Rattle.c_base.specs.HandleRules.{AreHandles}
@@ -30,50 +32,34 @@ use Rattle.held_heap.specs.HeldState.{HeldState}
 use Rattle.c_base.specs.declared.answers.NphFreed.{NphFreed}
 use Rattle.c_base.specs.declared.answers.NphResized.{NphResized}
 use Rattle.c_base.proofs.Generations.{handle_small, names_itself}
+use Rattle.held_heap.proofs.SettingsStay.{bound_settings, free_settings, malloc_settings, resize_settings, settings, write_settings}
 use Rattle.c_base.proofs.HandleLaws.{first_are_handles, length-raised_by, raised_by_handles}
-
--- ---- the settings stay
-
-malloc_profile : (old new : HeapState) (bytes : ℕ) (r : Result Handle Refusal) → IsMallocStep old bytes r new → new.profile ≡ old.profile
-malloc_profile old new bytes (Ok h) step = ap (λ (s : HeapState). s.profile) step.whole
-malloc_profile old new bytes (Err e) step = ap (λ (s : HeapState). s.profile) step.1
-
-free_profile : (old new : HeapState) (number : ℕ) (r : Result Freed NotLive) → IsFreeStep old number r new → new.profile ≡ old.profile
-free_profile old new number (Ok f) step = step.rest.profile
-free_profile old new number (Err e) step = ap (λ (s : HeapState). s.profile) step.1
-
-left_profile : (kind : Kind) (old new : HeapState) → IsLeftByRefusal kind old new → new.profile ≡ old.profile
-left_profile Moving old new left = ap (λ (s : HeapState). s.profile) left
-left_profile NonMoving old new left = ap (λ (s : HeapState). s.profile) left
-left_profile Tlsf old new left = ap (λ (s : HeapState). s.profile) left
-left_profile HalfFit old new left = ap (λ (s : HeapState). s.profile) left
-
-resize_profile : (old new : HeapState) (asked : Request) (r : Result Resized ResizeFault) → IsResizeStep old asked r new → new.profile ≡ old.profile
-resize_profile old new asked (Ok done) step = ap (λ (s : HeapState). s.profile) step.whole
-resize_profile old new asked (Err e) step = left_profile old.kind old new step.1
-
-write_profile : (old new : HeapState) (position : Position) (bytes : List ℕ) (r : Result (Unit {0}) AccessFault) → IsWriteStep old position bytes r new
-    → new.profile ≡ old.profile
-write_profile old new position bytes (Ok u) step = ap (λ (s : HeapState). s.profile) step.whole
-write_profile old new position bytes (Err e) step = ap (λ (s : HeapState). s.profile) step.1
 
 -- ---- each call keeps the rules of the handles
 
-keeps : (old new : HeldState) → KeepsRules new.heap → new.heap.profile ≡ old.heap.profile → new.handles ≡ old.handles → KeepsHandles old → KeepsHandles new
-keeps old new rules profile same k = record {
+-- a set bound keeps the rules, whatever its code
+bound_rules : (old new : HeldState) (words n : ℕ) (code : ℤ) → IsBoundCall old words n code new → KeepsRules old.heap → KeepsRules new.heap
+bound_rules old new words n code c rules = by_class (class_to_bound old.heap words n) refl
+  where
+    by_class : (o : Option ℕ) → class_to_bound old.heap words n ≡ o → KeepsRules new.heap
+    by_class None is = subst KeepsRules (sym (ap (λ (h : HeldState). h.heap) c.whole ∙ ap (λ (o : Option ℕ). with_bound old.heap o n) is)) rules
+    by_class (Some class) is = c.rules (c.by_code ∙ ap (bound_code old.heap n) is)
+
+keeps : (old new : HeldState) → KeepsRules new.heap → settings new.heap ≡ settings old.heap → new.handles ≡ old.handles → KeepsHandles old → KeepsHandles new
+keeps old new rules stay same k = record {
   rules = rules;
   handles = subst AreHandles (sym same) k.handles;
-  enough = (let e = ap length same in let p = ap (λ (p : Profile). p.proxies) profile in let m = k.enough in omega arith);
+  enough = (let e = ap length same in let p = ap (λ (q : Kind × Profile). q.1.proxies) stay in let m = k.enough in omega arith);
 }
 
 pub malloc_keeps : (most : Option Bounds) (old new : HeldState) (bytes before after : ℕ) (code : ℤ) → IsMallocCall most old bytes before code after new
     → KeepsHandles old → KeepsHandles new
-malloc_keeps most old new bytes before after code c k = keeps old new c.rules (malloc_profile old.heap new.heap bytes c.answer c.step) c.same k
+malloc_keeps most old new bytes before after code c k = keeps old new c.rules (malloc_settings old.heap new.heap bytes c.answer c.step) c.same k
 
 pub free_keeps : (most : Option Bounds) (old new : HeldState) (handle : ℕ) (before after : NphFreed) (code : ℤ) → IsFreeCall most old handle before code after new
     → KeepsHandles old → KeepsHandles new
 free_keeps most old new handle before after code c k =
-    let p = ap (λ (p : Profile). p.proxies) (free_profile old.heap new.heap (number_in old.handles handle) c.answer c.step) in
+    let p = ap (λ (q : Kind × Profile). q.1.proxies) (free_settings old.heap new.heap (number_in old.handles handle) c.answer c.step) in
     let some = k.rules.settings.some_proxies in let m = k.enough in
     record {
       rules = c.rules;
@@ -84,16 +70,21 @@ free_keeps most old new handle before after code c k =
 pub resize_keeps : (most : Option Bounds) (old new : HeldState) (handle bytes : ℕ) (before after : NphResized) (code : ℤ)
     → IsResizeCall most old handle bytes before code after new → KeepsHandles old → KeepsHandles new
 resize_keeps most old new handle bytes before after code c k =
-    keeps old new c.rules (resize_profile old.heap new.heap (record { number = number_in old.handles handle; length = bytes }) c.answer c.step) c.same k
+    keeps old new c.rules (resize_settings old.heap new.heap (record { number = number_in old.handles handle; length = bytes }) c.answer c.step) c.same k
 
 pub write_keeps : (most : Option Bounds) (old new : HeldState) (handle from : ℕ) (bytes : List ℕ) (code : ℤ) → IsWriteCall most old handle from bytes code new
     → KeepsHandles old → KeepsHandles new
 write_keeps most old new handle from bytes code c k =
-    keeps old new c.rules (write_profile old.heap new.heap (record { number = number_in old.handles handle; from = from }) bytes c.answer c.step) c.same k
+    keeps old new c.rules (write_settings old.heap new.heap (record { number = number_in old.handles handle; from = from }) bytes c.answer c.step) c.same k
+
+pub bound_keeps : (old new : HeldState) (words n : ℕ) (code : ℤ) → IsBoundCall old words n code new → KeepsHandles old → KeepsHandles new
+bound_keeps old new words n code c k =
+    keeps old new (bound_rules old new words n code c k.rules) (ap (λ (h : HeldState). settings h.heap) c.whole ∙ bound_settings old.heap (class_to_bound old.heap words n) n)
+    (ap (λ (h : HeldState). h.handles) c.whole) k
 
 -- a call that leaves heap and handles, as a read, a length, `has_room` and `totals` do, keeps the rules
 pub others_keep : (old new : HeldState) → new.heap ≡ old.heap → new.handles ≡ old.handles → KeepsHandles old → KeepsHandles new
-others_keep old new kept same k = keeps old new (subst KeepsRules (sym kept) k.rules) (ap (λ (s : HeapState). s.profile) kept) same k
+others_keep old new kept same k = keeps old new (subst KeepsRules (sym kept) k.rules) (ap settings kept) same k
 
 -- ---- the handle of a malloc is new
 

@@ -1,3 +1,4 @@
+pub mod FreeParts
 pub mod Fresh
 pub mod Loosen
 pub mod MovingPlaces
@@ -12,5 +13,7 @@ pub mod TlsfWords
 pub mod TlsfCrosses
 pub mod TlsfRights
 pub mod Sent
+pub mod SettingsStay
 pub mod HandleLaws
 pub mod PageCalls
+pub mod BoundLaws

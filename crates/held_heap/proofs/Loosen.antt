@@ -48,7 +48,7 @@ MI = inside_manager.the_row direct.the_row mapping.ghosts
 
 -- the fields of a `Held` that shows the state x, and those of a manager that shows the state s
 abbrev HeldOf : HeldState → Type 0
-HeldOf x = (i : held_fields.Inside PagedState) × ((◌≡◌ {A = HeldState} (record { heap = i.heap.state; steps = i.steps; handles = i.handles }) x) × IsOpenOfKind Moving i.heap.state)
+HeldOf x = (i : held_fields.Inside PagedState) × ((◌≡◌ {A = HeldState} (record { heap = i.heap.state; steps = i.steps; handles = i.handles; counts = i.counts }) x) × IsOpenOfKind Moving i.heap.state)
 
 abbrev ManagerOf : PagedState → Type 0
 ManagerOf s = (j : manager_fields.Inside direct.the_row.Denot) × ((paged_in Moving j.inner ≡ s) × IsValidIn Moving j.inner)
@@ -63,7 +63,7 @@ module _ {M : Type 1} {𝓤 : Ura M} {𝓛 : Logic 𝓤} {K : Type 0} {Γ : List
       fpick t (λ (i : HeldOf x). fsplit t $ move t (1 ∷ []) $ drop t $ fpick t (λ vss. fsplit t $ feq_l t (λ whole. fsplit t $
       fpick t (λ (j : ManagerOf i.0.heap). fsplit t $ move t (1 ∷ []) $ drop t $
       -- [what the manager's fields own; what the other fields own; the cell]
-      let a : LooseHeld = record { heap = record { alloc = j.0.alloc; inner = j.0.inner; kind = j.0.kind }; steps = i.0.steps; memory = i.0.memory; handles = i.0.handles } in
+      let a : LooseHeld = record { heap = record { alloc = j.0.alloc; inner = j.0.inner; kind = j.0.kind }; steps = i.0.steps; memory = i.0.memory; handles = i.0.handles; counts = i.0.counts } in
       fjoin t $ feq_i t (List Val) vs (vstruct (of_list (flat (fields loose.the_type) vss)) ∷ []) whole $ fjoin t $
       fpack t (Valss (fields loose.the_type)) (within (shape loose.the_type) (loose.the_type.to a) vs) vss $
       move t (1 ∷ 0 ∷ []) $ fjoin t $ fpack t (List Val) (λ us. fsep (cell_at full_share S.mir us b o) (S.own_val a us)) vs $
@@ -73,13 +73,14 @@ module _ {M : Type 1} {𝓤 : Ura M} {𝓛 : Logic 𝓤} {K : Type 0} {Γ : List
         heap = ap (λ (s : PagedState). s.state) j.1.0 ∙ ap (λ (h : HeldState). h.heap) i.1.0;
         steps = ap (λ (h : HeldState). h.steps) i.1.0;
         handles = ap (λ (h : HeldState). h.handles) i.1.0;
+        counts = ap (λ (h : HeldState). h.counts) i.1.0;
       }))))))
 
   pub tighten : K → (a : LooseHeld) (x : HeldState) (b o : ℕ) → Fits a x → Step K 𝓛 (‵ ((mem T).own_at x b o) ∷ Γ) G (‵ ((mem S).own_at a b o) ∷ Γ) G
   unfolding part_of
   tighten t a x b o fit = step (λ s.
       let inner : PagedState = paged_in Moving a.heap.inner in
-      let i : held_fields.Inside PagedState = record { heap = inner; steps = a.steps; memory = a.memory; handles = a.handles } in
+      let i : held_fields.Inside PagedState = record { heap = inner; steps = a.steps; memory = a.memory; handles = a.handles; counts = a.counts } in
       let held_type = inside_held.the_type
       (paged_heap direct.the_row mapping.ghosts)
       (of_kind.ghosts direct.the_row page_kind.ghosts of_kind.no_dict mapping.ghosts of_kind.no_dict)
@@ -92,5 +93,5 @@ module _ {M : Type 1} {𝓤 : Ura M} {𝓛 : Logic 𝓤} {K : Type 0} {Γ : List
       fjoin t $ feq_i t (List Val) vs (vstruct (of_list (flat (fields loose.the_type) vss)) ∷ []) whole $ fjoin t $
       fpack t (Valss (fields held_type)) (within (shape held_type) (held_type.to i) vs) vss $
       nothing t $ move t (1 ∷ 0 ∷ []) $ fjoin t $
-      fpack t (HeldOf x) (λ i. fsep (HI.own_val i.0 vs) ftrue) (i, ((λ k. record { heap = fit.heap k; steps = fit.steps k; handles = fit.handles k }), fit.open_now)) $
+      fpack t (HeldOf x) (λ i. fsep (HI.own_val i.0 vs) ftrue) (i, ((λ k. record { heap = fit.heap k; steps = fit.steps k; handles = fit.handles k; counts = fit.counts k }), fit.open_now)) $
       move t (1 ∷ 0 ∷ []) $ fjoin t $ fpack t (List Val) (λ us. fsep (cell_at full_share T.mir us b o) (T.own_val x us)) vs $ s))))

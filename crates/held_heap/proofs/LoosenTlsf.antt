@@ -109,7 +109,7 @@ abbrev ManagerOf : HeapState → Type 0
 ManagerOf s = (i : manager_fields.Inside tlsf.the_row.Denot) × ((state_in Tlsf i.inner ≡ s) × IsKeptIn Tlsf i.inner)
 
 abbrev HeldOf : HeldState → Type 0
-HeldOf x = (i : held_fields.Inside HeapState) × ((◌≡◌ {A = HeldState} (record { heap = i.heap; steps = i.steps; handles = i.handles }) x) × IsOpenOfKind Tlsf i.heap)
+HeldOf x = (i : held_fields.Inside HeapState) × ((◌≡◌ {A = HeldState} (record { heap = i.heap; steps = i.steps; handles = i.handles; counts = i.counts }) x) × IsOpenOfKind Tlsf i.heap)
 
 -- what is owned of an open heap in an `Option`
 abbrev payload : (R : RattleType) → R.Denot → List Val → List Val → Valss (R ∷ []) → Fml
@@ -238,7 +238,7 @@ module _ {M : Type 1} {𝓤 : Ura M} {𝓛 : Logic 𝓤} {K : Type 0} {Γ : List
       fpick t (λ (i : HeldOf x). fsplit t $ move t (1 ∷ []) $ drop t $ fpick t (λ vss. fsplit t $ feq_l t (λ whole. fsplit t $
       -- [the manager; the other fields; the cell]
       manager_out t i.0.heap vss.0 (λ m e fit rules.
-      let a : LooseTlsf = record { heap = m; steps = i.0.steps; memory = i.0.memory; handles = i.0.handles } in
+      let a : LooseTlsf = record { heap = m; steps = i.0.steps; memory = i.0.memory; handles = i.0.handles; counts = i.0.counts } in
       fjoin t $ feq_i t (List Val) vs (vstruct (of_list (flat (fields loose.the_type) vss)) ∷ []) whole $ fjoin t $
       fpack t (Valss (fields loose.the_type)) (within (shape loose.the_type) (loose.the_type.to a) vs) vss $
       move t (1 ∷ 0 ∷ []) $ fjoin t $ fpack t (List Val) (λ us. fsep (cell_at full_share S.mir us b o) (S.own_val a us)) vs $
@@ -249,12 +249,13 @@ module _ {M : Type 1} {𝓤 : Ura M} {𝓛 : Logic 𝓤} {K : Type 0} {Γ : List
         heap = e ∙ ap (λ (h : HeldState). h.heap) i.1.0;
         steps = ap (λ (h : HeldState). h.steps) i.1.0;
         handles = ap (λ (h : HeldState). h.handles) i.1.0;
+        counts = ap (λ (h : HeldState). h.counts) i.1.0;
       }))))))
 
   pub tighten : K → (a : LooseTlsf) (x : HeldState) (b o : ℕ) → Fits a x → Step K 𝓛 (‵ ((mem T).own_at x b o) ∷ Γ) G (‵ ((mem S).own_at a b o) ∷ Γ) G
   unfolding part_of
   tighten t a x b o fit = step (λ s.
-      let i : held_fields.Inside HeapState = record { heap = state_seen a.heap.inner; steps = a.steps; memory = a.memory; handles = a.handles } in
+      let i : held_fields.Inside HeapState = record { heap = state_seen a.heap.inner; steps = a.steps; memory = a.memory; handles = a.handles; counts = a.counts } in
       let type = inside_held.the_type Manager
       (of_kind.ghosts tlsf.the_row policy.ghosts of_kind.no_dict buckets.ghosts of_kind.no_dict of_kind.no_dict)
       (manager.ghosts tlsf.the_row policy.ghosts manager.no_dict buckets.ghosts manager.no_dict manager.no_dict)
@@ -265,5 +266,5 @@ module _ {M : Type 1} {𝓤 : Ura M} {𝓛 : Logic 𝓤} {K : Type 0} {Γ : List
       fjoin t $ feq_i t (List Val) vs (vstruct (of_list (flat (fields type) vss)) ∷ []) whole $ fjoin t $
       fpack t (Valss (fields type)) (within (shape type) (type.to i) vs) vss $
       nothing t $ move t (1 ∷ 0 ∷ []) $ fjoin t $
-      fpack t (HeldOf x) (λ i. fsep (HeldIn.own_val i.0 vs) ftrue) (i, ((λ k. record { heap = fit.heap k; steps = fit.steps k; handles = fit.handles k }), fit.open_now)) $
+      fpack t (HeldOf x) (λ i. fsep (HeldIn.own_val i.0 vs) ftrue) (i, ((λ k. record { heap = fit.heap k; steps = fit.steps k; handles = fit.handles k; counts = fit.counts k }), fit.open_now)) $
       move t (1 ∷ 0 ∷ []) $ fjoin t $ fpack t (List Val) (λ us. fsep (cell_at full_share T.mir us b o) (T.own_val x us)) vs $ s))))

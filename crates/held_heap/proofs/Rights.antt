@@ -115,6 +115,7 @@ module _ (x : HeldState) (m : Names) (fit : Fits (held_all m.parts x.heap.words)
     heap = two.1;
     steps = fit.steps;
     handles = fit.handles;
+    counts = fit.counts;
   }
 
 module _ {M : Type 1} {𝓤 : Ura M} (𝓛 : Logic 𝓤) where

@@ -24,20 +24,23 @@ use Rattle.step_ledger.specs.Counting.{RoseAtMost, RoseBy}
 use Rattle.c_base.specs.Codes.{access_code, free_code, malloc_code, resize_code}
 use Rattle.c_base.specs.HandleRules.{AreFirstHandles}
 use Rattle.c_base.specs.Handles.{handle_of, moved_handle, number_in, raised_by}
+use Rattle.held_heap.specs.Counts.{free_counts, free_left, malloc_counts, opening_counts, resize_counts}
 use Rattle.held_heap.specs.HeldState.{HeldState}
 use Rattle.c_base.specs.declared.answers.NphClass.{NphClass}
+use Rattle.c_base.specs.declared.answers.NphCounted.{NphCounted}
 use Rattle.c_base.specs.declared.answers.NphFreed.{NphFreed}
 use Rattle.c_base.specs.declared.answers.NphResized.{NphResized}
 use Rattle.c_base.specs.declared.answers.NphHeapTotals.{NphHeapTotals}
 
--- `new` is a heap that was just opened with the settings p: it has no objects, its pages, numbers and blocks are in the opening order, its count is 0, and its handles
--- are larger than `last`
+-- `new` is a heap that was just opened with the settings p: it has no objects, its pages, numbers and blocks are in the opening order, its count of steps is 0, its handles
+-- are larger than `last`, and it has counted nothing else
 pub record IsFreshHeap (kind : Kind) (p : Profile) (last : ℕ) (new : HeldState) : Type 0 where
   pub words : IsOpeningWords kind p new.heap.words
   pub whole : new.heap ≡ ordered_heap kind p new.heap.words (Some (opening_order kind p))
   pub rules : KeepsRules new.heap
   pub steps : new.steps ≡ 0
   pub handles : AreFirstHandles p.proxies last new.handles
+  pub counts : new.counts ≡ opening_counts (free_left new.heap)
 
 -- the caller's number after a malloc: the new handle, or after a refusal the number before the call
 abbrev pub malloc_number : List ℕ → ℕ → Result Handle Refusal → ℕ
@@ -56,6 +59,7 @@ pub record IsMallocCall (most : Option Bounds) (old : HeldState) (bytes before :
   pub bound : ByOwn most (λ b. RoseAtMost 0 new.steps (b.malloc answer))
   pub cost : new.steps ≡ new.heap.cost
   pub same : new.handles ≡ old.handles
+  pub counts : new.counts ≡ malloc_counts old.counts answer new.heap
 
 -- the caller's structure after a free with this result: what was freed and moved, or after a refusal the structure before the call
 abbrev pub freed_shown : List ℕ → NphFreed → Result Freed NotLive → NphFreed
@@ -73,6 +77,7 @@ pub record IsFreeCall (most : Option Bounds) (old : HeldState) (handle : ℕ) (b
   pub bound : ByOwn most (λ b. RoseAtMost 0 new.steps (b.free answer))
   pub cost : new.steps ≡ new.heap.cost
   pub raises : new.handles ≡ raised_by old.handles handle answer
+  pub counts : new.counts ≡ free_counts old.counts answer
 
 -- the caller's structure after a resize with this result: the slots and what moved, or after a refusal the structure before the call
 abbrev pub resized_shown : List ℕ → NphResized → Result Resized ResizeFault → NphResized
@@ -91,6 +96,7 @@ pub record IsResizeCall (most : Option Bounds) (old : HeldState) (handle bytes :
   pub bound : ByOwn most (λ b. RoseAtMost 0 new.steps (b.resize bytes answer))
   pub cost : RoseByCost old.heap.kind 0 new.steps new.heap.cost
   pub same : new.handles ≡ old.handles
+  pub counts : new.counts ≡ resize_counts old.counts answer new.heap
 
 -- a write of `bytes` into the object that `handle` names, from its byte `from` on
 pub record IsWriteCall (most : Option Bounds) (old : HeldState) (handle from : ℕ) (bytes : List ℕ) (code : ℤ) (new : HeldState) : Type 0 where
@@ -100,6 +106,7 @@ pub record IsWriteCall (most : Option Bounds) (old : HeldState) (handle from : �
   pub rules : KeepsRules new.heap
   pub exact : ByOwn most (λ b. RoseBy 0 new.steps (b.access from (length bytes) answer))
   pub same : new.handles ≡ old.handles
+  pub counts : new.counts ≡ old.counts
 
 -- a read of the object that `handle` names, from its byte `from` on, into the caller's buffer; the heap is unchanged
 pub record IsReadCall (most : Option Bounds) (old : HeldState) (handle from : ℕ) (before : List ℕ) (code : ℤ) (after : List ℕ) (new : HeldState) : Type 0 where
@@ -110,6 +117,7 @@ pub record IsReadCall (most : Option Bounds) (old : HeldState) (handle from : �
   pub exact : ByOwn most (λ b. RoseBy 0 new.steps (b.access from (length before) answer))
   pub kept : new.heap ≡ old.heap
   pub same : new.handles ≡ old.handles
+  pub counts : new.counts ≡ old.counts
 
 -- the code of a call for a length or an address: 0, or 4 (`UNKNOWN`) if the handle is not live and there is none
 abbrev pub found_code : Option ℕ → ℤ
@@ -128,6 +136,7 @@ pub record IsLengthCall (of_kind : Kind) (old : HeldState) (handle before : ℕ)
   pub by_length : after ≡ found_number (length_of old.heap (number_in old.handles handle)) before
   pub kept : new.heap ≡ old.heap
   pub same : new.handles ≡ old.handles
+  pub counts : new.counts ≡ old.counts
   pub exact : RoseBy 0 new.steps (length_steps old.heap.kind (length_of old.heap (number_in old.handles handle)))
 
 -- a call for the address of the object that `handle` names, in words from the start of the region; the heap is unchanged
@@ -136,6 +145,7 @@ pub record IsPlaceCall (old : HeldState) (handle before : ℕ) (code : ℤ) (aft
   pub by_place : after ≡ found_number (place_of old.heap (number_in old.handles handle)) before
   pub kept : new.heap ≡ old.heap
   pub same : new.handles ≡ old.handles
+  pub counts : new.counts ≡ old.counts
   pub exact : RoseBy 0 new.steps 1
 
 -- the code of `has_room` with this result: 0, or the code of a malloc with this refusal
@@ -150,6 +160,7 @@ pub record IsRoomCall (most : Option Bounds) (old : HeldState) (bytes : ℕ) (co
   pub room : IsHasRoomAnswer old.heap bytes answer
   pub kept : new.heap ≡ old.heap
   pub same : new.handles ≡ old.handles
+  pub counts : new.counts ≡ old.counts
   pub bound : ByOwn most (λ b. RoseAtMost 0 new.steps (b.room answer))
   pub exact : ByOwn most (λ b. RoseBy 0 new.steps (b.room_exact old.heap bytes answer))
 
@@ -188,6 +199,7 @@ pub record IsTotalsCall (most : Option Bounds) (old : HeldState) (code : ℤ) (a
   pub by_totals : after ≡ totals_shown old.heap
   pub kept : new.heap ≡ old.heap
   pub same : new.handles ≡ old.handles
+  pub counts : new.counts ≡ old.counts
   pub bound : ByOwn most (λ b. RoseAtMost 0 new.steps (b.totals (totals_in old.heap.kind old.heap)))
   pub exact : ByOwn most (λ b. RoseBy 0 new.steps (b.totals_exact old.heap))
 
@@ -195,4 +207,10 @@ pub record IsTotalsCall (most : Option Bounds) (old : HeldState) (code : ℤ) (a
 pub record IsStepsCall (old : HeldState) (code : ℤ) (after : ℕ) (new : HeldState) : Type 0 where
   pub by_code : code ≡ pos 0
   pub by_steps : after ≡ old.steps
+  pub kept : new ≡ old
+
+-- a call for the counts; it changes nothing, and counts no steps
+pub record IsCountsCall (old : HeldState) (code : ℤ) (after : NphCounted) (new : HeldState) : Type 0 where
+  pub by_code : code ≡ pos 0
+  pub by_counts : after ≡ old.counts
   pub kept : new ≡ old

@@ -1,6 +1,8 @@
 -- For `Held`, an open heap with the step count of its last call and the handles that C has: its state, as contracts see it.
 use Rattle.std.specs.Prelude.{◌≡◌, ℕ, List, IsTrue, refl}
 use Rattle.std.specs.Coded.{Coded, code_by, coded×, coded_list, coded_ℕ}
+use Rattle.c_base.specs.contracts.answers.NphCounted as counts
+use Rattle.c_base.specs.declared.answers.NphCounted.{NphCounted}
 use Rattle.cf_base.specs.declared.kind.Kind.{Kind}
 use Rattle.cf_model.specs.State.{HeapState, state_code}
 
@@ -9,13 +11,14 @@ pub record IsOpenOfKind (of_kind : Kind) (s : HeapState) : Type 0 where
   pub open_now : IsTrue s.is_open
   pub kind : s.kind ≡ of_kind
 
--- the state of the heap; the steps of the last call, but for `figures` and `last_steps`, which count none; and the handle of each number
+-- the state of the heap; the steps of the last call that counts them; the handle of each number; and what is counted from the opening on
 pub record HeldState : Type 0 where
   pub heap : HeapState
   pub steps : ℕ
   pub handles : List ℕ
+  pub counts : NphCounted
 
 -- the state as pairs, which the trait `Model` needs
 abbrev pub held_code : Coded HeldState
-held_code = code_by (HeapState × (ℕ × List ℕ)) (coded× state_code (coded× coded_ℕ (coded_list coded_ℕ))) (λ h. (h.heap, (h.steps, h.handles)))
-    (λ q. record { heap = q.0; steps = q.1.0; handles = q.1.1 }) (λ _. refl)
+held_code = code_by (HeapState × (ℕ × (List ℕ × NphCounted))) (coded× state_code (coded× coded_ℕ (coded× (coded_list coded_ℕ) counts.the_row.coded)))
+    (λ h. (h.heap, (h.steps, (h.handles, h.counts)))) (λ q. record { heap = q.0; steps = q.1.0; handles = q.1.1.0; counts = q.1.1.1 }) (λ _. refl)

@@ -1,4 +1,5 @@
 pub mod Codes
+pub mod Counts
 pub mod HeldState
 pub mod HandleRules
 pub mod Calls
@@ -23,4 +24,6 @@ pub mod TlsfPlace
 pub mod Needed
 pub mod Most
 pub mod Slots
+pub mod Walk
+pub mod Bound
 pub mod PagesNeeded

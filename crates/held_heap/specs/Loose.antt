@@ -30,3 +30,4 @@ pub record Fits (a : LooseHeld) (x : HeldState) : Type 0 where
   pub heap : state_in Moving a.heap.inner ≡ x.heap
   pub steps : a.steps ≡ x.steps
   pub handles : a.handles ≡ x.handles
+  pub counts : a.counts ≡ x.counts

@@ -73,3 +73,4 @@ pub record Fits (a : LooseTlsf) (x : HeldState) : Type 0 where
   pub heap : state_seen a.heap.inner ≡ x.heap
   pub steps : a.steps ≡ x.steps
   pub handles : a.handles ≡ x.handles
+  pub counts : a.counts ≡ x.counts

@@ -22,9 +22,9 @@ manager_bytes HalfFit p = tag_bytes HalfFit p
 
 -- the bytes of the block of an open heap of each kind that has a library (`Held`)
 abbrev pub held_size : Kind → ℕ
-held_size Moving = 1472
-held_size NonMoving = 1472
-held_size Tlsf = 456
+held_size Moving = 1528
+held_size NonMoving = 1528
+held_size Tlsf = 512
 held_size HalfFit = 0
 
 -- the manager, the handles of `count` numbers, and the block of the open heap

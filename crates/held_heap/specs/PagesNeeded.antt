@@ -14,6 +14,7 @@ use Rattle.sizing.specs.Heaps.{IsFresh, ServesHeapMallocs, ServesHeapResizes}
 use Rattle.sizing.specs.Needs.{HasFault}
 use Rattle.sizing.specs.Runs.{CanBeRefused}
 use Rattle.sizing.specs.declared.by_numbers.NeedsFault.{NeedsFault}
+use Rattle.held_heap.specs.Bound.{IsBoundCall}
 use Rattle.held_heap.specs.Calls.{IsFreeCall, IsMallocCall, IsResizeCall, IsWriteCall}
 use Rattle.held_heap.specs.Codes.{needs_code}
 use Rattle.held_heap.specs.HeldState.{HeldState}
@@ -49,6 +50,7 @@ pub data CCall : Type 0 where
   free_call : (handle : ℕ) (before : NphFreed) (code : ℤ) (after : NphFreed) → CCall
   resize_call : (handle bytes : ℕ) (before : NphResized) (code : ℤ) (after : NphResized) → CCall
   write_call : (handle from : ℕ) (bytes : List ℕ) (code : ℤ) → CCall
+  bound_call : (words k : ℕ) (code : ℤ) → CCall
   other_call : CCall
 
 -- the call leads from the state `old` to `new`
@@ -57,6 +59,7 @@ CallLeads most old (malloc_call bytes before code after) new = IsMallocCall most
 CallLeads most old (free_call handle before code after) new = IsFreeCall most old handle before code after new
 CallLeads most old (resize_call handle bytes before code after) new = IsResizeCall most old handle bytes before code after new
 CallLeads most old (write_call handle from bytes code) new = IsWriteCall most old handle from bytes code new
+CallLeads most old (bound_call words k code) new = IsBoundCall old words k code new
 CallLeads most old other_call new = new.heap ≡ old.heap
 
 -- from the state s the calls, one after the other, lead to `last`; after each the live objects are within the needs

@@ -22,6 +22,7 @@ pub record IsSlotWordsCall (of_kind : Kind) (old : HeldState) (handle before : �
   pub by_words : after ≡ found_number (slot_words_of of_kind old.heap (number_in old.handles handle)) before
   pub kept : new.heap ≡ old.heap
   pub same : new.handles ≡ old.handles
+  pub counts : new.counts ≡ old.counts
   pub exact : RoseBy 0 new.steps (slot_words_steps of_kind (slot_words_of of_kind old.heap (number_in old.handles handle)))
 
 -- the code of a call for the class of a length: 0, or 1 (`SIZE`) if an object of that length needs more than a page
@@ -35,4 +36,5 @@ pub record IsClassCall (old : HeldState) (bytes before : ℕ) (code : ℤ) (afte
   pub by_class : after ≡ found_number (class_of (paging_in old.heap).sizes bytes) before
   pub kept : new.heap ≡ old.heap
   pub same : new.handles ≡ old.handles
+  pub counts : new.counts ≡ old.counts
   pub exact : RoseBy 0 new.steps 1

@@ -3,10 +3,13 @@
 ghost use Rattle.std.specs.Prelude.{◌≡◌, IfSome, IsSome};
 ghost use Rattle.cf_base.specs.Settings.{profile_of};
 
+use crate::counts::{
+    count, count_move, count_peaks, count_refusal, count_resize_fault, count_resized,
+};
 use crate::of_kind::OfKind;
 use c_base::{
-    DONE, Handles, NphClass, NphFreed, NphHeapTotals, NphResized, UNKNOWN, of_access, of_refusal,
-    of_resize,
+    DONE, Handles, NphClass, NphCounted, NphFreed, NphHeapTotals, NphResized, UNKNOWN, of_access,
+    of_refusal, of_resize,
 };
 use cf_base::{Handle, Settings};
 use std::alloc::Global;
@@ -14,7 +17,8 @@ use std::marker::Model;
 use std::rt::Memory;
 use step_ledger::Meter;
 
-/// An open heap, the steps of its last call, and the handle of each number: what C has for an object. A call on a handle that
+/// An open heap, the steps of its last call, the handle of each number: what C has for an object; and what it counts from the
+/// opening on (`counts`). A call on a handle that
 /// its number does not have now is a call on `NONE`, which is never live. Lending, returning, `figures` and `last_steps` count none,
 /// and leave this number unchanged. Each other call makes a ledger of its own from `memory`, so that the compiler keeps the
 /// count in a register.
@@ -24,6 +28,7 @@ pub struct Held<H: OfKind> {
     pub(crate) steps: u64,
     pub(crate) memory: Memory,
     pub(crate) handles: Handles,
+    pub(crate) counts: NphCounted,
 }
 
 impl<H: OfKind> Model for Held<H> {
@@ -33,7 +38,7 @@ impl<H: OfKind> Model for Held<H> {
 
     ghost coded = { held_code };
 
-    ghost view = { λ h. record { heap = H.state h.heap; steps = h.steps; handles = h.handles } };
+    ghost view = { λ h. record { heap = H.state h.heap; steps = h.steps; handles = h.handles; counts = h.counts } };
 
     ghost invariant = { λ h. IsOpenOfKind H.of_kind (H.state h.heap) };
 }
@@ -52,11 +57,21 @@ impl<H: OfKind> Held<H> {
         let alloc = Global::new(memory);
         let handles = Handles::new(alloc, s.proxies, last)?;
         heap.open_heap(s).ok()?;
+        let counts = NphCounted {
+            most_asked: 0,
+            least_free: heap.free_left(),
+            moves: 0,
+            unknown: 0,
+            size: 0,
+            proxy: 0,
+            space: 0,
+        };
         let held = Held {
             heap,
             steps: 0,
             memory,
             handles,
+            counts,
         };
         Box::new(alloc, held).ok()
     }
@@ -71,10 +86,14 @@ impl<H: OfKind> Held<H> {
         self.steps = meter.lap();
         match answer {
             Ok(h) => {
+                count_peaks(&self.heap, &mut self.counts);
                 *handle = self.handles.handle_of(h.0);
                 DONE
             }
-            Err(cause) => of_refusal(cause),
+            Err(cause) => {
+                count_refusal(&mut self.counts, cause);
+                of_refusal(cause)
+            }
         }
     }
 
@@ -91,13 +110,17 @@ impl<H: OfKind> Held<H> {
         match answer {
             Ok(done) => {
                 self.handles.raise(handle);
+                count_move(&mut self.counts, done.moved);
                 *freed = NphFreed {
                     slot_words: done.slot_words,
                     moved: self.handles.of_moved(done.moved),
                 };
                 DONE
             }
-            Err(_) => UNKNOWN,
+            Err(_) => {
+                count(&mut self.counts.unknown);
+                UNKNOWN
+            }
         }
     }
 
@@ -113,6 +136,7 @@ impl<H: OfKind> Held<H> {
         self.steps = meter.lap();
         match answer {
             Ok(done) => {
+                count_resized(&self.heap, &mut self.counts, done.moved);
                 *resized = NphResized {
                     old_slot_words: done.old_slot_words,
                     slot_words: done.slot_words,
@@ -120,7 +144,10 @@ impl<H: OfKind> Held<H> {
                 };
                 DONE
             }
-            Err(cause) => of_resize(cause),
+            Err(cause) => {
+                count_resize_fault(&mut self.counts, cause);
+                of_resize(cause)
+            }
         }
     }
 

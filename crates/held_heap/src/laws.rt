@@ -12,6 +12,7 @@ ghost use Rattle.page_model.specs.Held.{Placed, objects};
 ghost use Rattle.page_model.specs.Steps.{resized};
 ghost use Rattle.quota_model.specs.declared.answers.Need.{Need};
 ghost use Rattle.sizing.specs.Demands.{KeepsTo};
+ghost use Rattle.held_heap.specs.Bound.{IsBoundCall};
 ghost use Rattle.held_heap.specs.Calls.{IsFreeCall, IsFreshHeap, IsLengthCall, IsMallocCall, IsPlaceCall, IsReadCall, IsResizeCall, IsWriteCall};
 ghost use Rattle.c_base.specs.Handles.{none, number_in};
 ghost use Rattle.held_heap.specs.HandleRules.{IsNewHandle, KeepsHandles};
@@ -31,6 +32,7 @@ pub fn every_call_keeps_the_handles()
         → IsResizeCall most old handle bytes before code after new → KeepsHandles old → KeepsHandles new }
     ensures write { (most : Option Bounds) (old new : HeldState) (handle from : ℕ) (bytes : List ℕ) (code : ℤ)
         → IsWriteCall most old handle from bytes code new → KeepsHandles old → KeepsHandles new }
+    ensures bound { (old new : HeldState) (words n : ℕ) (code : ℤ) → IsBoundCall old words n code new → KeepsHandles old → KeepsHandles new }
     ensures others { (old new : HeldState) → new.heap ≡ old.heap → new.handles ≡ old.handles → KeepsHandles old → KeepsHandles new }
 {}
 
@@ -64,7 +66,7 @@ pub fn a_stale_handle_is_refused()
 {}
 
 /// A heap with pages was opened with at least the number of them that `nph_pages_needed` writes, and the calls so far kept
-/// its objects within the needs. Then no malloc (`malloc`) and no resize (`resize`) with which they still are returns 3
+/// its objects within the needs, whatever bounds they set. Then no malloc (`malloc`) and no resize (`resize`) with which they still are returns 3
 /// (`SPACE`).
 pub fn no_call_within_the_needs_lacks_space()
     ensures malloc { (kind : Kind) (p : Profile) (last page_bytes pages : ℕ) (needs : List Need) (most : Option Bounds)

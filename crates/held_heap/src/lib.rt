@@ -2,6 +2,8 @@
 //! libraries `norphuen`, `norphuen_nonmoving` and `norphuen_tlsf` export them, each for one manager.
 #![tactic(auto)]
 
+mod class_bound;
+mod counts;
 mod held;
 pub mod laws;
 mod loose;
@@ -13,7 +15,10 @@ mod of_kind;
 mod pages;
 mod slots;
 pub mod tlsf;
+mod walk;
 
-pub use c_base::{CLOSED, NphClass, NphFreed, NphHeapTotals, NphNeeded, NphResized, VERSION};
+pub use c_base::{
+    CLOSED, NphClass, NphCounted, NphFreed, NphHeapTotals, NphNeeded, NphResized, VERSION,
+};
 pub use pages::pages_needed;
 pub use sizing::Need as NphNeed;

@@ -7,7 +7,7 @@ ghost use Rattle.paged_heap.specs.PagedState.{region_in};
 ghost use Rattle.held_heap.specs.Loose.{words_of};
 ghost use Rattle.held_heap.specs.LooseLoan.{LendsAllOf, LendsAllIn, LendsAllWords};
 
-use c_base::Handles;
+use c_base::{Handles, NphCounted};
 use paged_heap::OpenHeap;
 use std::alloc::Global;
 use std::marker::PhantomData;
@@ -30,6 +30,7 @@ pub struct LooseHeld {
     pub(crate) steps: u64,
     pub(crate) memory: Memory,
     pub(crate) handles: Handles,
+    pub(crate) counts: NphCounted,
 }
 
 /// Borrows all words of the region.

@@ -6,7 +6,7 @@ ghost use Rattle.std.specs.Borrow.{sem};
 ghost use Rattle.held_heap.specs.LooseTlsf.{region_in, words_of};
 ghost use Rattle.held_heap.specs.LooseTlsfLoan.{LendsAllIn, LendsAllOfBlocks, LendsAllOfOpen, LendsAllWords};
 
-use c_base::Handles;
+use c_base::{Handles, NphCounted};
 use cf_base::Settings;
 use proxy_table::ProxyTable;
 use region::Region;
@@ -59,6 +59,7 @@ pub struct LooseTlsf {
     pub(crate) steps: u64,
     pub(crate) memory: Memory,
     pub(crate) handles: Handles,
+    pub(crate) counts: NphCounted,
 }
 
 /// Borrows all words of the region.

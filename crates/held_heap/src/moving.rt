@@ -26,9 +26,9 @@ use std::rt::Memory;
 type Open = Held<MovingHeap>;
 
 /// The bytes of that block.
-const HELD_BYTES: u64 = 1472;
+const HELD_BYTES: u64 = 1528;
 
-const _: () = prove!(size_of::<Open>() == 1472);
+const _: () = prove!(size_of::<Open>() == 1528);
 
 /// The address of the block of an open heap, which the `HeapBlock` owns; or null, and then it owns nothing.
 /// `held` is the state of the heap, `None` if the address is null. `words` is the address of the region's words

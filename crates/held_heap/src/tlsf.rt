@@ -26,9 +26,9 @@ use tlsf_heap::TlsfHeap;
 type Open = Held<TlsfHeap>;
 
 /// The bytes of that block.
-const HELD_BYTES: u64 = 456;
+const HELD_BYTES: u64 = 512;
 
-const _: () = prove!(size_of::<Open>() == 456);
+const _: () = prove!(size_of::<Open>() == 512);
 
 /// The address of the block of an open heap, which the `HeapBlock` owns; or null, and then it owns nothing.
 /// `held` is the state of the heap, `None` if the address is null. `words` is the address of the region's words

@@ -8,10 +8,12 @@
 ghost use Rattle.std.specs.Prelude.{◌≡◌};
 ghost use Rattle.cf_base.specs.declared.kind.Kind.TheVariants.{Moving};
 ghost use Rattle.cf_base.specs.declared.kind.Layout.TheVariants.{Words};
-ghost use Rattle.held_heap.specs.Calls.{IsFiguresCall, IsFreeCall, IsLengthCall, IsMallocCall, IsPlaceCall, IsReadCall, IsResizeCall, IsRoomCall, IsStepsCall, IsTotalsCall, IsWriteCall};
+ghost use Rattle.held_heap.specs.Bound.{IsBoundCall};
+ghost use Rattle.held_heap.specs.Calls.{IsCountsCall, IsFiguresCall, IsFreeCall, IsLengthCall, IsMallocCall, IsPlaceCall, IsReadCall, IsResizeCall, IsRoomCall, IsStepsCall, IsTotalsCall, IsWriteCall};
 ghost use Rattle.held_heap.specs.AtPlace.{IsCallOnOpen, IsLendCall, IsOpenCall, IsReturnCall};
 ghost use Rattle.held_heap.specs.CallerHeap.{closed_by};
 ghost use Rattle.held_heap.specs.Most.{IsMostAccess, IsMostFree, IsMostLength, IsMostMalloc, IsMostResize, IsMostRoom, IsMostTotals, kind_code};
+ghost use Rattle.held_heap.specs.Walk.{IsNextCall};
 ghost use Rattle.held_heap.specs.Needed.{IsNeededCall};
 ghost use Rattle.held_heap.specs.Slots.{IsClassCall, IsSlotWordsCall};
 ghost use Rattle.held_heap.specs.PagesNeeded.{IsPagesCall};
@@ -22,7 +24,8 @@ ghost use Rattle.c_base.specs.Version.{version};
 use cf_base::{Kind, Layout};
 use held_heap::moving::NphHeap;
 use held_heap::{
-    NphClass, NphFreed, NphHeapTotals, NphNeed, NphNeeded, NphResized, VERSION, most, pages_needed,
+    NphClass, NphCounted, NphFreed, NphHeapTotals, NphNeed, NphNeeded, NphResized, VERSION, most,
+    pages_needed,
 };
 use std::rt::Memory;
 
@@ -227,6 +230,47 @@ pub extern "C" fn nph_totals(heap: &mut NphHeap, totals: &mut NphHeapTotals) -> 
 {
     if heap.is_open() {
         heap.held().totals(totals)
+    } else {
+        heap.refusal()
+    }
+}
+
+/// Writes the handle of the next live object after that of `handle` into `next`, the first one for `NONE`; after the last one
+/// `NONE` (`Held::next`). It takes a step for each number that it looks at.
+#[unsafe(no_mangle)]
+pub extern "C" fn nph_next(heap: &mut NphHeap, handle: u32, next: &mut u32) -> i32
+    ensures { IsCallOnOpen (held_in heap.old) result (held_in heap.new) (next.new ≡ next.old)
+        (λ h h2. IsNextCall h handle next.old result next.new h2) }
+{
+    if heap.is_open() {
+        heap.held().next(handle, next)
+    } else {
+        heap.refusal()
+    }
+}
+
+/// Writes what the heap counted since it was opened into `counts` (`Held::counts`). It counts no steps.
+#[unsafe(no_mangle)]
+pub extern "C" fn nph_counts(heap: &mut NphHeap, counts: &mut NphCounted) -> i32
+    ensures { IsCallOnOpen (held_in heap.old) result (held_in heap.new) (counts.new ≡ counts.old)
+        (λ h h2. IsCountsCall h result counts.new h2) }
+{
+    if heap.is_open() {
+        heap.held().counts(counts)
+    } else {
+        heap.refusal()
+    }
+}
+
+/// Sets to `k` how many pages of the class with slots of `slot_words` words may be partly full, while no object is live
+/// (`Held::set_bound`). It counts no steps.
+#[unsafe(no_mangle)]
+pub extern "C" fn nph_set_bound(heap: &mut NphHeap, slot_words: u32, k: u32) -> i32
+    ensures { IsCallOnOpen (held_in heap.old) result (held_in heap.new) (Unit {0})
+        (λ h h2. IsBoundCall h slot_words k result h2) }
+{
+    if heap.is_open() {
+        heap.held().set_bound(slot_words, k)
     } else {
         heap.refusal()
     }

@@ -8,10 +8,11 @@
 
 ghost use Rattle.std.specs.Prelude.{◌≡◌};
 ghost use Rattle.cf_base.specs.declared.kind.Kind.TheVariants.{Tlsf};
-ghost use Rattle.held_heap.specs.Calls.{IsFiguresCall, IsFreeCall, IsLengthCall, IsMallocCall, IsPlaceCall, IsReadCall, IsResizeCall, IsRoomCall, IsStepsCall, IsTotalsCall, IsWriteCall};
+ghost use Rattle.held_heap.specs.Calls.{IsCountsCall, IsFiguresCall, IsFreeCall, IsLengthCall, IsMallocCall, IsPlaceCall, IsReadCall, IsResizeCall, IsRoomCall, IsStepsCall, IsTotalsCall, IsWriteCall};
 ghost use Rattle.held_heap.specs.AtPlace.{IsCallOnOpen, IsLendCall, IsOpenCall, IsReturnCall};
 ghost use Rattle.held_heap.specs.CallerHeap.{closed_by};
 ghost use Rattle.held_heap.specs.Most.{IsMostAccess, IsMostFree, IsMostLength, IsMostMalloc, IsMostResize, IsMostRoom, IsMostTotals, kind_code};
+ghost use Rattle.held_heap.specs.Walk.{IsNextCall};
 ghost use Rattle.held_heap.specs.Needed.{IsNeededCall};
 ghost use Rattle.held_heap.specs.TlsfPlace.{held_in};
 ghost use Rattle.held_heap.specs.Tlsf.{bounds};
@@ -19,7 +20,9 @@ ghost use Rattle.c_base.specs.Version.{version};
 
 use cf_base::Kind;
 use held_heap::tlsf::NphHeap;
-use held_heap::{NphClass, NphFreed, NphHeapTotals, NphNeeded, NphResized, VERSION, most};
+use held_heap::{
+    NphClass, NphCounted, NphFreed, NphHeapTotals, NphNeeded, NphResized, VERSION, most,
+};
 use std::rt::Memory;
 
 /// Opens the heap with these settings: a region of `pages` times `page_bytes` bytes, and at most `proxies` live
@@ -180,6 +183,33 @@ pub extern "C" fn nph_tlsf_totals(heap: &mut NphHeap, totals: &mut NphHeapTotals
 {
     if heap.is_open() {
         heap.held().totals(totals)
+    } else {
+        heap.refusal()
+    }
+}
+
+/// Writes the handle of the next live object after that of `handle` into `next`, the first one for `NONE`; after the last one
+/// `NONE` (`Held::next`). It takes a step for each number that it looks at.
+#[unsafe(no_mangle)]
+pub extern "C" fn nph_tlsf_next(heap: &mut NphHeap, handle: u32, next: &mut u32) -> i32
+    ensures { IsCallOnOpen (held_in heap.old) result (held_in heap.new) (next.new ≡ next.old)
+        (λ h h2. IsNextCall h handle next.old result next.new h2) }
+{
+    if heap.is_open() {
+        heap.held().next(handle, next)
+    } else {
+        heap.refusal()
+    }
+}
+
+/// Writes what the heap counted since it was opened into `counts` (`Held::counts`). It counts no steps.
+#[unsafe(no_mangle)]
+pub extern "C" fn nph_tlsf_counts(heap: &mut NphHeap, counts: &mut NphCounted) -> i32
+    ensures { IsCallOnOpen (held_in heap.old) result (held_in heap.new) (counts.new ≡ counts.old)
+        (λ h h2. IsCountsCall h result counts.new h2) }
+{
+    if heap.is_open() {
+        heap.held().counts(counts)
     } else {
         heap.refusal()
     }

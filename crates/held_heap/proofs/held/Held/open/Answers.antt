@@ -10,5 +10,5 @@ returns g c =
     let rules = at_ok c.open_heap.result _ c.open_heap.ensures.rules c.ok.result c.ok.ensures.value c.in_ok-ok.field-0 c.in_ok-ok.was in
     let first = at_some c.new.result _ c.new.ensures c.in_ok-handles.handles c.in_ok-handles.was in
     in_box c.new-2.result (λ b. b.value) _ (IsFreshHeap (g.H.Manager.state c.args.heap).kind (profile_of c.args.s.now) c.args.last)
-    (fresh_from_closed c.args.s.now c.args.last _ first (g.H.Manager.state c.args.heap) _ c.requires.order opened c.open_heap.ensures.promise rules)
+    (fresh_from_closed c.args.s.now c.args.last _ _ first (g.H.Manager.state c.args.heap) _ c.requires.order opened c.open_heap.ensures.promise rules c.free_left.ensures)
     c.new-2.ensures.ok c.ok-2.result c.ok-2.ensures.value

@@ -1,0 +1,60 @@
+-- For `Held`: what it counts from the opening on, and the counts after each call that changes them.
+use Rattle.std.specs.Prelude.{ℕ, ◌+◌, ◌-◌, ◌^◌, Option, Some, None, Result, Ok, Err, max, min}
+use Rattle.cf_base.specs.declared.answers.Freed.{Freed}
+use Rattle.cf_base.specs.declared.answers.Handle.{Handle}
+use Rattle.cf_base.specs.declared.answers.NotLive.{NotLive}
+use Rattle.cf_base.specs.declared.answers.Refusal.{Refusal}
+use Rattle.cf_base.specs.declared.answers.Refusal.TheVariants as refusal
+use Rattle.cf_base.specs.declared.answers.Resized.{Resized}
+use Rattle.cf_base.specs.declared.answers.ResizeFault.{ResizeFault}
+use Rattle.cf_base.specs.declared.answers.ResizeFault.TheVariants as resize
+use Rattle.cf_model.specs.Answers.{usage_in}
+use Rattle.cf_model.specs.Families.{family_of, paged, tiled}
+use Rattle.cf_model.specs.State.{HeapState, paging_in}
+use Rattle.page_model.specs.Arrangement.{free_pages}
+use Rattle.c_base.specs.declared.answers.NphCounted.{NphCounted}
+
+-- the free pages; with blocks, the bytes outside used blocks
+abbrev pub free_left : HeapState → ℕ
+free_left s = elim (family_of s.kind) [ paged ↦ free_pages (paging_in s) s.held | tiled ↦ (usage_in s.kind s).held - (usage_in s.kind s).taken ]
+
+-- the bytes that the live objects asked for
+abbrev pub asked_in : HeapState → ℕ
+asked_in s = (usage_in s.kind s).asked
+
+-- the counts of a heap that was just opened, with so much free
+abbrev pub opening_counts : ℕ → NphCounted
+opening_counts free = record { most_asked = 0; least_free = free; moves = 0; unknown = 0; size = 0; proxy = 0; space = 0 }
+
+-- one more, but at most the largest number of 64 bits
+abbrev pub one_more : ℕ → ℕ
+one_more n = min (n + 1) (2 ^ 64 - 1)
+
+-- after a call that left the heap s: the most bytes asked for and the least free
+abbrev pub with_peaks : NphCounted → HeapState → NphCounted
+with_peaks c s = record c { most_asked = max c.most_asked (asked_in s); least_free = min c.least_free (free_left s) }
+
+-- after a call that moved this object, if any
+abbrev pub with_move : NphCounted → Option Handle → NphCounted
+with_move c (Some h) = record c { moves = one_more c.moves }
+with_move c None = c
+
+-- the counts after a malloc with this result, which left the heap s
+abbrev pub malloc_counts : NphCounted → Result Handle Refusal → HeapState → NphCounted
+malloc_counts c (Ok h) s = with_peaks c s
+malloc_counts c (Err refusal.Size) s = record c { size = one_more c.size }
+malloc_counts c (Err refusal.Proxy) s = record c { proxy = one_more c.proxy }
+malloc_counts c (Err refusal.Space) s = record c { space = one_more c.space }
+
+-- the counts after a free with this result
+abbrev pub free_counts : NphCounted → Result Freed NotLive → NphCounted
+free_counts c (Ok freed) = with_move c freed.moved
+free_counts c (Err e) = record c { unknown = one_more c.unknown }
+
+-- the counts after a resize with this result, which left the heap s; that a manager with blocks does not resize is not counted
+abbrev pub resize_counts : NphCounted → Result Resized ResizeFault → HeapState → NphCounted
+resize_counts c (Ok done) s = with_move (with_peaks c s) done.moved
+resize_counts c (Err resize.Unknown) s = record c { unknown = one_more c.unknown }
+resize_counts c (Err resize.Kind) s = c
+resize_counts c (Err resize.Size) s = record c { size = one_more c.size }
+resize_counts c (Err resize.Space) s = record c { space = one_more c.space }

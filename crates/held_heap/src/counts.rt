@@ -1,0 +1,84 @@
+//! How a call changes what a heap counts from its opening on (`NphCounted`), and the call for the counts.
+ghost use Rattle.std.specs.Prelude.{◌≡◌, Err};
+ghost use Rattle.cf_model.specs.State.{HeapState};
+ghost use Rattle.held_heap.specs.Calls.{IsCountsCall};
+ghost use Rattle.held_heap.specs.HeldState.{IsOpenOfKind};
+ghost use Rattle.held_heap.specs.Counts.{malloc_counts, one_more, resize_counts, with_move, with_peaks};
+
+use crate::held::Held;
+use crate::of_kind::OfKind;
+use c_base::{DONE, NphCounted};
+use cf_base::{Handle, Refusal, ResizeFault};
+
+/// Counts one more, but at most `2^64 - 1`.
+pub(crate) fn count(n: &mut u64)
+    ensures { n.new ≡ one_more n.old }
+{
+    *n = n.saturating_add(1);
+}
+
+/// Counts the bytes asked for and what is free in the heap as it now is.
+pub(crate) fn count_peaks<H: OfKind>(heap: &H, counts: &mut NphCounted)
+    requires { IsOpenOfKind H.of_kind (H.state heap.now) }
+    ensures { counts.new ≡ with_peaks counts.old (H.state heap.now) }
+{
+    let asked = heap.usage().asked;
+    if counts.most_asked < asked {
+        counts.most_asked = asked;
+    }
+    let left = heap.free_left();
+    if left < counts.least_free {
+        counts.least_free = left;
+    }
+}
+
+/// Counts a move, if an object moved.
+pub(crate) fn count_move(counts: &mut NphCounted, moved: Option<Handle>)
+    ensures { counts.new ≡ with_move counts.old moved }
+{
+    if moved.is_some() {
+        count(&mut counts.moves);
+    }
+}
+
+/// Counts a resize that succeeded: as `count_peaks` and `count_move`.
+pub(crate) fn count_resized<H: OfKind>(heap: &H, counts: &mut NphCounted, moved: Option<Handle>)
+    requires { IsOpenOfKind H.of_kind (H.state heap.now) }
+    ensures { counts.new ≡ with_move (with_peaks counts.old (H.state heap.now)) moved }
+{
+    count_peaks(heap, counts);
+    count_move(counts, moved);
+}
+
+/// Counts a refused malloc.
+pub(crate) fn count_refusal(counts: &mut NphCounted, cause: Refusal)
+    ensures { (s : HeapState) → counts.new ≡ malloc_counts counts.old (Err cause) s }
+{
+    match cause {
+        Refusal::Size => count(&mut counts.size),
+        Refusal::Proxy => count(&mut counts.proxy),
+        Refusal::Space => count(&mut counts.space),
+    }
+}
+
+/// Counts a refused resize.
+pub(crate) fn count_resize_fault(counts: &mut NphCounted, cause: ResizeFault)
+    ensures { (s : HeapState) → counts.new ≡ resize_counts counts.old (Err cause) s }
+{
+    match cause {
+        ResizeFault::Unknown => count(&mut counts.unknown),
+        ResizeFault::Kind => {}
+        ResizeFault::Size => count(&mut counts.size),
+        ResizeFault::Space => count(&mut counts.space),
+    }
+}
+
+impl<H: OfKind> Held<H> {
+    /// Writes what is counted since the opening into `counts`; counts no steps. Always returns `DONE`.
+    pub fn counts(&mut self, counts: &mut NphCounted) -> i32
+        ensures { IsCountsCall self.old result counts.new self.new }
+    {
+        *counts = self.counts;
+        DONE
+    }
+}
