@@ -113,7 +113,7 @@ static void walk(void) {
     for (;;) {
         CHECK(nph_next(&heap, handle, &handle) == NPH_OK);
         steps += taken();
-        CHECK(taken() <= 1 + NUMBERS);
+        CHECK(taken() <= NUMBERS);
         if (handle == NPH_NONE) break;
         CHECK(with(handle) != NULL && (found == 0 || handle % NUMBERS > before));
         before = handle % NUMBERS;

@@ -22,14 +22,17 @@ enum { PAGED = 0 };
 #undef nph_slot_words
 #undef nph_class_of
 #undef nph_pages_needed
+#undef nph_set_bound
 #define nph_slot_words NULL
 #define nph_class_of NULL
 #define nph_pages_needed NULL
+#define nph_set_bound NULL
 #endif
 
 enum { LIVE = 1024 };
 static nph_heap heap = NPH_HEAP;
 static uint32_t handles[LIVE], lengths[LIVE], live, page_words;
+static uint64_t proxies;
 
 static uint64_t last_steps(void) {
     uint64_t steps = 0;
@@ -83,6 +86,7 @@ static void ask_handle(uint32_t handle) {
     uint32_t number;
     call("length", (void *)nph_length, handle, (uint64_t)&number, 0, 0), puts("");
     if (PAGED) call("slot_words", (void *)nph_slot_words, handle, (uint64_t)&number, 0, 0), puts("");
+    call("next", (void *)nph_next, handle, (uint64_t)&number, 0, 0), printf(" Q %" PRIu64 "\n", proxies);
     if (LENDS) call("place", (void *)nph_place, handle, (uint64_t)&number, 0, 0), puts("");
 }
 
@@ -114,11 +118,15 @@ static void ask_heap(void) {
     uint64_t steps;
     nph_class c;
     nph_heap_totals t;
-    uint32_t size_class;
+    nph_counted counted;
+    uint32_t size_class, number;
     if (PAGED) call("class_of", (void *)nph_class_of, drawn(page_words * 8), (uint64_t)&size_class, 0, 0), puts("");
     call("has_room", (void *)nph_has_room, drawn(page_words * 8), 0, 0, 0), puts("");
     call("figures", (void *)nph_figures, drawn(70), (uint64_t)&c, 0, 0), puts("");
     call("totals", (void *)nph_totals, (uint64_t)&t, 0, 0, 0), puts("");
+    call("counts", (void *)nph_counts, (uint64_t)&counted, 0, 0, 0), puts("");
+    call("next", (void *)nph_next, NPH_NONE, (uint64_t)&number, 0, 0), printf(" Q %" PRIu64 "\n", proxies);
+    if (PAGED) call("set_bound", (void *)nph_set_bound, drawn(page_words), drawn(66), 0, 0), printf(" W %" PRIu32 "\n", page_words);
     call_with(0, "version", (void *)nph_version, 0, 0, 0, 0), puts("");
     call_with(0, "kind", (void *)nph_kind, 0, 0, 0, 0), puts("");
     ask_most();
@@ -224,6 +232,14 @@ static void long_calls(void) {
     ask(0);
 }
 
+/* On a heap without objects: bounds of each class, and of none. */
+static void set_bounds(void) {
+    nph_class c;
+    for (uint32_t n = 0; PAGED && nph_figures(&heap, n, &c) == NPH_OK; n++)
+        call("set_bound", (void *)nph_set_bound, c.slot_words, 1, 0, 0), printf(" W %" PRIu32 "\n", page_words);
+    ask_heap();
+}
+
 static int32_t open_or_close(bool opens, const uint64_t *settings) {
     int32_t code = opens ? call("open", (void *)nph_open, settings[0], settings[1], settings[2], settings[3])
                          : call("close", (void *)nph_close, 0, 0, 0, 0);
@@ -235,6 +251,7 @@ int main(int argc, char **argv) {
     uint64_t settings[5];
     begin(argc, argv, settings);
     page_words = (uint32_t)settings[1] / 8;
+    proxies = settings[3];
     refused(0);
     nph_needed needed;
     call_with(settings[0], "bytes_needed", (void *)nph_bytes_needed, settings[1], settings[2], settings[3], (uint64_t)&needed), printf(" W %" PRIu32 "\n", page_words);
@@ -251,6 +268,7 @@ int main(int argc, char **argv) {
     draw_calls(strtoull(argv[2], NULL, 10));
     long_calls();
     while (live) release(live - 1);
+    set_bounds();
     open_or_close(false, settings);
     print_ran();
     return 0;

@@ -65,7 +65,7 @@ class About(typing.NamedTuple):
     no_loop: str
 
 
-MOST = "most_malloc most_free most_resize most_access most_has_room most_totals most_length kind version"
+MOST = "most_malloc most_free most_resize most_access most_has_room most_totals most_length kind version counts"
 LIBRARIES = {
     "norphuen": About("cf", "worst_case.c", (), (1, 4), f"{MOST} slot_words class_of malloc free length has_room place lend return"),
     "norphuen_nonmoving": About("nm", "worst_case.c", ("-DNPH_USE_NONMOVING",), (4, 1), f"{MOST} slot_words class_of malloc length has_room"),
@@ -427,6 +427,7 @@ def clauses(name, notes):
 # The steps of docs/BOUNDS.md, by the contracts: of a call in each library, or in one. The other calls count none.
 STEPS = {
     "class_of": "1", "figures": "0", "last_steps": "0", "lend": "0", "place": "1", "return": "0",
+    "counts": "0", "next": "p", "set_bound": "0",
     **{("cf", call): steps for call, steps in {
         "malloc": "17", "free, alone": "20 + s", "free, move": "20 + s", "read": "2 + w", "write": "2 + w", "length": "2", "has_room": "1",
         "slot_words": "3", "totals": "0", "resize, same": "6 + r", "resize, alone": "34 + s + t", "resize, move": "34 + s + t"}.items()},

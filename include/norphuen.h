@@ -193,10 +193,10 @@ typedef struct nph_heap_totals {
     uint32_t largest;
 } nph_heap_totals;
 
-/* What a heap counted since it was opened. After each call its live objects asked for at most `most_asked` bytes, and at least
- * `least_free` pages were free, with TLSF so many bytes: pages - least_free were in use at most. `moves` counts the objects
- * that a free or a resize moved (`moved`), and the others the nph_malloc, nph_free and nph_resize that failed with NPH_UNKNOWN,
- * NPH_SIZE, NPH_PROXY and NPH_SPACE. A count stops at UINT64_MAX. */
+/* What a heap counted since it was opened. `most_asked` is the most bytes that its live objects asked for after an nph_malloc or
+ * nph_resize, and `least_free` the fewest free pages after one, with TLSF the fewest bytes outside its used blocks: so at most
+ * pages - least_free were in use. `moves` counts the objects named as `moved`. The others count each nph_malloc, nph_free and
+ * nph_resize that failed with NPH_UNKNOWN, NPH_SIZE, NPH_PROXY or NPH_SPACE. A count stops at UINT64_MAX. */
 typedef struct nph_counted {
     uint64_t most_asked;
     uint64_t least_free;
@@ -265,7 +265,7 @@ NPH_CALL nph_status nph_totals(nph_heap *heap, nph_heap_totals *totals);
 /* Writes the handle of the live object after `handle` into `next`, in a fixed order: the first one if `handle` is NPH_NONE, and
  * NPH_NONE after the last. Fails with NPH_UNKNOWN, also if the object of `handle` was freed: ask for the next one before a free. An
  * object that was made during the walk may be left out. Takes a step for `handle`, and one for each number of an object that it
- * looks at: at most 1 and the proxies, rounded up to a power of two. A walk over n objects takes n and as many. */
+ * looks at: at most as many as the proxies, rounded up to a power of two. A walk over n objects takes n more in all. */
 NPH_CALL nph_status nph_next(nph_heap *heap, uint32_t handle, uint32_t *next);
 
 /* Writes what the heap counted. */

@@ -57,10 +57,10 @@ pub struct NphHeapTotals {
     pub largest: u32,
 }
 
-/// What a heap counts from its opening on. `most_asked` is the most bytes that its live objects asked for after a call, and
-/// `least_free` the fewest pages that were free after one; with blocks, the fewest bytes outside used blocks. `moves` is how
-/// often a free or a resize moved another object. The others are how many mallocs, frees and resizes were refused with the code
-/// of their name: `UNKNOWN`, `SIZE`, `PROXY` or `SPACE`. A count that would pass `2^64 - 1` stays there.
+/// What a heap counts from its opening on. `most_asked` is the most bytes that its live objects asked for after a malloc or a
+/// resize, and `least_free` the fewest free pages after one, with blocks the fewest bytes outside used blocks. `moves` is how
+/// many other objects frees and resizes moved. The last four are how many mallocs, frees and resizes were refused with the code
+/// of their name. A count stops at `2^64 - 1`.
 #[repr(C)]
 #[derive(Clone, Copy, Drop)]
 pub struct NphCounted {

@@ -1,6 +1,6 @@
 -- For `set_bound` of `class_bound.rt`: the count of live objects is that of the figures, and what the call does with and without live objects.
-use Rattle.std.proofs.Common.{◌≡◌, ◌≢◌, ℕ, ℤ, pos, Bool, true, false, Option, Some, None, refl, sym, ap, ◌∙◌, ◌≤◌, arith, lt-ltb, ne_eqb}
-use Rattle.std.specs.Prelude.{if◌then◌else◌, is_some, nat_eq, nat_lt}
+use Rattle.std.proofs.Common.{◌≡◌, ◌≢◌, ℕ, pos, true, false, Option, Some, None, refl, sym, ap, ◌∙◌, ◌≤◌, arith, lt-ltb, ne_eqb}
+use Rattle.std.specs.Prelude.{is_some, nat_eq, nat_lt}
 use Rattle.std.specs.FinMap.{len}
 use Rattle.cf_base.specs.declared.answers.Totals.{Totals}
 use Rattle.cf_model.specs.Answers.{block_totals, class_with, totals_in, with_bound}

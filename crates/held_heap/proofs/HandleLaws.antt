@@ -1,5 +1,5 @@
 -- For `laws`: each call keeps the rules of the handles (`KeepsHandles`); a malloc's handle is new; a handle that names no object is refused.
-use Rattle.std.proofs.Common.{◌≡◌, ℕ, ℤ, pos, ◌-◌, ◌<◌, ◌≤◌, List, length, Option, Some, None, refl, sym, ◌∙◌, ap, subst, arith}
+use Rattle.std.proofs.Common.{◌≡◌, ℕ, ℤ, pos, ◌<◌, ◌≤◌, List, length, Option, Some, None, refl, sym, ◌∙◌, ap, subst, arith}
 use Rattle.std.specs.Prelude.{Result, Ok, Err, option_map}
 use Rattle.std.specs.FinMap.{get}
 use Rattle.cf_base.specs.Settings.{Profile}
@@ -14,12 +14,11 @@ use Rattle.cf_base.specs.declared.answers.Resized.{Resized}
 use Rattle.cf_base.specs.declared.answers.ResizeFault.{ResizeFault}
 use Rattle.cf_base.specs.declared.answers.ResizeFault.TheVariants as resize
 use Rattle.cf_base.specs.declared.kind.Kind.{Kind}
-use Rattle.cf_base.specs.declared.kind.Kind.TheVariants.{Moving, NonMoving, Tlsf, HalfFit}
 use Rattle.cf_model.specs.Answers.{with_bound}
 use Rattle.cf_model.specs.Bounds.{Bounds}
 use Rattle.cf_model.specs.Rules.{KeepsRules}
 use Rattle.cf_model.specs.State.{HeapState}
-use Rattle.cf_model.specs.Steps.{ChangesCost, IsFreeStep, IsLeftByRefusal, IsMallocStep, IsReadAnswer, IsResizeStep, IsWriteStep, Position}
+use Rattle.cf_model.specs.Steps.{ChangesCost, IsFreeStep, IsMallocStep, IsReadAnswer, IsResizeStep, IsWriteStep, Position}
 use Rattle.page_model.specs.Held.{Placed}
 use Rattle.page_model.specs.Steps.{Request}
 use Rattle.held_heap.specs.Bound.{IsBoundCall, bound_code, class_to_bound}

@@ -1,5 +1,5 @@
 -- Each call of the manager keeps the kind and the settings of its heap.
-use Rattle.std.proofs.Common.{◌≡◌, ℕ, List, Option, Some, None, refl, ap, ◌∙◌}
+use Rattle.std.proofs.Common.{◌≡◌, ℕ, List, Option, Some, None, refl, ap}
 use Rattle.std.specs.Prelude.{Result, Ok, Err}
 use Rattle.cf_base.specs.Settings.{Profile}
 use Rattle.cf_base.specs.declared.answers.AccessFault.{AccessFault}

@@ -2,7 +2,6 @@
 use Rattle.std.specs.Prelude.{◌≡◌, ℕ, ℤ, pos, ◌+◌, ◌-◌, ◌<◌, ◌≤◌, Option, Some, None, if◌then◌else◌, length, nat_eq, option_map}
 use Rattle.std.specs.FinMap.{get}
 use Rattle.cf_base.specs.declared.answers.Handle.{Handle}
-use Rattle.cf_model.specs.State.{HeapState}
 use Rattle.page_model.specs.Held.{Held, Placed}
 use Rattle.step_ledger.specs.Counting.{RoseBy}
 use Rattle.c_base.specs.Handles.{moved_handle, none, number_in}
