@@ -67,9 +67,7 @@ fn place_of<T>(u: Unboxed<T, Global>) -> HeapBlock<T>
     ensures { result.held ≡ Some u.value }
 {
     let Unboxed { alloc: _, at } = u;
-    HeapBlock {
-        at,
-    }
+    HeapBlock { at }
 }
 
 /// Returns the heap of a `HeapBlock` as the parts of a box (`Unboxed`): the block's address, and this allocator,
@@ -79,8 +77,5 @@ fn unboxed_of<T>(p: HeapBlock<T>, alloc: Global) -> Unboxed<T, Global>
     ensures { p.held ≡ Some result.value }
 {
     let HeapBlock { at } = p;
-    Unboxed {
-        alloc,
-        at,
-    }
+    Unboxed { alloc, at }
 }

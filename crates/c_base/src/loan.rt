@@ -97,7 +97,11 @@ fn split<T: Lendable<S>, S>(block: HeapBlock<S>) -> (HeapBlock<T>, Loan<T, S>, *
 {
     let HeapBlock { at } = block;
     let words = T::all_words(unsafe { &mut *at }).as_mut_ptr();
-    (HeapBlock { at: at as *mut T }, Loan { of: PhantomData }, words)
+    (
+        HeapBlock { at: at as *mut T },
+        Loan { of: PhantomData },
+        words,
+    )
 }
 
 /// `Loan::end`, which returns the fields of the heap.
