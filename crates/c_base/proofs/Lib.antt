@@ -1,6 +1,7 @@
 pub mod Opened
 pub mod Parts
 pub mod Blocks
+pub mod WholeWords
 pub mod Loans
 pub mod Again
 pub mod Crosses

@@ -6,8 +6,9 @@ use base.Fml.{Fml, feq, fsep, fobs, fres}
 use base.Stored.{coded_list}
 use mathlib.Core.Bool.{true≢false}
 use mir.Val.{Val, vstruct, of_list}
-use types.Logic.{Logic}
-use types.Kit.{Item, Goal, Soaks, Seq, Step, step, ‵, later, ◌$◌, drop, move, fsplit, fjoin, fpick, fpack, rewrite, feq_i, feq_l, use1, use2, use3, await}
+use base.Logic.{ent}
+use types.Logic.{Logic, sem}
+use types.Kit.{Item, Goal, Soaks, Seq, Step, step, ‵, later, ◌$◌, ◌∵◌, !, qed, done, drop, move, fsplit, fjoin, fpick, fpack, rewrite, feq_i, feq_l, use1, use2, use3, await}
 use types.Tokens.{lft_end, name_done}
 use denote.RattleType.{RattleType, Valss}
 use denote.Array.{Array}
@@ -27,8 +28,8 @@ use denote.Struct.Struct.{within}
 use denote.Struct.Tuple.{Tuple}
 use Rattle.std.specs.contracts.marker.PhantomData as Mark
 use Rattle.c_base.specs.HeapBlock.{lies_in_block}
-use Rattle.c_base.specs.Lending.{IsOf, Lending}
-use Rattle.c_base.specs.Lent.{Names, loan_owns, may_free, open_borrow}
+use Rattle.c_base.specs.Lending.{IsFit, IsOf, Lending}
+use Rattle.c_base.specs.Lent.{Names, loan_owns, may_free, open_borrow, opened}
 use Rattle.c_base.specs.declared.loan.Lendable.{Ghosts}
 use Rattle.c_base.specs.contracts.loan.Loan as Q
 
@@ -38,6 +39,11 @@ mark = vstruct (of_list [])
 
 abbrev pub loan_val : Val
 loan_val = vstruct (of_list (mark ∷ []))
+
+-- a block that has the fields of a heap has some
+pub fit_some : {T S : Type 0} (L : Lending T S) (h : Option S) → IsFit L h → IsSome h
+fit_some L None k = absurd k
+fit_some L (Some a) k = refl
 
 -- the type of the mark
 abbrev Types : RattleType → RattleType → RattleType
@@ -100,3 +106,14 @@ module _ (S : RattleType) {T : Type 0} (L : Lending T S.Denot) {M : Type 1} {�
       move t (0 ∷ 3 ∷ 1 ∷ []) $ use3 𝓛 (later (‵ ((mem S).own_at left hb ho))) (ref_back 𝓛 S (m.life ∷ []) m.heap_name left hb ho) $ await t z $
       move t (1 ∷ []) $ rewrite t 0 (λ (q : Ptr). ‵ (may_free S q)) at refl $ move t (1 ∷ 0 ∷ []) $ fjoin t $
       rewrite t 0 (λ (q : Ptr). ‵ (lies_in_block S q left)) (sym at) refl $ k left p.1))))
+
+module _ (S : RattleType) {T : Type 0} (L : Lending T S.Denot) {M : Type 1} {𝓤 : Ura M} (𝓛 : Logic 𝓤) where
+  -- the heap x may be replaced by a heap t with as many words, if the fields with the words of t are those of t
+  pub replaced : (p w : Ptr) (x t : T) → length (L.words t) ≡ length (L.words x)
+      → ((a : S.Denot) → IsOf L (L.with_words a (L.words x)) x → IsOf L (L.with_words a (L.words t)) t)
+      → ent 𝓤 (sem 𝓛 (opened S L p w x)) (sem 𝓛 (opened S L p w t))
+  replaced p w x t many still =
+      qed 𝓛 (‵ (opened S L p w x) ∷ []) ∵ fpick ! (λ (m : (n : Names S.Denot) × IsOf L (L.with_words n.parts (L.words x)) x).
+      rewrite ! 0 (λ (n : ℕ). ‵ (open_borrow S L.with_words p w n m.0)) (sym many) refl $
+      fpack ! ((n : Names S.Denot) × IsOf L (L.with_words n.parts (L.words t)) t) (λ n. open_borrow S L.with_words p w (length (L.words t)) n.0)
+      (m.0, still m.0.parts m.1) $ done !)

@@ -1,5 +1,5 @@
 -- What a caller in C has for a heap: a closed heap, an open one, or an open one that is lent. T is the state of a heap.
-use Rattle.std.specs.Prelude.{◌≡◌, ℕ, ℤ, pos, Bool, true, false, Option, Some, None}
+use Rattle.std.specs.Prelude.{◌≡◌, ℕ, ℤ, pos, Bool, true, false, Option, Some, None, Result, Ok, Err}
 use denote.RawPtr.{Ptr}
 
 -- The heap of a caller in C: closed, with the largest handle of the heaps before; or open in this state. While it is lent, the words of its region are the caller's, and the pointer is their address.
@@ -25,6 +25,12 @@ abbrev pub lent_now : {T : Type 0} → CallerHeap T → Bool
 lent_now (Closed last) = false
 lent_now (Opened h) = false
 lent_now (Lent h w) = true
+
+-- the largest handle of the heaps before, if the heap is closed; else the code of an open: 8 (`OPEN`) or 9 (`LENT`)
+abbrev pub closed_now : {T : Type 0} → CallerHeap T → Result ℕ ℤ
+closed_now (Closed last) = Ok last
+closed_now (Opened h) = Err (pos 8)
+closed_now (Lent h w) = Err (pos 9)
 
 -- the address of the block of a loan: of the heap at p if it is lent, else q, any address
 abbrev pub block_in : {T : Type 0} → CallerHeap T → Ptr → Ptr → Ptr

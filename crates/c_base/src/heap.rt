@@ -4,7 +4,7 @@ ghost use Rattle.std.specs.Borrow.{sem};
 ghost use Rattle.c_base.specs.CallerHeap.{block_in, heap_of, lent_now, opened_now};
 
 use crate::block::HeapBlock;
-use crate::codes::{CLOSED, DONE, LENT, NOT_LENT};
+use crate::codes::{CLOSED, DONE, LENT, NOT_LENT, OPEN};
 use crate::loan::{Lendable, Loan};
 use std::alloc::Global;
 use std::rt::Memory;
@@ -26,9 +26,9 @@ pub struct NphHeap<T: Lendable<S>, S> {
 }
 
 impl<T: Lendable<S>, S> NphHeap<T, S> {
-    ghost use Rattle.std.specs.Prelude.{ℕ, IsTrue};
+    ghost use Rattle.std.specs.Prelude.{IsTrue};
     ghost use Rattle.c_base.specs.AtPlace.{IsLendCall, IsReturnCall};
-    ghost use Rattle.c_base.specs.CallerHeap.{Closed, Opened, refusal_code};
+    ghost use Rattle.c_base.specs.CallerHeap.{Opened, closed_now, refusal_code};
     ghost use Rattle.c_base.specs.Place.{LendsHeap, held_in};
 
     /// Returns whether the heap is open, and not lent.
@@ -38,18 +38,17 @@ impl<T: Lendable<S>, S> NphHeap<T, S> {
         self.is_open
     }
 
-    /// Returns whether the heap is lent.
-    pub fn is_lent(&self) -> bool
-        ensures { result ≡ lent_now (held_in self.now) }
+    /// Returns the largest handle of the heaps before, if the heap is closed; else the code of an open, `OPEN` or `LENT`.
+    pub fn closed(&self) -> Result<u32, i32>
+        ensures { result ≡ closed_now (held_in self.now) }
     {
-        self.is_lent
-    }
-
-    /// Returns the largest handle of the heaps before this one, which is closed.
-    pub fn last(&self) -> u32
-        ensures { (last : ℕ) → held_in self.now ≡ Closed last → result ≡ last }
-    {
-        self.last
+        if self.is_lent {
+            Err(LENT)
+        } else if self.is_open {
+            Err(OPEN)
+        } else {
+            Ok(self.last)
+        }
     }
 
     /// Returns the code of a call on a heap that is not open: `LENT` or `CLOSED`.
@@ -109,13 +108,13 @@ impl<T: Lendable<S>, S> NphHeap<T, S> {
 }
 
 impl<T: Lendable<S> + Drop, S> NphHeap<T, S> {
-    ghost use Rattle.std.specs.Prelude.{ℕ};
-    ghost use Rattle.c_base.specs.CallerHeap.{Closed, Opened, closed_with};
+    ghost use Rattle.std.specs.Prelude.{IsOk};
+    ghost use Rattle.c_base.specs.CallerHeap.{Opened, closed_now, closed_with};
     ghost use Rattle.c_base.specs.Place.{held_in};
 
     /// Opens a heap that is closed: it is this one.
     pub fn put(&mut self, heap: Box<T, Global>)
-        requires { (last : ℕ) × (held_in self.old ≡ Closed last) }
+        requires { IsOk (closed_now (held_in self.old)) }
         ensures { held_in self.new ≡ Opened heap.value }
     {
         self.place = HeapBlock::of(heap);

@@ -1,16 +1,10 @@
 pub mod FreeParts
 pub mod Fresh
 pub mod Loosen
-pub mod MovingPlaces
-pub mod WholeWords
 pub mod MovingWords
-pub mod MovingCrosses
 pub mod Rights
-pub mod NonMovingPlaces
 pub mod LoosenTlsf
-pub mod TlsfPlaces
 pub mod TlsfWords
-pub mod TlsfCrosses
 pub mod TlsfRights
 pub mod Sent
 pub mod SettingsStay

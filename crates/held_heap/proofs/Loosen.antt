@@ -28,7 +28,8 @@ use Rattle.held_heap.specs.declared.held.Held.TheInside as held_fields
 use Rattle.held_heap.specs.contracts.loose.LooseHeld as loose
 use Rattle.held_heap.specs.declared.loose.LooseHeld.{LooseHeld}
 use Rattle.held_heap.specs.HeldState.{HeldState, IsOpenOfKind}
-use Rattle.held_heap.specs.Loose.{Fits}
+use Rattle.c_base.specs.Lending.{IsOf}
+use Rattle.held_heap.specs.Loose.{Fits, lending, state_of}
 use Rattle.held_heap.specs.Moving.{open_heap as T}
 
 -- the type of the fields
@@ -54,7 +55,7 @@ abbrev ManagerOf : PagedState → Type 0
 ManagerOf s = (j : manager_fields.Inside direct.the_row.Denot) × ((paged_in Moving j.inner ≡ s) × IsValidIn Moving j.inner)
 
 module _ {M : Type 1} {𝓤 : Ura M} {𝓛 : Logic 𝓤} {K : Type 0} {Γ : List (Item 𝓤)} {G : Goal 𝓤 𝓛.H} where
-  pub loosen : K → (x : HeldState) (b o : ℕ) → ((a : LooseHeld) → Fits a x → Seq K 𝓛 (‵ ((mem S).own_at a b o) ∷ Γ) G)
+  pub loosen : K → (x : HeldState) (b o : ℕ) → ((a : LooseHeld) → IsOf lending a x → Seq K 𝓛 (‵ ((mem S).own_at a b o) ∷ Γ) G)
       → Seq K 𝓛 (‵ ((mem T).own_at x b o) ∷ Γ) G
   unfolding part_of
   loosen t x b o k =
@@ -68,17 +69,14 @@ module _ {M : Type 1} {𝓤 : Ura M} {𝓛 : Logic 𝓤} {K : Type 0} {Γ : List
       fpack t (Valss (fields loose.the_type)) (within (shape loose.the_type) (loose.the_type.to a) vs) vss $
       move t (1 ∷ 0 ∷ []) $ fjoin t $ fpack t (List Val) (λ us. fsep (cell_at full_share S.mir us b o) (S.own_val a us)) vs $
       k a (record {
-        valid = j.1.1;
-        open_now = subst (IsOpenOfKind Moving) (ap (λ (s : PagedState). s.state) (sym j.1.0)) i.1.1;
-        heap = ap (λ (s : PagedState). s.state) j.1.0 ∙ ap (λ (h : HeldState). h.heap) i.1.0;
-        steps = ap (λ (h : HeldState). h.steps) i.1.0;
-        handles = ap (λ (h : HeldState). h.handles) i.1.0;
-        counts = ap (λ (h : HeldState). h.counts) i.1.0;
+        fit = record { valid = j.1.1; open_now = subst (IsOpenOfKind Moving) (ap (λ (s : PagedState). s.state) (sym j.1.0)) i.1.1 };
+        shown = ap (λ (s : PagedState). record { heap = s.state; steps = i.0.steps; handles = i.0.handles; counts = i.0.counts }) j.1.0 ∙ i.1.0;
       }))))))
 
-  pub tighten : K → (a : LooseHeld) (x : HeldState) (b o : ℕ) → Fits a x → Step K 𝓛 (‵ ((mem T).own_at x b o) ∷ Γ) G (‵ ((mem S).own_at a b o) ∷ Γ) G
+  pub tighten : K → (a : LooseHeld) (b o : ℕ) → Fits a → Step K 𝓛 (‵ ((mem T).own_at (state_of a) b o) ∷ Γ) G (‵ ((mem S).own_at a b o) ∷ Γ) G
   unfolding part_of
-  tighten t a x b o fit = step (λ s.
+  tighten t a b o fit = step (λ s.
+      let x = state_of a in
       let inner : PagedState = paged_in Moving a.heap.inner in
       let i : held_fields.Inside PagedState = record { heap = inner; steps = a.steps; memory = a.memory; handles = a.handles; counts = a.counts } in
       let held_type = inside_held.the_type
@@ -93,5 +91,5 @@ module _ {M : Type 1} {𝓤 : Ura M} {𝓛 : Logic 𝓤} {K : Type 0} {Γ : List
       fjoin t $ feq_i t (List Val) vs (vstruct (of_list (flat (fields loose.the_type) vss)) ∷ []) whole $ fjoin t $
       fpack t (Valss (fields held_type)) (within (shape held_type) (held_type.to i) vs) vss $
       nothing t $ move t (1 ∷ 0 ∷ []) $ fjoin t $
-      fpack t (HeldOf x) (λ i. fsep (HI.own_val i.0 vs) ftrue) (i, ((λ k. record { heap = fit.heap k; steps = fit.steps k; handles = fit.handles k; counts = fit.counts k }), fit.open_now)) $
+      fpack t (HeldOf x) (λ i. fsep (HI.own_val i.0 vs) ftrue) (i, (refl, fit.open_now)) $
       move t (1 ∷ 0 ∷ []) $ fjoin t $ fpack t (List Val) (λ us. fsep (cell_at full_share T.mir us b o) (T.own_val x us)) vs $ s))))

@@ -53,7 +53,8 @@ use Rattle.held_heap.specs.declared.loose_tlsf.LooseOpen.{LooseOpen}
 use Rattle.held_heap.specs.declared.loose_tlsf.LooseManager.{LooseManager}
 use Rattle.held_heap.specs.declared.loose_tlsf.LooseTlsf.{LooseTlsf}
 use Rattle.held_heap.specs.HeldState.{HeldState, IsOpenOfKind}
-use Rattle.held_heap.specs.LooseTlsf.{FitBlocks, FitIn, FitOpen, Fits, seen_in, seen_heap, state_seen, seen_blocks}
+use Rattle.c_base.specs.Lending.{IsOf}
+use Rattle.held_heap.specs.LooseTlsf.{FitBlocks, FitIn, FitOpen, Fits, lending, seen_in, seen_heap, state_of, state_seen, seen_blocks}
 use Rattle.held_heap.specs.Tlsf.{open_heap as T}
 
 -- the type of the fields
@@ -229,7 +230,7 @@ module _ {M : Type 1} {𝓤 : Ura M} {𝓛 : Logic 𝓤} {K : Type 0} {Γ : List
       fpack t (ManagerOf (state_seen a.inner)) (λ i. fsep (ManagerIn.own_val i.0 vs) ftrue) (i, (refl, rules)) $ s)))
 
 module _ {M : Type 1} {𝓤 : Ura M} {𝓛 : Logic 𝓤} {K : Type 0} {Γ : List (Item 𝓤)} {G : Goal 𝓤 𝓛.H} where
-  pub loosen : K → (x : HeldState) (b o : ℕ) → ((a : LooseTlsf) → Fits a x → Seq K 𝓛 (‵ ((mem S).own_at a b o) ∷ Γ) G)
+  pub loosen : K → (x : HeldState) (b o : ℕ) → ((a : LooseTlsf) → IsOf lending a x → Seq K 𝓛 (‵ ((mem S).own_at a b o) ∷ Γ) G)
       → Seq K 𝓛 (‵ ((mem T).own_at x b o) ∷ Γ) G
   unfolding part_of
   loosen t x b o k =
@@ -243,18 +244,14 @@ module _ {M : Type 1} {𝓤 : Ura M} {𝓛 : Logic 𝓤} {K : Type 0} {Γ : List
       fpack t (Valss (fields loose.the_type)) (within (shape loose.the_type) (loose.the_type.to a) vs) vss $
       move t (1 ∷ 0 ∷ []) $ fjoin t $ fpack t (List Val) (λ us. fsep (cell_at full_share S.mir us b o) (S.own_val a us)) vs $
       k a (record {
-        valid = fit;
-        rules = rules;
-        open_now = subst (IsOpenOfKind Tlsf) (sym e) i.1.1;
-        heap = e ∙ ap (λ (h : HeldState). h.heap) i.1.0;
-        steps = ap (λ (h : HeldState). h.steps) i.1.0;
-        handles = ap (λ (h : HeldState). h.handles) i.1.0;
-        counts = ap (λ (h : HeldState). h.counts) i.1.0;
+        fit = record { valid = fit; rules = rules; open_now = subst (IsOpenOfKind Tlsf) (sym e) i.1.1 };
+        shown = ap (λ (s : HeapState). record { heap = s; steps = i.0.steps; handles = i.0.handles; counts = i.0.counts }) e ∙ i.1.0;
       }))))))
 
-  pub tighten : K → (a : LooseTlsf) (x : HeldState) (b o : ℕ) → Fits a x → Step K 𝓛 (‵ ((mem T).own_at x b o) ∷ Γ) G (‵ ((mem S).own_at a b o) ∷ Γ) G
+  pub tighten : K → (a : LooseTlsf) (b o : ℕ) → Fits a → Step K 𝓛 (‵ ((mem T).own_at (state_of a) b o) ∷ Γ) G (‵ ((mem S).own_at a b o) ∷ Γ) G
   unfolding part_of
-  tighten t a x b o fit = step (λ s.
+  tighten t a b o fit = step (λ s.
+      let x = state_of a in
       let i : held_fields.Inside HeapState = record { heap = state_seen a.heap.inner; steps = a.steps; memory = a.memory; handles = a.handles; counts = a.counts } in
       let type = inside_held.the_type Manager
       (of_kind.ghosts tlsf.the_row policy.ghosts of_kind.no_dict buckets.ghosts of_kind.no_dict of_kind.no_dict)
@@ -266,5 +263,5 @@ module _ {M : Type 1} {𝓤 : Ura M} {𝓛 : Logic 𝓤} {K : Type 0} {Γ : List
       fjoin t $ feq_i t (List Val) vs (vstruct (of_list (flat (fields type) vss)) ∷ []) whole $ fjoin t $
       fpack t (Valss (fields type)) (within (shape type) (type.to i) vs) vss $
       nothing t $ move t (1 ∷ 0 ∷ []) $ fjoin t $
-      fpack t (HeldOf x) (λ i. fsep (HeldIn.own_val i.0 vs) ftrue) (i, ((λ k. record { heap = fit.heap k; steps = fit.steps k; handles = fit.handles k; counts = fit.counts k }), fit.open_now)) $
+      fpack t (HeldOf x) (λ i. fsep (HeldIn.own_val i.0 vs) ftrue) (i, (refl, fit.open_now)) $
       move t (1 ∷ 0 ∷ []) $ fjoin t $ fpack t (List Val) (λ us. fsep (cell_at full_share T.mir us b o) (T.own_val x us)) vs $ s))))

@@ -1,5 +1,5 @@
--- What a caller in C may do with the words of a region that a `HeapBlock` owns apart. It owns them (`words_lie`), so it may read them, and write bytes of live objects: then it owns the words of the heap's state after that
--- write, and by the law `bytes_are_written` what makes the heap whole again is that of this state. So it owns the `HeapBlock` with this state, and may pass it to the next call. No function cites the law.
+-- What a caller in C may do with the words of a region that a `Loan` owns. It owns them (`words_lie`), so it may read them, and write bytes of live objects: then it owns the words of the heap's state after that
+-- write, and by the law `bytes_are_written` what makes the heap whole again is that of this state. So it owns the `Loan` with this state, and may pass it to the next call. No function cites the law.
 use Rattle.std.proofs.Common.{◌≡◌, ℕ, ◌+◌, ◌/◌, ◌%◌, ◌≤◌, List, [], ◌∷◌, length, refl, sym, ap, ◌∙◌, subst, Option, Some, None, arith}
 use Rattle.std.proofs.lemmas.Bool.{false≢true}
 use Rattle.std.specs.Prelude.{IsTrue, is_some}
@@ -7,7 +7,6 @@ use Rattle.std.specs.FinMap.{get, insert}
 use seplogic.Ra.Ura.{Ura}
 use base.Logic.{ent}
 use types.Logic.{Logic, sem}
-use types.Kit.{‵, ◌$◌, ◌∵◌, !, qed, done, fpick, fpack, rewrite}
 use denote.RawPtr.{Ptr}
 use Rattle.page_model.specs.Bytes.{bytes_at, written as bytes_written}
 use Rattle.page_model.specs.Held.{Placed}
@@ -19,10 +18,14 @@ use Rattle.paged_heap.specs.Layout.{Holds, IsValid, IsValidIn, state_at, state_i
 use Rattle.paged_heap.specs.declared.open_heap.OpenHeap.{OpenHeap}
 use Rattle.paged_heap.proofs.CallerLemmas.{has_place, no_place, lies, wrote, wrote_kept}
 use Rattle.held_heap.specs.HeldState.{HeldState, IsOpenOfKind}
-use Rattle.held_heap.specs.Loose.{Fits, held_all, inner_all, region_all}
-use Rattle.held_heap.specs.MovingBlock.{Names, opened, open_borrow}
+use Rattle.c_base.specs.Lending.{IsOf}
+use Rattle.c_base.specs.Lent.{opened}
+use Rattle.c_base.proofs.Loans.{replaced}
+use Rattle.c_base.proofs.WholeWords.{again, as_many, long}
+use Rattle.held_heap.specs.Loose.{held_all, inner_all, lending, region_all}
+use Rattle.held_heap.specs.declared.loose.LooseHeld.{LooseHeld}
+use Rattle.held_heap.specs.contracts.loose.LooseHeld.{the_row as loose_heap}
 use Rattle.held_heap.specs.Written.{IsWritten}
-use Rattle.held_heap.proofs.WholeWords.{again, as_many, long}
 
 -- a heap whose region was replaced before, with the words of t
 module _ (h : OpenHeap) (ws : List ℕ) (k : Holds Moving (region_all h ws)) (t : HeapState) (q from : ℕ) (bytes : List ℕ)
@@ -93,37 +96,30 @@ fits_in (Some h) ws k s e is_open t q from bytes w =
     let is = left_is h ws k t q from bytes v in
     (subst (Holds Moving) (sym is) (left_holds h ws k t q from bytes v), ap (state_at Moving) is ∙ left_shown h ws k t q from bytes v)
 
-module _ (x : HeldState) (m : Names) (fit : Fits (held_all m.parts x.heap.words) x) (t : HeapState) (q from : ℕ) (bytes : List ℕ) (w : IsWritten 1 x.heap t q from bytes) where
-  abbrev o : Option OpenHeap
-  o = m.parts.heap.inner
+module _ (x : HeldState) (a : LooseHeld) (of : IsOf lending (held_all a x.heap.words) x) (t : HeapState) (q from : ℕ) (bytes : List ℕ) (w : IsWritten 1 x.heap t q from bytes) where
+  shown_heap : state_in Moving (inner_all a.heap.inner x.heap.words) ≡ x.heap
+  shown_heap = ap (λ (h : HeldState). h.heap) of.shown
 
   opens : IsTrue x.heap.is_open
-  opens = subst (λ (s : HeapState). IsTrue s.is_open) fit.heap fit.open_now.open_now
+  opens = subst (λ (s : HeapState). IsTrue s.is_open) shown_heap of.fit.open_now.open_now
 
-  two : IsValidIn Moving (inner_all o t.words) × (state_in Moving (inner_all o t.words) ≡ t)
-  two = fits_in o x.heap.words fit.valid x.heap fit.heap opens t q from bytes w
+  two : IsValidIn Moving (inner_all a.heap.inner t.words) × (state_in Moving (inner_all a.heap.inner t.words) ≡ t)
+  two = fits_in a.heap.inner x.heap.words of.fit.valid x.heap shown_heap opens t q from bytes w
 
   open_after : IsOpenOfKind Moving t
   open_after =
-      let k = subst (IsOpenOfKind Moving) fit.heap fit.open_now in
+      let k = subst (IsOpenOfKind Moving) shown_heap of.fit.open_now in
       subst (IsOpenOfKind Moving) (sym w.whole) (record { open_now = k.open_now; kind = k.kind })
 
-  pub still_fits : Fits (held_all m.parts t.words) (record x { heap = t })
-  still_fits = record {
-    valid = two.0;
-    open_now = subst (IsOpenOfKind Moving) (sym two.1) open_after;
-    heap = two.1;
-    steps = fit.steps;
-    handles = fit.handles;
-    counts = fit.counts;
+  pub still_of : IsOf lending (held_all a t.words) (record x { heap = t })
+  still_of = record {
+    fit = record { valid = two.0; open_now = subst (IsOpenOfKind Moving) (sym two.1) open_after };
+    shown = λ k. record { heap = two.1 k; steps = (of.shown k).steps; handles = (of.shown k).handles; counts = (of.shown k).counts };
   }
 
 module _ {M : Type 1} {𝓤 : Ura M} (𝓛 : Logic 𝓤) where
   -- when the caller has written bytes into an object, what makes the heap whole again is that of the state after it
   pub bytes_are_written : (p u : Ptr) (x : HeldState) (t : HeapState) (q from : ℕ) (bytes : List ℕ) → IsWritten 1 x.heap t q from bytes
-      → ent 𝓤 (sem 𝓛 (opened p u x)) (sem 𝓛 (opened p u (record x { heap = t })))
+      → ent 𝓤 (sem 𝓛 (opened loose_heap lending p u x)) (sem 𝓛 (opened loose_heap lending p u (record x { heap = t })))
   bytes_are_written p u x t q from bytes w =
-      qed 𝓛 (‵ (opened p u x) ∷ []) ∵ fpick ! (λ (m : (n : Names) × Fits (held_all n.parts x.heap.words) x).
-      rewrite ! 0 (λ (n : ℕ). ‵ (open_borrow p u n m.0)) (sym w.words.long) refl $
-      fpack ! ((n : Names) × Fits (held_all n.parts t.words) (record x { heap = t })) (λ n. open_borrow p u (length t.words) n.0)
-      (m.0, still_fits x m.0 m.1 t q from bytes w) $ done !)
+      replaced loose_heap lending 𝓛 p u x (record x { heap = t }) w.words.long (λ a of. still_of x a of t q from bytes w)

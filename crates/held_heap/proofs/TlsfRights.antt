@@ -6,7 +6,6 @@ use Rattle.std.specs.FinMap.{insert}
 use seplogic.Ra.Ura.{Ura}
 use base.Logic.{ent}
 use types.Logic.{Logic, sem}
-use types.Kit.{‵, ◌$◌, ◌∵◌, !, qed, done, fpick, fpack, rewrite}
 use denote.RawPtr.{Ptr}
 use Rattle.page_model.specs.Bytes.{bytes_at, written as bytes_written}
 use Rattle.page_model.specs.Held.{Placed}
@@ -27,11 +26,15 @@ use Rattle.tag_heap.proofs.PartLemmas.{part_within}
 use Rattle.tag_heap.proofs.Preserved.{ReadsAs, read_is, used_at}
 use Rattle.tag_heap.proofs.WriteLemmas.{writes, wrote_rules, wrote_valid}
 use Rattle.held_heap.specs.HeldState.{HeldState, IsOpenOfKind}
-use Rattle.held_heap.specs.LooseTlsf.{FitIn, FitOpen, Fits, held_all, inner_all, open_all, seen_blocks, seen_heap, seen_in, state_seen}
-use Rattle.held_heap.specs.TlsfBlock.{Names, opened, open_borrow}
+use Rattle.c_base.specs.Lending.{IsOf}
+use Rattle.c_base.specs.Lent.{opened}
+use Rattle.c_base.proofs.Loans.{replaced}
+use Rattle.c_base.proofs.WholeWords.{again}
+use Rattle.held_heap.specs.declared.loose_tlsf.LooseTlsf.{LooseTlsf}
+use Rattle.held_heap.specs.contracts.loose_tlsf.LooseTlsf.{the_row as loose_heap}
+use Rattle.held_heap.specs.LooseTlsf.{FitIn, FitOpen, held_all, lending, inner_all, open_all, seen_blocks, seen_heap, seen_in, state_seen}
 use Rattle.held_heap.specs.declared.loose_tlsf.LooseOpen.{LooseOpen}
 use Rattle.held_heap.specs.Written.{IsWritten}
-use Rattle.held_heap.proofs.WholeWords.{again}
 
 -- a heap whose region was replaced before, with the words of t
 module _ (h : LooseOpen) (ws : List ℕ) (fit : FitOpen (open_all h ws)) (t : HeapState) (q from : ℕ) (bytes : List ℕ)
@@ -113,38 +116,33 @@ fits_in (Some h) ws k s e is_open t q from bytes w =
       ),
     )
 
-module _ (x : HeldState) (m : Names) (fit : Fits (held_all m.parts x.heap.words) x) (t : HeapState) (q from : ℕ) (bytes : List ℕ) (w : IsWritten 2 x.heap t q from bytes) where
+module _ (x : HeldState) (a : LooseTlsf) (of : IsOf lending (held_all a x.heap.words) x) (t : HeapState) (q from : ℕ) (bytes : List ℕ) (w : IsWritten 2 x.heap t q from bytes) where
   abbrev o : Option LooseOpen
-  o = m.parts.heap.inner
+  o = a.heap.inner
+
+  shown_heap : state_seen (inner_all o x.heap.words) ≡ x.heap
+  shown_heap = ap (λ (h : HeldState). h.heap) of.shown
 
   opens : IsTrue x.heap.is_open
-  opens = subst (λ (s : HeapState). IsTrue s.is_open) fit.heap fit.open_now.open_now
+  opens = subst (λ (s : HeapState). IsTrue s.is_open) shown_heap of.fit.open_now.open_now
 
   all : FitIn (inner_all o t.words) × (IsKeptIn Tlsf (seen_in (inner_all o t.words)) × (state_seen (inner_all o t.words) ≡ t))
-  all = fits_in o x.heap.words fit.valid x.heap fit.heap opens t q from bytes w
+  all = fits_in o x.heap.words of.fit.valid x.heap shown_heap opens t q from bytes w
 
   open_after : IsOpenOfKind Tlsf t
   open_after =
-      let k = subst (IsOpenOfKind Tlsf) fit.heap fit.open_now in
+      let k = subst (IsOpenOfKind Tlsf) shown_heap of.fit.open_now in
       subst (IsOpenOfKind Tlsf) (sym w.whole) (record { open_now = k.open_now; kind = k.kind })
 
-  pub still_fits : Fits (held_all m.parts t.words) (record x { heap = t })
-  still_fits = record {
-    valid = all.0;
-    rules = all.1.0;
-    open_now = subst (IsOpenOfKind Tlsf) (sym all.1.1) open_after;
-    heap = all.1.1;
-    steps = fit.steps;
-    handles = fit.handles;
-    counts = fit.counts;
+  pub still_of : IsOf lending (held_all a t.words) (record x { heap = t })
+  still_of = record {
+    fit = record { valid = all.0; rules = all.1.0; open_now = subst (IsOpenOfKind Tlsf) (sym all.1.1) open_after };
+    shown = λ k. record { heap = all.1.1 k; steps = (of.shown k).steps; handles = (of.shown k).handles; counts = (of.shown k).counts };
   }
 
 module _ {M : Type 1} {𝓤 : Ura M} (𝓛 : Logic 𝓤) where
   -- when the caller has written bytes into an object, what makes the heap whole again is that of the state after it
   pub bytes_are_written : (p u : Ptr) (x : HeldState) (t : HeapState) (q from : ℕ) (bytes : List ℕ) → IsWritten 2 x.heap t q from bytes
-      → ent 𝓤 (sem 𝓛 (opened p u x)) (sem 𝓛 (opened p u (record x { heap = t })))
+      → ent 𝓤 (sem 𝓛 (opened loose_heap lending p u x)) (sem 𝓛 (opened loose_heap lending p u (record x { heap = t })))
   bytes_are_written p u x t q from bytes w =
-      qed 𝓛 (‵ (opened p u x) ∷ []) ∵ fpick ! (λ (m : (n : Names) × Fits (held_all n.parts x.heap.words) x).
-      rewrite ! 0 (λ (n : ℕ). ‵ (open_borrow p u n m.0)) (sym w.words.long) refl $
-      fpack ! ((n : Names) × Fits (held_all n.parts t.words) (record x { heap = t })) (λ n. open_borrow p u (length t.words) n.0)
-      (m.0, still_fits x m.0 m.1 t q from bytes w) $ done !)
+      replaced loose_heap lending 𝓛 p u x (record x { heap = t }) w.words.long (λ a of. still_of x a of t q from bytes w)

@@ -1,10 +1,12 @@
--- `LooseHeld`, the fields of an open heap of the moving manager with its step count: its words, other words in their place, and which of them is a `Held` with a given state.
+-- `LooseHeld`, the fields of an open heap of the moving manager with its step count: its words, other words in their place, and which of them is a `Held`, with which state.
 use Rattle.std.specs.Prelude.{◌≡◌, ℕ, List, Option, Some, None, length}
 use Rattle.cf_base.specs.declared.kind.Kind.TheVariants.{Moving}
 use Rattle.region.specs.Lending.{with_words}
 use Rattle.paged_heap.specs.Layout.{IsValidIn, state_in}
 use Rattle.paged_heap.specs.PagedState.{region_in}
 use Rattle.paged_heap.specs.declared.open_heap.OpenHeap.{OpenHeap}
+use Rattle.c_base.specs.Handles.{largest}
+use Rattle.c_base.specs.Lending.{Lending}
 use Rattle.held_heap.specs.HeldState.{HeldState, IsOpenOfKind}
 use Rattle.held_heap.specs.declared.loose.LooseHeld.{LooseHeld}
 
@@ -23,11 +25,15 @@ inner_all (Some h) ws = Some (region_all h ws)
 abbrev pub held_all : LooseHeld → List ℕ → LooseHeld
 held_all a ws = record a { heap = record a.heap { inner = inner_all a.heap.inner ws } }
 
--- the parts a are those of a `Held` with the state x: the heap is valid and open, and shows this state
-pub record Fits (a : LooseHeld) (x : HeldState) : Type 0 where
+-- the state of a `Held` with the fields a
+abbrev pub state_of : LooseHeld → HeldState
+state_of a = record { heap = state_in Moving a.heap.inner; steps = a.steps; handles = a.handles; counts = a.counts }
+
+-- the fields a are those of a `Held`: the heap is valid and open
+pub record Fits (a : LooseHeld) : Type 0 where
   pub valid : IsValidIn Moving a.heap.inner
   pub open_now : IsOpenOfKind Moving (state_in Moving a.heap.inner)
-  pub heap : state_in Moving a.heap.inner ≡ x.heap
-  pub steps : a.steps ≡ x.steps
-  pub handles : a.handles ≡ x.handles
-  pub counts : a.counts ≡ x.counts
+
+-- the loan of the words of a `Held`
+abbrev pub lending : Lending HeldState LooseHeld
+lending = record { words = λ h. h.heap.words; with_words = held_all; fits = Fits; state = state_of; last = λ h. largest h.handles }

@@ -1,4 +1,4 @@
--- `LooseTlsf`, the fields of an open heap of the TLSF manager with its step count: its words, other words in their place, and which of them is a `Held` with a given state.
+-- `LooseTlsf`, the fields of an open heap of the TLSF manager with its step count: its words, other words in their place, and which of them is a `Held`, with which state.
 use Rattle.std.specs.Prelude.{◌≡◌, ℕ, List, [], Option, Some, None, length}
 use Rattle.cf_base.specs.declared.kind.Kind.TheVariants.{Tlsf}
 use Rattle.region.specs.Lending.{with_words}
@@ -9,6 +9,8 @@ use Rattle.tag_blocks.specs.Layout.{IsValid as AreValidBlocks}
 use Rattle.tag_blocks.specs.ListHeads.{AreMarkedCells}
 use Rattle.tag_blocks.specs.Tags.{blocks_of, lists_of}
 use Rattle.tag_heap.specs.Heap.{Heap, IsKeptIn, IsValid, state_in}
+use Rattle.c_base.specs.Handles.{largest}
+use Rattle.c_base.specs.Lending.{Lending}
 use Rattle.held_heap.specs.HeldState.{HeldState, IsOpenOfKind}
 use Rattle.held_heap.specs.declared.loose_tlsf.LooseBlocks.{LooseBlocks}
 use Rattle.held_heap.specs.declared.loose_tlsf.LooseOpen.{LooseOpen}
@@ -65,12 +67,16 @@ abbrev pub FitIn : Option LooseOpen → Type 0
 FitIn None = Unit {0}
 FitIn (Some h) = FitOpen h
 
--- the parts a are those of a `Held` with the state x: the heap is valid and open, and shows this state
-pub record Fits (a : LooseTlsf) (x : HeldState) : Type 0 where
+-- the state of a `Held` with the fields a
+abbrev pub state_of : LooseTlsf → HeldState
+state_of a = record { heap = state_seen a.heap.inner; steps = a.steps; handles = a.handles; counts = a.counts }
+
+-- the fields a are those of a `Held`: the heap is valid and open
+pub record Fits (a : LooseTlsf) : Type 0 where
   pub valid : FitIn a.heap.inner
   pub rules : IsKeptIn Tlsf (seen_in a.heap.inner)
   pub open_now : IsOpenOfKind Tlsf (state_seen a.heap.inner)
-  pub heap : state_seen a.heap.inner ≡ x.heap
-  pub steps : a.steps ≡ x.steps
-  pub handles : a.handles ≡ x.handles
-  pub counts : a.counts ≡ x.counts
+
+-- the loan of the words of a `Held`
+abbrev pub lending : Lending HeldState LooseTlsf
+lending = record { words = λ h. h.heap.words; with_words = held_all; fits = Fits; state = state_of; last = λ h. largest h.handles }

@@ -1,16 +1,17 @@
 -- For `NphHeap` of `nonmoving.rt`, the struct that a caller in C has for its heap: the heap that it owns, and the struct when a borrow of that heap ends.
+use denote.RawPtr.{null_ptr}
 use Rattle.std.specs.Prelude.{None, refl, true}
 use Rattle.std.specs.Borrow.{Fml, Lends, MutBor}
-use Rattle.held_heap.specs.CallerHeap.{CallerHeap, heap_of}
+use Rattle.c_base.specs.Borrow.{with_heap}
+use Rattle.c_base.specs.CallerHeap.{CallerHeap, heap_of}
 use Rattle.held_heap.specs.HeldState.{HeldState}
 use Rattle.held_heap.specs.NonMoving.{open_heap}
-use Rattle.held_heap.specs.NonMovingLoan.{with_heap}
 use Rattle.held_heap.specs.declared.nonmoving.NphHeap.{NphHeap}
 use Rattle.held_heap.specs.contracts.nonmoving.NphHeap.{the_row}
 
 -- the heap of the struct: closed or open; it is never lent
-abbrev pub held_in : NphHeap → CallerHeap
-held_in n = heap_of n.place.held None n.last
+abbrev pub held_in : NphHeap → CallerHeap HeldState
+held_in n = heap_of n.place.held None null_ptr n.last
 
 -- s is the borrow of the struct, r that of its heap: when r ends, the struct is open, and has the heap as r leaves it. `Lends` of the standard library states
 -- this: its last argument computes the struct from the state h in which r leaves the heap. `the_row` is the type of the struct.

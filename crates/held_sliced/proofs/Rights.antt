@@ -1,13 +1,12 @@
--- What a caller in C may do with the words of a region that a `HeapBlock` owns apart. It owns them (`words_lie`), so it may read them, and write bytes of live
+-- What a caller in C may do with the words of a region that a `Loan` owns. It owns them (`words_lie`), so it may read them, and write bytes of live
 -- objects: then it owns the words of the heap's state after that write, and by the law `bytes_are_written` what makes the heap whole again is that of this
--- state. So it owns the `HeapBlock` with this state, and may pass it to the next call. No function cites the law.
+-- state. So it owns the `Loan` with this state, and may pass it to the next call. No function cites the law.
 use Rattle.std.proofs.Common.{◌≡◌, ℕ, ◌+◌, ◌/◌, ◌%◌, List, [], ◌∷◌, length, refl, sym, ap, ◌∙◌, subst, Option, Some, None}
 use Rattle.std.proofs.lemmas.Bool.{false≢true}
 use Rattle.std.specs.Prelude.{IsTrue}
 use seplogic.Ra.Ura.{Ura}
 use base.Logic.{ent}
 use types.Logic.{Logic, sem}
-use types.Kit.{‵, ◌$◌, ◌∵◌, !, qed, done, fpick, fpack, rewrite}
 use denote.RawPtr.{Ptr}
 use Rattle.sliced_heap.specs.Heap.{seen}
 use Rattle.sliced_heap.specs.Layout.{IsValid}
@@ -15,10 +14,14 @@ use Rattle.sliced_heap.specs.Shown.{IsValidIn, SlicedState, shown}
 use Rattle.sliced_heap.specs.declared.open_heap.OpenHeap.{OpenHeap}
 use Rattle.sliced_heap.proofs.CallerLemmas.{lent_held, lent_valid}
 use Rattle.held_sliced.specs.HeldState.{HeldState}
-use Rattle.held_sliced.specs.Loose.{Fits, held_all, inner_all, region_all}
-use Rattle.held_sliced.specs.SlicedBlock.{Names, opened, open_borrow}
+use Rattle.c_base.specs.Lending.{IsOf}
+use Rattle.c_base.specs.Lent.{opened}
+use Rattle.c_base.proofs.Loans.{replaced}
+use Rattle.c_base.proofs.WholeWords.{again}
+use Rattle.held_sliced.specs.Loose.{held_all, inner_all, lending, region_all}
+use Rattle.held_sliced.specs.declared.loose.LooseHeld.{LooseHeld}
+use Rattle.held_sliced.specs.contracts.loose.LooseHeld.{the_row as loose_heap}
 use Rattle.held_sliced.specs.Written.{IsWritten}
-use Rattle.held_sliced.proofs.WholeWords.{again}
 
 -- a heap whose region was replaced before, with the words of t
 module _ (h : OpenHeap) (ws : List ℕ) (k : IsValid (seen (region_all h ws))) (t : SlicedState) (q from : ℕ) (bytes : List ℕ)
@@ -54,35 +57,29 @@ fits_in (Some h) ws k s e is_open t q from bytes w =
       ap (λ (g : OpenHeap). shown (Some g)) is ∙ left_shown h ws k t q from bytes v,
     )
 
-module _ (x : HeldState) (m : Names) (fit : Fits (held_all m.parts x.heap.words) x) (t : SlicedState) (q from : ℕ) (bytes : List ℕ)
+module _ (x : HeldState) (a : LooseHeld) (of : IsOf lending (held_all a x.heap.words) x) (t : SlicedState) (q from : ℕ) (bytes : List ℕ)
     (w : IsWritten x.heap t q from bytes) where
-  abbrev o : Option OpenHeap
-  o = m.parts.heap.inner
+  shown_heap : shown (inner_all a.heap.inner x.heap.words) ≡ x.heap
+  shown_heap = ap (λ (h : HeldState). h.heap) of.shown
 
   opens : IsTrue x.heap.is_open
-  opens = subst (λ (s : SlicedState). IsTrue s.is_open) fit.heap fit.open_now
+  opens = subst (λ (s : SlicedState). IsTrue s.is_open) shown_heap of.fit.open_now
 
-  two : IsValidIn (inner_all o t.words) × (shown (inner_all o t.words) ≡ t)
-  two = fits_in o x.heap.words fit.valid x.heap fit.heap opens t q from bytes w
+  two : IsValidIn (inner_all a.heap.inner t.words) × (shown (inner_all a.heap.inner t.words) ≡ t)
+  two = fits_in a.heap.inner x.heap.words of.fit.valid x.heap shown_heap opens t q from bytes w
 
   open_after : IsTrue t.is_open
   open_after = ap (λ (s : SlicedState). s.is_open) w.whole ∙ opens
 
-  pub still_fits : Fits (held_all m.parts t.words) (record x { heap = t })
-  still_fits = record {
-    valid = two.0;
-    open_now = subst (λ (s : SlicedState). IsTrue s.is_open) (sym two.1) open_after;
-    heap = two.1;
-    steps = fit.steps;
-    handles = fit.handles;
+  pub still_of : IsOf lending (held_all a t.words) (record x { heap = t })
+  still_of = record {
+    fit = record { valid = two.0; open_now = subst (λ (s : SlicedState). IsTrue s.is_open) (sym two.1) open_after };
+    shown = λ k. record { heap = two.1 k; steps = (of.shown k).steps; handles = (of.shown k).handles };
   }
 
 module _ {M : Type 1} {𝓤 : Ura M} (𝓛 : Logic 𝓤) where
   -- when the caller has written bytes into an object, what makes the heap whole again is that of the state after it
   pub bytes_are_written : (p u : Ptr) (x : HeldState) (t : SlicedState) (q from : ℕ) (bytes : List ℕ) → IsWritten x.heap t q from bytes
-      → ent 𝓤 (sem 𝓛 (opened p u x)) (sem 𝓛 (opened p u (record x { heap = t })))
+      → ent 𝓤 (sem 𝓛 (opened loose_heap lending p u x)) (sem 𝓛 (opened loose_heap lending p u (record x { heap = t })))
   bytes_are_written p u x t q from bytes w =
-      qed 𝓛 (‵ (opened p u x) ∷ []) ∵ fpick ! (λ (m : (n : Names) × Fits (held_all n.parts x.heap.words) x).
-      rewrite ! 0 (λ (n : ℕ). ‵ (open_borrow p u n m.0)) (sym w.words.long) refl $
-      fpack ! ((n : Names) × Fits (held_all n.parts t.words) (record x { heap = t })) (λ n. open_borrow p u (length t.words) n.0)
-      (m.0, still_fits x m.0 m.1 t q from bytes w) $ done !)
+      replaced loose_heap lending 𝓛 p u x (record x { heap = t }) w.words.long (λ a of. still_of x a of t q from bytes w)

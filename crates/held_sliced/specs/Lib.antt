@@ -9,7 +9,5 @@ pub mod Needed
 pub mod Sliced
 pub mod Loose
 pub mod LooseLoan
-pub mod SlicedBlock
+pub mod Restored
 pub mod Written
-pub mod Loan
-pub mod Place

@@ -1,8 +1,10 @@
--- `LooseHeld`, the fields of an open sliced heap with its step count: its words, other words in their place, and which of them is a `Held` with a given state.
+-- `LooseHeld`, the fields of an open sliced heap with its step count: its words, other words in their place, and which of them is a `Held`, with which state.
 use Rattle.std.specs.Prelude.{◌≡◌, ℕ, IsTrue, List, Option, Some, None, length}
 use Rattle.region.specs.Lending.{with_words}
 use Rattle.sliced_heap.specs.Shown.{IsValidIn, shown}
 use Rattle.sliced_heap.specs.declared.open_heap.OpenHeap.{OpenHeap}
+use Rattle.c_base.specs.Handles.{largest}
+use Rattle.c_base.specs.Lending.{Lending}
 use Rattle.held_sliced.specs.HeldState.{HeldState}
 use Rattle.held_sliced.specs.declared.loose.LooseHeld.{LooseHeld}
 
@@ -24,10 +26,15 @@ inner_all (Some h) ws = Some (region_all h ws)
 abbrev pub held_all : LooseHeld → List ℕ → LooseHeld
 held_all a ws = record a { heap = record a.heap { inner = inner_all a.heap.inner ws } }
 
--- the parts a are those of a `Held` with the state x: the heap is valid and open, and shows this state
-pub record Fits (a : LooseHeld) (x : HeldState) : Type 0 where
+-- the state of a `Held` with the fields a
+abbrev pub state_of : LooseHeld → HeldState
+state_of a = record { heap = shown a.heap.inner; steps = a.steps; handles = a.handles }
+
+-- the fields a are those of a `Held`: the heap is valid and open
+pub record Fits (a : LooseHeld) : Type 0 where
   pub valid : IsValidIn a.heap.inner
   pub open_now : IsTrue (shown a.heap.inner).is_open
-  pub heap : shown a.heap.inner ≡ x.heap
-  pub steps : a.steps ≡ x.steps
-  pub handles : a.handles ≡ x.handles
+
+-- the loan of the words of a `Held`
+abbrev pub lending : Lending HeldState LooseHeld
+lending = record { words = λ h. h.heap.words; with_words = held_all; fits = Fits; state = state_of; last = λ h. largest h.handles }

@@ -295,7 +295,7 @@ impl Held {
     }
 
     /// The largest handle that a number has.
-    pub(crate) fn last(&self) -> u32
+    pub(crate) fn last_handle(&self) -> u32
         ensures { result ≡ largest self.now.handles }
     {
         self.handles.largest()

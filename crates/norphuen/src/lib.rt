@@ -10,19 +10,20 @@ ghost use Rattle.cf_base.specs.declared.kind.Kind.TheVariants.{Moving};
 ghost use Rattle.cf_base.specs.declared.kind.Layout.TheVariants.{Words};
 ghost use Rattle.held_heap.specs.Bound.{IsBoundCall};
 ghost use Rattle.held_heap.specs.Calls.{IsCountsCall, IsFiguresCall, IsFreeCall, IsLengthCall, IsMallocCall, IsPlaceCall, IsReadCall, IsResizeCall, IsRoomCall, IsStepsCall, IsTotalsCall, IsWriteCall};
-ghost use Rattle.held_heap.specs.AtPlace.{IsCallOnOpen, IsLendCall, IsOpenCall, IsReturnCall};
+ghost use Rattle.c_base.specs.AtPlace.{IsCallOnOpen, IsLendCall, IsReturnCall};
+ghost use Rattle.c_base.specs.Place.{held_in};
+ghost use Rattle.held_heap.specs.AtPlace.{IsOpenCall};
 ghost use Rattle.held_heap.specs.CallerHeap.{closed_by};
 ghost use Rattle.held_heap.specs.Most.{IsMostAccess, IsMostFree, IsMostLength, IsMostMalloc, IsMostResize, IsMostRoom, IsMostTotals, kind_code};
 ghost use Rattle.held_heap.specs.Walk.{IsNextCall};
 ghost use Rattle.held_heap.specs.Needed.{IsNeededCall};
 ghost use Rattle.held_heap.specs.Slots.{IsClassCall, IsSlotWordsCall};
 ghost use Rattle.held_heap.specs.PagesNeeded.{IsPagesCall};
-ghost use Rattle.held_heap.specs.MovingPlace.{held_in};
 ghost use Rattle.held_heap.specs.Moving.{bounds};
 ghost use Rattle.c_base.specs.Version.{version};
 
 use cf_base::{Kind, Layout};
-use held_heap::moving::NphHeap;
+use held_heap::moving::{self, NphHeap};
 use held_heap::{
     NphClass, NphCounted, NphFreed, NphHeapTotals, NphNeed, NphNeeded, NphResized, VERSION, most,
     pages_needed,
@@ -30,7 +31,7 @@ use held_heap::{
 use std::rt::Memory;
 
 /// Opens the heap with these settings: `pages` pages of `page_bytes` bytes, at most `k` partly full pages in
-/// each class, and at most `proxies` live objects (`NphHeap::open`). `memory`, here and in `nph_close`, is the
+/// each class, and at most `proxies` live objects (`moving::open`). `memory`, here and in `nph_close`, is the
 /// kit's value for the memory of the process; a caller in C passes none.
 #[unsafe(no_mangle)]
 pub extern "C" fn nph_open(
@@ -43,12 +44,12 @@ pub extern "C" fn nph_open(
 ) -> i32
     ensures { IsOpenCall Moving (held_in heap.old) pages page_bytes k proxies result (held_in heap.new) }
 {
-    heap.open(memory, pages, page_bytes, k, proxies)
+    moving::open(heap, memory, pages, page_bytes, k, proxies)
 }
 
 /// Writes into `needed` what `nph_open` with these settings asks of the functions that take and return memory: how many
 /// blocks, the bytes of all, and those of the largest. The caller's own memory for `heap` isn't counted, nor what the
-/// functions need for a block. Returns 0, or the code of the first setting out of range (`NphHeap::bytes_needed`).
+/// functions need for a block. Returns 0, or the code of the first setting out of range (`moving::bytes_needed`).
 #[unsafe(no_mangle)]
 pub extern "C" fn nph_bytes_needed(
     pages: u32,
@@ -59,7 +60,7 @@ pub extern "C" fn nph_bytes_needed(
 ) -> i32
     ensures { IsNeededCall Moving pages page_bytes k proxies result needed.old needed.new }
 {
-    NphHeap::bytes_needed(pages, page_bytes, k, proxies, needed)
+    moving::bytes_needed(pages, page_bytes, k, proxies, needed)
 }
 
 /// Writes into `pages` the least number of pages of `page_bytes` bytes with which no call of a program is refused for space

@@ -6,20 +6,21 @@
 #![tactic(auto)]
 
 ghost use Rattle.std.specs.Prelude.{◌≡◌};
+ghost use Rattle.c_base.specs.AtPlace.{IsCallOnOpen, IsReturnCall};
+ghost use Rattle.c_base.specs.Place.{held_in};
 ghost use Rattle.c_base.specs.Version.{version};
-ghost use Rattle.held_sliced.specs.AtPlace.{IsCallOnOpen, IsLendCall, IsOpenCall, IsReturnCall};
+ghost use Rattle.held_sliced.specs.AtPlace.{IsLendCall, IsOpenCall};
 ghost use Rattle.held_sliced.specs.CallerHeap.{closed_by};
 ghost use Rattle.held_sliced.specs.Calls.{IsClassCall, IsFiguresCall, IsFreeCall, IsLeftCall, IsLengthCall, IsMallocCall, IsMovingCall, IsPlaceCall, IsReadCall, IsRoomCall, IsSlotWordsCall, IsStepCall, IsStepsCall, IsTotalsCall, IsWriteCall};
 ghost use Rattle.held_sliced.specs.Most.{most_access, most_free, most_has_room, most_length, most_malloc, most_step};
 ghost use Rattle.held_sliced.specs.Needed.{IsNeededCall};
-ghost use Rattle.held_sliced.specs.Place.{held_in};
 
-use held_sliced::sliced::NphHeap;
+use held_sliced::sliced::{self, NphHeap};
 use held_sliced::{NphClass, NphHeapTotals, NphNeeded, VERSION, most};
 use std::rt::Memory;
 
 /// Opens the heap with these settings: `pages` pages of `page_bytes` bytes, at most `proxies` live objects, and slices of at
-/// most `quantum` words (`NphHeap::open`). `memory`, here and in `nph_sliced_close`, is the kit's value for the memory of
+/// most `quantum` words (`sliced::open`). `memory`, here and in `nph_sliced_close`, is the kit's value for the memory of
 /// the process; a caller in C passes none.
 #[unsafe(no_mangle)]
 pub extern "C" fn nph_sliced_open(
@@ -32,11 +33,11 @@ pub extern "C" fn nph_sliced_open(
 ) -> i32
     ensures { IsOpenCall (held_in heap.old) pages page_bytes proxies quantum result (held_in heap.new) }
 {
-    heap.open(memory, pages, page_bytes, proxies, quantum)
+    sliced::open(heap, memory, pages, page_bytes, proxies, quantum)
 }
 
 /// Writes into `needed` what `nph_sliced_open` with these settings asks of the functions that take and return memory: how
-/// many blocks, the bytes of all, and those of the largest (`NphHeap::bytes_needed`). The quantum makes no difference.
+/// many blocks, the bytes of all, and those of the largest (`sliced::bytes_needed`). The quantum makes no difference.
 #[unsafe(no_mangle)]
 pub extern "C" fn nph_sliced_bytes_needed(
     pages: u32,
@@ -46,7 +47,7 @@ pub extern "C" fn nph_sliced_bytes_needed(
 ) -> i32
     ensures { IsNeededCall pages page_bytes proxies result needed.old needed.new }
 {
-    NphHeap::bytes_needed(pages, page_bytes, proxies, needed)
+    sliced::bytes_needed(pages, page_bytes, proxies, needed)
 }
 
 /// Closes the heap and frees its memory; does nothing if it is closed (`NphHeap::close`).
@@ -254,12 +255,12 @@ pub extern "C" fn nph_sliced_place(heap: &mut NphHeap, handle: u32, place: &mut 
 }
 
 /// Lends the words of the region to the caller if no job is pending, and writes their address into `words`
-/// (`NphHeap::lend`). Until `nph_sliced_return` the caller may read them, and write the bytes of live objects.
+/// (`sliced::lend`). Until `nph_sliced_return` the caller may read them, and write the bytes of live objects.
 #[unsafe(no_mangle)]
 pub extern "C" fn nph_sliced_lend(heap: &mut NphHeap, words: &mut *mut u64) -> i32
     ensures { IsLendCall (held_in heap.old) result (held_in heap.new) words.old words.new }
 {
-    heap.lend(words)
+    sliced::lend(heap, words)
 }
 
 /// Ends the loan (`NphHeap::end_loan`).

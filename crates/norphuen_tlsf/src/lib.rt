@@ -9,24 +9,25 @@
 ghost use Rattle.std.specs.Prelude.{◌≡◌};
 ghost use Rattle.cf_base.specs.declared.kind.Kind.TheVariants.{Tlsf};
 ghost use Rattle.held_heap.specs.Calls.{IsCountsCall, IsFiguresCall, IsFreeCall, IsLengthCall, IsMallocCall, IsPlaceCall, IsReadCall, IsResizeCall, IsRoomCall, IsStepsCall, IsTotalsCall, IsWriteCall};
-ghost use Rattle.held_heap.specs.AtPlace.{IsCallOnOpen, IsLendCall, IsOpenCall, IsReturnCall};
+ghost use Rattle.c_base.specs.AtPlace.{IsCallOnOpen, IsLendCall, IsReturnCall};
+ghost use Rattle.c_base.specs.Place.{held_in};
+ghost use Rattle.held_heap.specs.AtPlace.{IsOpenCall};
 ghost use Rattle.held_heap.specs.CallerHeap.{closed_by};
 ghost use Rattle.held_heap.specs.Most.{IsMostAccess, IsMostFree, IsMostLength, IsMostMalloc, IsMostResize, IsMostRoom, IsMostTotals, kind_code};
 ghost use Rattle.held_heap.specs.Walk.{IsNextCall};
 ghost use Rattle.held_heap.specs.Needed.{IsNeededCall};
-ghost use Rattle.held_heap.specs.TlsfPlace.{held_in};
 ghost use Rattle.held_heap.specs.Tlsf.{bounds};
 ghost use Rattle.c_base.specs.Version.{version};
 
 use cf_base::Kind;
-use held_heap::tlsf::NphHeap;
+use held_heap::tlsf::{self, NphHeap};
 use held_heap::{
     NphClass, NphCounted, NphFreed, NphHeapTotals, NphNeeded, NphResized, VERSION, most,
 };
 use std::rt::Memory;
 
 /// Opens the heap with these settings: a region of `pages` times `page_bytes` bytes, and at most `proxies` live
-/// objects. `k` must be in its range, 1 to 64, and has no other effect (`NphHeap::open`). `memory`, here and in
+/// objects. `k` must be in its range, 1 to 64, and has no other effect (`tlsf::open`). `memory`, here and in
 /// `nph_tlsf_close`, is the kit's value for the memory of the process; a caller in C passes none.
 #[unsafe(no_mangle)]
 pub extern "C" fn nph_tlsf_open(
@@ -39,12 +40,12 @@ pub extern "C" fn nph_tlsf_open(
 ) -> i32
     ensures { IsOpenCall Tlsf (held_in heap.old) pages page_bytes k proxies result (held_in heap.new) }
 {
-    heap.open(memory, pages, page_bytes, k, proxies)
+    tlsf::open(heap, memory, pages, page_bytes, k, proxies)
 }
 
 /// Writes into `needed` what `nph_tlsf_open` with these settings asks of the functions that take and return memory: how many
 /// blocks, the bytes of all, and those of the largest. The caller's own memory for `heap` isn't counted, nor what the
-/// functions need for a block. Returns 0, or the code of the first setting out of range (`NphHeap::bytes_needed`).
+/// functions need for a block. Returns 0, or the code of the first setting out of range (`tlsf::bytes_needed`).
 #[unsafe(no_mangle)]
 pub extern "C" fn nph_tlsf_bytes_needed(
     pages: u32,
@@ -55,7 +56,7 @@ pub extern "C" fn nph_tlsf_bytes_needed(
 ) -> i32
     ensures { IsNeededCall Tlsf pages page_bytes k proxies result needed.old needed.new }
 {
-    NphHeap::bytes_needed(pages, page_bytes, k, proxies, needed)
+    tlsf::bytes_needed(pages, page_bytes, k, proxies, needed)
 }
 
 /// Closes the heap and frees its memory, also if it is lent; does nothing if it is closed (`NphHeap::close`).

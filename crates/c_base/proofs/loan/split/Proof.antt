@@ -57,14 +57,10 @@ use Rattle.c_base.specs.contracts.block.HeapBlock.{the_row as P}
 use Rattle.c_base.specs.contracts.loan.Loan.{the_row as Q}
 use Rattle.c_base.specs.contracts.loan.Lendable.all_words as g
 use Rattle.c_base.proofs.Blocks.{place_val, place_in, place_out}
-use Rattle.c_base.proofs.Loans.{loan_val, loan_in}
+use Rattle.c_base.proofs.Loans.{fit_some, loan_val, loan_in}
 use Rattle.c_base.specs.contracts.loan.split as f
 use Rattle.c_base.proofs.loan.split.Statement.{statement}
 use Rattle.c_base.proofs.loan.split.Code as code
-
-fit_some : {T S : Type 0} (L : Lending T S) (h : Option S) → IsFit L h → IsSome h
-fit_some L None k = absurd k
-fit_some L (Some a) k = refl
 
 pub split_spec : {M : Type 1} → statement M
 split_spec {M} 𝓤 𝓛 𝓜 𝓡 wired X Y LX LY G d met =
