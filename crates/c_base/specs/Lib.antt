@@ -5,3 +5,5 @@ pub mod HandleRules
 pub mod HeapBlock
 pub mod Needed
 pub mod Version
+pub mod CallerHeap
+pub mod Shown

@@ -1,0 +1,5 @@
+pub mod Places
+pub mod Sent
+pub mod NeededCall
+pub mod Fresh
+pub mod Frees

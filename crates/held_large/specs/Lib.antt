@@ -1,0 +1,7 @@
+pub mod HeldState
+pub mod Calls
+pub mod CallerHeap
+pub mod Needed
+pub mod Large
+pub mod Loan
+pub mod Place
