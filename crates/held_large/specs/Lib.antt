@@ -1,4 +1,5 @@
 pub mod HeldState
+pub mod Most
 pub mod Calls
 pub mod CallerHeap
 pub mod Needed

@@ -4,3 +4,5 @@
 
 mod held;
 pub mod large;
+pub mod laws;
+pub mod most;

@@ -9,11 +9,13 @@ ghost use Rattle.c_base.specs.CallerHeap.{IsCallOnOpen};
 ghost use Rattle.c_base.specs.Version.{version};
 ghost use Rattle.held_large.specs.CallerHeap.{IsOpenCall, closed_by};
 ghost use Rattle.held_large.specs.Calls.{IsFiguresCall, IsFreeCall, IsLengthCall, IsMallocCall, IsReadCall, IsStepsCall, IsTotalsCall, IsWriteCall};
+ghost use Rattle.held_large.specs.Most.{IsMostAccess, IsMostFree, IsMostMalloc};
 ghost use Rattle.held_large.specs.Needed.{IsNeededCall};
 ghost use Rattle.held_large.specs.Place.{held_in};
 
 use c_base::{CLOSED, NphClass, NphHeapTotals, NphNeeded, VERSION};
 use held_large::large::NphHeap;
+use held_large::most;
 use std::rt::Memory;
 
 /// Opens the heap with these settings: `pages` pages of `page_bytes` bytes, and at most `proxies` objects, parts and spines
@@ -155,6 +157,31 @@ pub extern "C" fn nph_large_last_steps(heap: &mut NphHeap, steps: &mut u64) -> i
     } else {
         CLOSED
     }
+}
+
+/// Returns the most steps of a malloc of `bytes` bytes in a heap with pages of `page_bytes` bytes (`most_malloc`). It and the two
+/// calls below take no heap.
+#[unsafe(no_mangle)]
+pub extern "C" fn nph_large_most_malloc(page_bytes: u32, bytes: u32) -> u64
+    ensures { IsMostMalloc page_bytes bytes result }
+{
+    most::most_malloc(page_bytes, bytes)
+}
+
+/// Returns the most steps of a free of an object of `bytes` bytes (`most_free`).
+#[unsafe(no_mangle)]
+pub extern "C" fn nph_large_most_free(page_bytes: u32, bytes: u32) -> u64
+    ensures { IsMostFree page_bytes bytes result }
+{
+    most::most_free(page_bytes, bytes)
+}
+
+/// Returns the most steps of a read or a write of `count` bytes from byte `at` on (`most_access`).
+#[unsafe(no_mangle)]
+pub extern "C" fn nph_large_most_access(page_bytes: u32, at: u32, count: u32) -> u64
+    ensures { IsMostAccess page_bytes at count result }
+{
+    most::most_access(page_bytes, at, count)
 }
 
 /// Returns the version of this library (`VERSION`).
