@@ -2,7 +2,7 @@
 # Sourced by the checks of the C libraries, which set `room`.
 libraries=(norphuen norphuen_nonmoving norphuen_tlsf)
 # Those whose calls have other parameters.
-own_libraries=(norphuen_sliced norphuen_tasks norphuen_images)
+own_libraries=(norphuen_sliced norphuen_tasks norphuen_images norphuen_large)
 arm=(--target aarch64-unknown-linux-gnu)
 
 # build_library NAME TO FLAG..: tools/build.py proves crates/NAME and builds its library, which is copied to TO. It is built

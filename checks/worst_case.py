@@ -48,10 +48,12 @@ NEAR = Fraction(11, 10)
 NEAR_OPEN = Fraction(12, 10)
 # A frame on ARM64 is a multiple of 16 bytes, the lowest of which may be unused.
 UNUSED = {tool.X86: 0, tool.ARM: 8}
-# Whole slots have no words outside of blocks; a resize writes one word; a list that has its memory doesn't grow.
+# Whole slots have no words outside of blocks; a resize writes one word; a list that has its memory doesn't grow; a handle in a spine is
+# in one word.
 SHALLOW = {("norphuen_nonmoving", tool.X86, "nph_free"), ("norphuen_nonmoving", tool.X86, "nph_resize"), ("norphuen_nonmoving", tool.ARM, "nph_resize"),
            ("norphuen_nonmoving", tool.ARM, "nph_open"),
-           ("norphuen_tlsf", tool.X86, "nph_open"), ("norphuen_tlsf", tool.ARM, "nph_open"), ("norphuen_sliced", tool.X86, "nph_free")}
+           ("norphuen_tlsf", tool.X86, "nph_open"), ("norphuen_tlsf", tool.ARM, "nph_open"), ("norphuen_sliced", tool.X86, "nph_free"),
+           ("norphuen_large", tool.X86, "nph_free"), ("norphuen_large", tool.X86, "nph_malloc"), ("norphuen_large", tool.ARM, "nph_malloc")}
 
 
 class About(typing.NamedTuple):
@@ -74,11 +76,12 @@ LIBRARIES = {
                              "most_malloc most_free most_step most_access most_has_room most_length version malloc free step left moving length has_room "
                              "slot_words class_of figures totals place lend return"),
     "norphuen_tasks": About("tasks", "worst_case_tasks.c", (), (1, 4), "version malloc free length set_quota task unassigned"),
+    "norphuen_large": About("large", "worst_case_large.c", (), (1, 4), "most_malloc most_free most_access version length figures totals"),
 }
 # Libraries that have no notes and so no bounds, which docs/BOUNDS.md says.
 NO_NOTES = ["norphuen_images"]
 # The lengths that the notes may use (docs/BOUNDS.md).
-NAMES = "smtcwbfpnqPWQS"
+NAMES = "smtcwbfpnqlPWQS"
 failed = []
 
 
@@ -141,6 +144,19 @@ def class_count(slots, page_words):
     return count
 
 
+def parts_of(fields, part):
+    """Of a long object the number of parts, or for a read or a write of those that hold one of the bytes, and the most words in one
+    part that hold one. An object that fits a page, of `part` bytes at most, has no parts."""
+    long = fields["bytes"] > part
+    if "n" not in fields:
+        return -(-fields["bytes"] // part) * long, 0
+    if not fields["n"]:
+        return 0, 0
+    cuts = range(fields["at"] // part + 1, (fields["at"] + fields["n"] - 1) // part + 1) if long else ()
+    ends = [fields["at"], *(i * part for i in cuts), fields["at"] + fields["n"]]
+    return (len(ends) - 1) * long, max((end - 1) // 8 - begin // 8 + 1 for begin, end in zip(ends, ends[1:]))
+
+
 def lengths(about, kind, done, fields, steps):
     """The lengths of a call, by the names of the notes. A refused call returns before it works on any word."""
     at = dict.fromkeys(NAMES, 0)
@@ -157,7 +173,9 @@ def lengths(about, kind, done, fields, steps):
         at["s"], at["t"] = fields["s"], min(fields["s"], fields["n"])
         at["m"] = fields["s"] if fields["moved"] else 0
         at["c"] = max(0, (fields["old"] + 7) // 8 - fields["bytes"] // 8)
-    if kind in ("read", "write") and fields["n"]:
+    if about.short == "large" and kind in ("malloc", "free", "read", "write"):
+        at["l"], at["w"] = parts_of(fields, 8 * at["W"] - 8)
+    elif kind in ("read", "write") and fields["n"]:
         at["w"] = (fields["at"] + fields["n"] - 1) // 8 - fields["at"] // 8 + 1
         at["b"] = max(0, steps - 3 - at["w"])
     if kind == "totals":
@@ -443,6 +461,8 @@ STEPS = {
         "has_room": "1", "slot_words": "3", "totals": "0"}.items()},
     **{("tasks", call): steps for call, steps in {
         "malloc": "17", "free, alone": "20 + s", "free, move": "20 + s", "read": "2 + w", "write": "2 + w", "length": "2"}.items()},
+    **{("large", call): steps for call, steps in {
+        "malloc": "17 + 20l", "free": "20 + 23l + s", "read": "2 + w, 5l + w", "write": "2 + w, 5l + w", "length": "0", "totals": "0"}.items()},
 }
 
 
@@ -473,7 +493,7 @@ HEAD = """`checks/worst_case --write` writes this page, and `checks/worst_case` 
 
 - "Longest": the longest call seen on 16 pages of 16 KiB with k = 1 and 4,096 proxies, and the bound for its lengths if the bound varies.
 - "Stack": bytes, with return addresses.
-- `cf` is `libnorphuen.a`, `nm` is `libnorphuen_nonmoving.a`, `tlsf` is `libnorphuen_tlsf.a`, `sliced` is `libnorphuen_sliced.a`, `tasks` is `libnorphuen_tasks.a`.
+- `cf` is `libnorphuen.a`, `nm` is `libnorphuen_nonmoving.a`, `tlsf` is `libnorphuen_tlsf.a`, `sliced` is `libnorphuen_sliced.a`, `tasks` is `libnorphuen_tasks.a`, `large` is `libnorphuen_large.a`.
 - A free or resize moves no other object ("alone"), or one ("move"). A resize keeps its slot ("same"), or takes another.
 - In slices a free clears a slot ("clear"), or begins to move an object ("move"). A step is the last of its job, after which no job is pending or another one moves an object ("next"); other steps are shorter.
 
@@ -489,6 +509,7 @@ HEAD = """`checks/worst_case --write` writes this page, and `checks/worst_case` 
 | f | free blocks |
 | n | needs that the call is passed |
 | q | words of the quantum |
+| l | parts of a long object, or those that contain one of the bytes: s then counts all their words, and w in instructions those of one |
 | P, W, S | pages, words and size classes of a page |
 | Q, p | proxies, of each task if there are tasks, rounded up to a power of two |
 

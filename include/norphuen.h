@@ -13,11 +13,12 @@
  *   libnorphuen_sliced.a     Compact-fit, moving, with frees in slices of a set length: "Frees in slices" below
  *   libnorphuen_tasks.a      Compact-fit, moving, shared by sixteen tasks with quotas: "Heaps of tasks" below. Lends nothing
  *   libnorphuen_images.a     Compact-fit, moving, with objects under ids, saved and loaded as an image: "Images" below. Lends nothing
+ *   libnorphuen_large.a      Compact-fit, moving, with objects that may be longer than a page: "Long objects" below. Lends nothing
  *
  * Each has names and a type of heap of its own: nph_open and nph_heap, nph_nm_open and nph_nm_heap, nph_tlsf_open and
- * nph_tlsf_heap, nph_sliced_open and nph_sliced_heap, nph_tasks_open and nph_tasks_heap, nph_images_open and nph_images_heap, and
- * so on. The comments below speak of the short names, those of the moving library. With the macro
- * NPH_USE_NONMOVING or NPH_USE_TLSF, defined before the header is included, the short names mean that library instead.
+ * nph_tlsf_heap, nph_sliced_open and nph_sliced_heap, nph_tasks_open and nph_tasks_heap, nph_images_open and nph_images_heap,
+ * nph_large_open and nph_large_heap, and so on. The comments below speak of the short names, those of the moving library. With the
+ * macro NPH_USE_NONMOVING or NPH_USE_TLSF, defined before the header is included, the short names mean that library instead.
  *
  * The program defines the three functions rattle_alloc, rattle_realloc and rattle_dealloc, by which the library takes
  * and returns memory: examples/c/malloc.c does so over malloc, src/norphuen_arena.c over a static array.
@@ -67,6 +68,7 @@ typedef struct nph_tlsf_heap { void *at; uint32_t last; bool is_open; bool is_le
 typedef struct nph_sliced_heap { void *at; uint32_t last; bool is_open; bool is_lent; } nph_sliced_heap;
 typedef struct nph_tasks_heap { void *at; uint32_t last; bool is_open; } nph_tasks_heap;
 typedef struct nph_images_heap { void *at; bool is_open; } nph_images_heap;
+typedef struct nph_large_heap { void *at; uint32_t last; bool is_open; } nph_large_heap;
 
 /* A closed heap, to initialize or to assign. A static heap is closed without it; with it gcc -pedantic warns. */
 #ifdef __cplusplus
@@ -76,6 +78,7 @@ typedef struct nph_images_heap { void *at; bool is_open; } nph_images_heap;
 #define NPH_SLICED_HEAP nph_sliced_heap{}
 #define NPH_TASKS_HEAP nph_tasks_heap{}
 #define NPH_IMAGES_HEAP nph_images_heap{}
+#define NPH_LARGE_HEAP nph_large_heap{}
 #else
 #define NPH_HEAP (nph_heap){ NULL, 0, false, false }
 #define NPH_NM_HEAP (nph_nm_heap){ NULL, 0, false, false }
@@ -83,6 +86,7 @@ typedef struct nph_images_heap { void *at; bool is_open; } nph_images_heap;
 #define NPH_SLICED_HEAP (nph_sliced_heap){ NULL, 0, false, false }
 #define NPH_TASKS_HEAP (nph_tasks_heap){ NULL, 0, false }
 #define NPH_IMAGES_HEAP (nph_images_heap){ NULL, false }
+#define NPH_LARGE_HEAP (nph_large_heap){ NULL, 0, false }
 #endif
 
 /* What a call returns. A call that does not return NPH_OK writes nothing through its pointers; but see nph_images_load. */
@@ -646,6 +650,58 @@ NPH_CALL nph_status nph_images_save(nph_images_heap *heap, void *bytes, size_t c
 
 /* As nph_version. */
 uint32_t nph_images_version(void);
+
+/* Long objects: libnorphuen_large.a. An object that fits a page, of at most page_bytes - 8 bytes, is one object of a moving heap
+ * with k = 1. A longer one is cut into parts of that many bytes and a rest, each an object of that heap, and a spine, which has four
+ * bytes for each part and must fit a page: so with pages of 4,096 bytes the longest object has 4,177,936. Parts and spines count
+ * as objects wherever objects are counted. nph_large_malloc, nph_large_free, nph_large_write, nph_large_read and nph_large_totals
+ * count steps; the others leave the count as it was. */
+
+/* Opens a heap without objects, as nph_open with k = 1. */
+NPH_CALL nph_status nph_large_open(nph_large_heap *heap, uint32_t pages, uint32_t page_bytes, uint32_t proxies);
+
+/* As nph_bytes_needed, for nph_large_open. */
+NPH_CALL nph_status nph_large_bytes_needed(uint32_t pages, uint32_t page_bytes, uint32_t proxies, nph_needed *needed);
+
+/* As nph_close. */
+NPH_NONNULL void nph_large_close(nph_large_heap *heap);
+
+/* Makes an object, as nph_malloc. Fails with NPH_SIZE if its spine does not fit a page, with NPH_PROXY if it has more parts than
+ * proxies are left, or with NPH_SPACE if and only if all objects with this one need more pages than there are. */
+NPH_CALL nph_status nph_large_malloc(nph_large_heap *heap, uint32_t bytes, uint32_t *handle);
+
+/* Frees an object with all its parts. Fails with NPH_UNKNOWN. */
+NPH_CALL nph_status nph_large_free(nph_large_heap *heap, uint32_t handle);
+
+/* As nph_write, across parts. */
+NPH_CALL nph_status nph_large_write(nph_large_heap *heap, uint32_t handle, uint32_t at, const void *bytes, size_t count);
+
+/* As nph_read, across parts. */
+NPH_CALL nph_status nph_large_read(nph_large_heap *heap, uint32_t handle, uint32_t at, void *bytes, size_t count);
+
+/* As nph_length. */
+NPH_CALL nph_status nph_large_length(nph_large_heap *heap, uint32_t handle, uint32_t *bytes);
+
+/* As nph_figures. */
+NPH_CALL nph_status nph_large_figures(nph_large_heap *heap, uint32_t size_class, nph_class *figures);
+
+/* As nph_totals. */
+NPH_CALL nph_status nph_large_totals(nph_large_heap *heap, nph_heap_totals *totals);
+
+/* Writes the steps of the last call on the heap that counts them. */
+NPH_CALL nph_status nph_large_last_steps(nph_large_heap *heap, uint64_t *steps);
+
+/* Returns the most steps of nph_large_malloc of `bytes` bytes, in a heap with pages of `page_bytes` bytes. */
+uint64_t nph_large_most_malloc(uint32_t page_bytes, uint32_t bytes);
+
+/* Returns the most steps of nph_large_free of an object of `bytes` bytes. */
+uint64_t nph_large_most_free(uint32_t page_bytes, uint32_t bytes);
+
+/* Returns the most steps of nph_large_read or nph_large_write of `count` bytes from byte `at` on. */
+uint64_t nph_large_most_access(uint32_t page_bytes, uint32_t at, uint32_t count);
+
+/* As nph_version. */
+uint32_t nph_large_version(void);
 
 /* A block of memory at the address `at`. If out of memory, `ok` is false and `at` is any address but null. */
 typedef struct nph_block {

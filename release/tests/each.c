@@ -103,6 +103,36 @@ int main(void) {
     printf("%d.%d.%d\n", NPH_VERSION / 10000, NPH_VERSION / 100 % 100, NPH_VERSION % 100);
     return 0;
 }
+#elif defined EACH_LARGE
+int main(void) {
+    nph_large_heap heap = NPH_LARGE_HEAP;
+    nph_needed needed;
+    nph_class figures;
+    nph_heap_totals totals;
+    uint32_t object, other, number;
+    uint64_t steps;
+    char back[6] = "";
+    MUST(nph_large_version() == NPH_VERSION);
+    MUST(nph_large_malloc(&heap, 8, &object) == NPH_CLOSED);
+    MUST(nph_large_open(&heap, 4, 500, 8) == NPH_PAGE_BYTES && nph_large_open(&heap, 6, 512, 8) == NPH_OK);
+    MUST(nph_large_open(&heap, 6, 512, 8) == NPH_OPEN);
+    MUST(nph_large_bytes_needed(6, 512, 8, &needed) == NPH_OK && needed.total > 6 * 512 && needed.largest <= needed.total);
+    MUST(nph_large_malloc(&heap, 1200, &object) == NPH_OK && nph_large_last_steps(&heap, &steps) == NPH_OK);
+    MUST(steps > 0 && steps <= nph_large_most_malloc(512, 1200));
+    MUST(nph_large_malloc(&heap, 100000, &other) == NPH_SIZE && nph_large_malloc(&heap, 2000, &other) == NPH_PROXY);
+    MUST(nph_large_malloc(&heap, 400, &other) == NPH_OK && nph_large_malloc(&heap, 1000, &number) == NPH_SPACE);
+    MUST(nph_large_write(&heap, object, 501, "hello", 6) == NPH_OK && nph_large_read(&heap, object, 501, back, 6) == NPH_OK);
+    MUST(strcmp(back, "hello") == 0 && nph_large_last_steps(&heap, &steps) == NPH_OK && steps == nph_large_most_access(512, 501, 6));
+    MUST(nph_large_read(&heap, object, 1195, back, 6) == NPH_RANGE);
+    MUST(nph_large_length(&heap, object, &number) == NPH_OK && number == 1200);
+    MUST(nph_large_totals(&heap, &totals) == NPH_OK && totals.live == 5 && totals.used == 5);
+    MUST(nph_large_figures(&heap, 0, &figures) == NPH_OK && figures.slot_words == 4 && figures.live == 1);
+    MUST(nph_large_free(&heap, object) == NPH_OK && nph_large_free(&heap, object) == NPH_UNKNOWN && nph_large_most_free(512, 1200) > 64);
+    nph_large_close(&heap);
+    MUST(nph_large_last_steps(&heap, &steps) == NPH_CLOSED);
+    printf("%d.%d.%d\n", NPH_VERSION / 10000, NPH_VERSION / 100 % 100, NPH_VERSION % 100);
+    return 0;
+}
 #else
 int main(void) {
     static char all[200];

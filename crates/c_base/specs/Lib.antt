@@ -11,3 +11,5 @@ pub mod Lending
 pub mod Lent
 pub mod Needed
 pub mod Version
+pub mod PlainHeap
+pub mod Shown

@@ -6,18 +6,18 @@ use Rattle.cf_base.specs.Settings.{Profile}
 use Rattle.cf_base.specs.Needed.{both, one_block}
 use Rattle.cf_base.specs.declared.needed.BytesNeeded.{BytesNeeded}
 use Rattle.cf_base.specs.declared.settings.SettingFault.{SettingFault}
-use Rattle.c_base.specs.Needed.{shown_bytes}
+use Rattle.c_base.specs.Needed.{AreNeededBy, shown_bytes}
 use Rattle.c_base.specs.declared.answers.NphNeeded.{NphNeeded}
 use Rattle.quota_heap.specs.Needed.{quota_bytes}
 use Rattle.held_tasks.specs.Handles.{handles_bytes}
-use Rattle.held_tasks.specs.Needed.{AreNeeded, held_bytes}
+use Rattle.held_tasks.specs.Needed.{held_bytes}
 
 pub needed_is : (o : Option SettingFault) (p q : Profile) (heap handles block two all : BytesNeeded) (count : ℕ) (before : NphNeeded)
     → None ≡ o → p ≡ q → IsNextPowerOfTwo p.proxies count → heap ≡ quota_bytes p → handles ≡ handles_bytes count → block ≡ one_block 248
-    → two ≡ both handles block → all ≡ both heap two → AreNeeded o q (pos 0) before (shown_bytes all)
+    → two ≡ both handles block → all ≡ both heap two → AreNeededBy o q.proxies (held_bytes q) (pos 0) before (shown_bytes all)
 needed_is o p q heap handles block two all count before none same power is_heap is_handles is_block is_two is_all =
-    subst (λ (f : Option SettingFault). AreNeeded f q (pos 0) before (shown_bytes all)) none
-    (subst (λ (r : Profile). AreNeeded None r (pos 0) before (shown_bytes all)) same
+    subst (λ (f : Option SettingFault). AreNeededBy f q.proxies (held_bytes q) (pos 0) before (shown_bytes all)) none
+    (subst (λ (r : Profile). AreNeededBy None r.proxies (held_bytes r) (pos 0) before (shown_bytes all)) same
     (refl, count, power, ap shown_bytes whole))
   where
     whole : all ≡ held_bytes p count

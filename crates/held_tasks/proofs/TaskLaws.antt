@@ -25,9 +25,10 @@ use Rattle.quota_heap.specs.State.{KeepsTasks, QuotaState, held_by, quota_of}
 use Rattle.quota_heap.specs.Steps.{IsFreeStep, IsMallocStep, IsQuotaStep, IsReadAnswer, IsWriteStep}
 use Rattle.c_base.specs.Codes.{access_code, free_code}
 use Rattle.c_base.specs.Handles.{none, number_in, raised_by}
+use Rattle.c_base.specs.Shown.{found_code, found_number}
 use Rattle.c_base.specs.declared.answers.NphFreed.{NphFreed}
-use Rattle.held_tasks.specs.Calls.{IsAdmitCall, IsFreeCall, IsLengthCall, IsMallocCall, IsQuotaCall, IsReadCall, IsWriteCall, found_number, freed_shown, share_of}
-use Rattle.held_tasks.specs.Codes.{admission_code, found_code}
+use Rattle.held_tasks.specs.Calls.{IsAdmitCall, IsFreeCall, IsLengthCall, IsMallocCall, IsQuotaCall, IsReadCall, IsWriteCall, freed_shown, share_of}
+use Rattle.held_tasks.specs.Codes.{admission_code}
 use Rattle.held_tasks.specs.Handles.{handles_by, raised_of}
 use Rattle.held_tasks.specs.LeavesAlone.{LeavesAlone}
 use Rattle.held_tasks.specs.TasksState.{TasksState}

@@ -1,10 +1,9 @@
 -- For `HeldTasks`: what each call of a C library does to an open heap of tasks with its step count (`old`, `new`) and to the caller's number, structure or buffer
 -- (`before`, `after`), and the `code` that it returns. `answer` is the result of the heap's own call, whose steps, counted from 0, are `new.steps`.
-use Rattle.std.specs.Prelude.{◌≡◌, ℕ, ◌+◌, ◌<◌, ◌≤◌, ◌⊎◌, ℤ, pos, List, Option, Some, None, Result, Ok, Err, IsSome, length, sum}
+use Rattle.std.specs.Prelude.{◌≡◌, ℕ, ◌+◌, ◌<◌, ◌≤◌, ◌⊎◌, ℤ, pos, List, Result, Ok, Err, IsSome, length, sum}
 use Rattle.std.specs.FinMap.{len}
 use Rattle.cf_base.specs.Settings.{Profile}
 use Rattle.cf_base.specs.declared.answers.AccessFault.{AccessFault}
-use Rattle.cf_base.specs.declared.answers.Figures.{Figures}
 use Rattle.cf_base.specs.declared.answers.Freed.{Freed}
 use Rattle.cf_base.specs.declared.answers.Handle.{Handle}
 use Rattle.cf_base.specs.declared.answers.NotLive.{NotLive}
@@ -21,10 +20,11 @@ use Rattle.quota_heap.specs.State.{KeepsTasks, QuotaState, empty_state, objects_
 use Rattle.quota_heap.specs.Steps.{IsFreeStep, IsMallocStep, IsQuotaStep, IsReadAnswer, IsWriteStep, figures_by, length_by}
 use Rattle.step_ledger.specs.Counting.{RoseAtMost, RoseBy}
 use Rattle.c_base.specs.Codes.{access_code, free_code, malloc_code}
-use Rattle.c_base.specs.Handles.{handle_of, moved_handle, number_in}
+use Rattle.c_base.specs.Handles.{moved_handle, number_in}
+use Rattle.c_base.specs.Shown.{figures_shown, found_code, found_number, malloc_number}
 use Rattle.c_base.specs.declared.answers.NphClass.{NphClass}
 use Rattle.c_base.specs.declared.answers.NphFreed.{NphFreed}
-use Rattle.held_tasks.specs.Codes.{admission_code, figures_code, found_code, quota_code}
+use Rattle.held_tasks.specs.Codes.{admission_code, quota_code}
 use Rattle.held_tasks.specs.Handles.{AreFirstOfTasks, handles_by, raised_of}
 use Rattle.held_tasks.specs.TasksState.{TasksState}
 use Rattle.held_tasks.specs.declared.answers.NphTask.{NphTask}
@@ -49,11 +49,6 @@ pub record IsQuotaCall (old : TasksState) (task pages : ℕ) (code : ℤ) (new :
   pub rules : KeepsTasks new.heap
   pub count : new.steps ≡ old.steps
   pub same : new.handles ≡ old.handles
-
--- the caller's number after a malloc: the new handle, or after a refusal the number before the call
-abbrev pub malloc_number : List ℕ → ℕ → Result Handle Refusal → ℕ
-malloc_number handles before (Ok h) = handle_of handles h.0
-malloc_number handles before (Err e) = before
 
 -- a malloc of `bytes` bytes for a task
 pub record IsMallocCall (old : TasksState) (task bytes before : ℕ) (code : ℤ) (after : ℕ) (new : TasksState) : Type 0 where
@@ -100,11 +95,6 @@ pub record IsReadCall (old : TasksState) (task handle from : ℕ) (before : List
   pub kept : new.heap ≡ old.heap
   pub same : new.handles ≡ old.handles
 
--- the caller's number after a call for a length: this, or the number before the call if there is none
-abbrev pub found_number : Option ℕ → ℕ → ℕ
-found_number (Some n) before = n
-found_number None before = before
-
 -- a call for the length of the object of a task that `handle` names; the heap is unchanged
 pub record IsLengthCall (old : TasksState) (task handle before : ℕ) (code : ℤ) (after : ℕ) (new : TasksState) : Type 0 where
   pub by_code : code ≡ found_code (length_by old.heap task (number_in (handles_by old.handles task) handle))
@@ -123,14 +113,9 @@ pub record IsTaskCall (old : TasksState) (task : ℕ) (code : ℤ) (after : NphT
   pub by_task : after ≡ task_shown old.heap task
   pub kept : new ≡ old
 
--- the caller's structure after a call for the figures of a class; unchanged if there is no such class
-abbrev pub figures_shown : Option Figures → NphClass → NphClass
-figures_shown (Some f) before = record { slot_words = f.slot_words; slots = f.slots; live = f.live; pages = f.pages; not_full = f.not_full }
-figures_shown None before = before
-
 -- a call for the figures of a class of a task; it changes nothing
 pub record IsFiguresCall (old : TasksState) (task class : ℕ) (before : NphClass) (code : ℤ) (after : NphClass) (new : TasksState) : Type 0 where
-  pub by_code : code ≡ figures_code (figures_by old.heap task class)
+  pub by_code : code ≡ found_code (figures_by old.heap task class)
   pub by_figures : after ≡ figures_shown (figures_by old.heap task class) before
   pub kept : new ≡ old
 

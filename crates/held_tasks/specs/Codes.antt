@@ -1,6 +1,5 @@
 -- The codes that a call on a heap of tasks returns to C, beside those of `c_base`.
-use Rattle.std.specs.Prelude.{ℕ, ℤ, pos, Option, Some, None, Result, Ok, Err}
-use Rattle.cf_base.specs.declared.answers.Figures.{Figures}
+use Rattle.std.specs.Prelude.{ℤ, pos, Result, Ok, Err}
 use Rattle.quota_model.specs.declared.answers.Admission.{Admission}
 use Rattle.quota_model.specs.declared.answers.Admission.TheVariants.{Yes, No, Size, Proxies}
 use Rattle.quota_model.specs.declared.answers.QuotaFault.{QuotaFault}
@@ -18,13 +17,3 @@ admission_code Yes = pos 0
 admission_code (No nth) = pos 3
 admission_code (Size entry) = pos 1
 admission_code Proxies = pos 14
-
--- the code of a call for a length: 0, or 4 (`UNKNOWN`) if the handle is not live and there is none
-abbrev pub found_code : Option ℕ → ℤ
-found_code (Some n) = pos 0
-found_code None = pos 4
-
--- the code of a call for the figures of a class: 0, or 4 (`UNKNOWN`) if there is no such class
-abbrev pub figures_code : Option Figures → ℤ
-figures_code (Some f) = pos 0
-figures_code None = pos 4

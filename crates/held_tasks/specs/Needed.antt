@@ -1,12 +1,9 @@
 -- The memory that opening a heap of tasks asks for, as a caller in C gets it.
-use Rattle.std.specs.Prelude.{◌≡◌, ℕ, ℤ, pos, Option, Some, None}
-use Rattle.std.specs.Int.{IsNextPowerOfTwo}
+use Rattle.std.specs.Prelude.{ℕ, ℤ}
 use Rattle.cf_base.specs.Needed.{both, one_block}
 use Rattle.cf_base.specs.Settings.{Profile, profile_from, setting_fault}
-use Rattle.cf_base.specs.declared.settings.SettingFault.{SettingFault}
 use Rattle.cf_base.specs.declared.needed.BytesNeeded.{BytesNeeded}
-use Rattle.c_base.specs.Codes.{fault_code}
-use Rattle.c_base.specs.Needed.{shown_bytes}
+use Rattle.c_base.specs.Needed.{AreNeededBy}
 use Rattle.c_base.specs.declared.answers.NphNeeded.{NphNeeded}
 use Rattle.quota_heap.specs.Needed.{quota_bytes}
 use Rattle.held_tasks.specs.Handles.{handles_bytes}
@@ -15,14 +12,7 @@ use Rattle.held_tasks.specs.Handles.{handles_bytes}
 abbrev pub held_bytes : Profile → ℕ → BytesNeeded
 held_bytes p count = both (quota_bytes p) (both (handles_bytes count) (one_block 248))
 
--- A call for the memory of a heap. The first argument is the first setting out of range: its code is returned, and the caller's numbers stay. If it is `None`
--- the code is 0, and the numbers are those of the settings p.
-abbrev pub AreNeeded : Option SettingFault → Profile → ℤ → NphNeeded → NphNeeded → Type 0
-AreNeeded (Some e) p code before after = (code ≡ fault_code e) × (after ≡ before)
-AreNeeded None p code before after =
-    (code ≡ pos 0) × (count : ℕ) × IsNextPowerOfTwo p.proxies count × (after ≡ shown_bytes (held_bytes p count))
-
 -- a call for the memory of a heap with these settings: pages, bytes of a page, and proxies of each task
 abbrev pub IsNeededCall : ℕ → ℕ → ℕ → ℤ → NphNeeded → NphNeeded → Type 0
 IsNeededCall pages page_bytes proxies code before after =
-    AreNeeded (setting_fault pages page_bytes 1 proxies) (profile_from pages page_bytes 1 proxies) code before after
+    AreNeededBy (setting_fault pages page_bytes 1 proxies) proxies (held_bytes (profile_from pages page_bytes 1 proxies)) code before after

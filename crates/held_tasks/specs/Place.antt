@@ -1,7 +1,7 @@
 -- For `NphHeap` of `tasks.rt`, the struct that a caller in C has for its heap: the heap that it owns, and the struct when a borrow of that heap ends.
 use Rattle.std.specs.Prelude.{refl, true}
 use Rattle.std.specs.Borrow.{Fml, Lends, MutBor}
-use Rattle.held_tasks.specs.CallerTasks.{CallerTasks, heap_of}
+use Rattle.c_base.specs.PlainHeap.{PlainHeap, heap_of}
 use Rattle.held_tasks.specs.TasksState.{TasksState}
 use Rattle.held_tasks.specs.Tasks.{open_heap}
 use Rattle.held_tasks.specs.Loan.{with_heap}
@@ -9,7 +9,7 @@ use Rattle.held_tasks.specs.declared.tasks.NphHeap.{NphHeap}
 use Rattle.held_tasks.specs.contracts.tasks.NphHeap.{the_row}
 
 -- the heap of the struct: closed or open
-abbrev pub held_in : NphHeap → CallerTasks
+abbrev pub held_in : NphHeap → PlainHeap TasksState
 held_in n = heap_of n.place.held n.last
 
 -- s is the borrow of the struct, r that of its heap: when r ends, the struct is open, and has the heap as r leaves it. `Lends` of the standard library states

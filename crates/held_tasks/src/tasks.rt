@@ -112,7 +112,8 @@ pub struct NphHeap {
 impl NphHeap {
     ghost use Rattle.std.specs.Prelude.{IsTrue};
     ghost use Rattle.held_tasks.specs.Needed.{IsNeededCall};
-    ghost use Rattle.held_tasks.specs.CallerTasks.{IsOpenCall, Opened, closed_by, opened_now};
+    ghost use Rattle.c_base.specs.PlainHeap.{Opened, opened_now};
+    ghost use Rattle.held_tasks.specs.CallerTasks.{IsOpenCall, closed_by};
     ghost use Rattle.held_tasks.specs.Place.{LendsHeap, held_in};
 
     /// Returns whether the heap is open.

@@ -258,8 +258,8 @@ impl<H: Manager> LargeHeap<H> {
         self.lengths[h.0 as usize] = None;
     }
 
-    /// The length of an object in bytes; none if the handle isn't that of an object.
-    fn length_of(&self, h: Handle) -> Option<u32>
+    /// The length of an object in bytes; none if the handle isn't that of an object. It counts no step.
+    pub fn length_of(&self, h: Handle) -> Option<u32>
         requires { IsTrue self.now.is_open }
         ensures value { result ≡ option_map length (get self.now.objects h.0) }
         ensures kept { StaysKept self.now self.now }

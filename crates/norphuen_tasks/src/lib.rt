@@ -6,8 +6,9 @@
 #![tactic(auto)]
 
 ghost use Rattle.std.specs.Prelude.{◌≡◌};
+ghost use Rattle.c_base.specs.PlainHeap.{IsCallOnOpen};
 ghost use Rattle.c_base.specs.Version.{version};
-ghost use Rattle.held_tasks.specs.CallerTasks.{IsCallOnOpen, IsOpenCall, closed_by};
+ghost use Rattle.held_tasks.specs.CallerTasks.{IsOpenCall, closed_by};
 ghost use Rattle.held_tasks.specs.Calls.{IsAdmitCall, IsFiguresCall, IsFreeCall, IsLeastCall, IsLengthCall, IsMallocCall, IsOfTask, IsQuotaCall, IsReadCall, IsStepsCall, IsTaskCall, IsUnassignedCall, IsWriteCall};
 ghost use Rattle.held_tasks.specs.Needed.{IsNeededCall};
 ghost use Rattle.held_tasks.specs.Place.{held_in};

@@ -1,0 +1,7 @@
+pub mod Places
+pub mod Sent
+pub mod NeededCall
+pub mod Fresh
+pub mod Frees
+pub mod HeldLaws
+pub mod MostSteps

@@ -1,0 +1,15 @@
+-- For `Held`, an open heap of long objects with the step count of its last call and the handles that C has: its state, as contracts see it.
+use Rattle.std.specs.Prelude.{ℕ, List, refl}
+use Rattle.std.specs.Coded.{Coded, code_by, coded×, coded_list, coded_ℕ}
+use Rattle.large_objects.specs.Large.{LargeState, large_code}
+
+-- the state of the heap; the steps of the last call that counts them; and the handle of each number
+pub record HeldState : Type 0 where
+  pub heap : LargeState
+  pub steps : ℕ
+  pub handles : List ℕ
+
+-- the state as pairs, which the trait `Model` needs
+abbrev pub held_code : Coded HeldState
+held_code = code_by (LargeState × (ℕ × List ℕ)) (coded× large_code (coded× coded_ℕ (coded_list coded_ℕ))) (λ h. (h.heap, (h.steps, h.handles)))
+    (λ q. record { heap = q.0; steps = q.1.0; handles = q.1.1 }) (λ _. refl)

@@ -1,0 +1,18 @@
+-- For `NphHeap` of `large.rt`, the struct that a caller in C has for its heap: the heap that it owns, and the struct when a borrow of that heap ends.
+use Rattle.std.specs.Prelude.{refl, true}
+use Rattle.std.specs.Borrow.{Fml, Lends, MutBor}
+use Rattle.c_base.specs.PlainHeap.{PlainHeap, heap_of}
+use Rattle.held_large.specs.HeldState.{HeldState}
+use Rattle.held_large.specs.Large.{open_heap}
+use Rattle.held_large.specs.Loan.{with_heap}
+use Rattle.held_large.specs.declared.large.NphHeap.{NphHeap}
+use Rattle.held_large.specs.contracts.large.NphHeap.{the_row}
+
+-- the heap of the struct: closed or open
+abbrev pub held_in : NphHeap → PlainHeap HeldState
+held_in n = heap_of n.place.held n.last
+
+-- s is the borrow of the struct, r that of its heap: when r ends, the struct is open, and has the heap as r leaves it. `Lends` of the standard library states
+-- this: its last argument computes the struct from the state h in which r leaves the heap. `the_row` is the type of the struct.
+abbrev pub LendsHeap : MutBor NphHeap → MutBor HeldState → Fml
+LendsHeap s r = Lends the_row open_heap s r (λ h. record { place = with_heap s.now.place h; last = s.now.last; is_open = true; shown = refl })

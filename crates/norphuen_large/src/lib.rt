@@ -1,0 +1,193 @@
+//! The heap of long objects as a library for C. `include/norphuen.h` describes each export for C. An export calls the function of
+//! `held_large` that its comment names, and its contract is that function's. Each export but `nph_large_close` and those that
+//! take no heap returns a code: 0 (`DONE`) if the call is done, else the cause (`c_base`, file `codes`). While the heap is
+//! closed, each export but `nph_large_open` and `nph_large_close` returns `CLOSED` and changes nothing (`IsCallOnOpen`).
+#![tactic(auto)]
+
+ghost use Rattle.std.specs.Prelude.{◌≡◌};
+ghost use Rattle.c_base.specs.PlainHeap.{IsCallOnOpen};
+ghost use Rattle.c_base.specs.Version.{version};
+ghost use Rattle.held_large.specs.CallerHeap.{IsOpenCall, closed_by};
+ghost use Rattle.held_large.specs.Calls.{IsFiguresCall, IsFreeCall, IsLengthCall, IsMallocCall, IsReadCall, IsStepsCall, IsTotalsCall, IsWriteCall};
+ghost use Rattle.held_large.specs.Most.{IsMostAccess, IsMostFree, IsMostMalloc};
+ghost use Rattle.held_large.specs.Needed.{IsNeededCall};
+ghost use Rattle.held_large.specs.Place.{held_in};
+
+use c_base::{CLOSED, NphClass, NphHeapTotals, NphNeeded, VERSION};
+use held_large::large::NphHeap;
+use held_large::most;
+use std::rt::Memory;
+
+/// Opens the heap with these settings: `pages` pages of `page_bytes` bytes, and at most `proxies` objects, parts and spines
+/// (`NphHeap::open`). `memory`, here and in `nph_large_close`, is the kit's value for the memory of the process; a caller in C
+/// passes none.
+#[unsafe(no_mangle)]
+pub extern "C" fn nph_large_open(
+    heap: &mut NphHeap,
+    memory: Memory,
+    pages: u32,
+    page_bytes: u32,
+    proxies: u32,
+) -> i32
+    ensures { IsOpenCall (held_in heap.old) pages page_bytes proxies result (held_in heap.new) }
+{
+    heap.open(memory, pages, page_bytes, proxies)
+}
+
+/// Writes into `needed` what `nph_large_open` with these settings asks of the functions that take and return memory
+/// (`NphHeap::bytes_needed`).
+#[unsafe(no_mangle)]
+pub extern "C" fn nph_large_bytes_needed(
+    pages: u32,
+    page_bytes: u32,
+    proxies: u32,
+    needed: &mut NphNeeded,
+) -> i32
+    ensures { IsNeededCall pages page_bytes proxies result needed.old needed.new }
+{
+    NphHeap::bytes_needed(pages, page_bytes, proxies, needed)
+}
+
+/// Closes the heap and frees its memory; does nothing if it is closed (`NphHeap::close`).
+#[unsafe(no_mangle)]
+pub extern "C" fn nph_large_close(heap: &mut NphHeap, memory: Memory)
+    ensures { held_in heap.new ≡ closed_by (held_in heap.old) }
+{
+    heap.close(memory);
+}
+
+/// Makes an object of `bytes` zeros and writes its handle into `handle` (`Held::malloc`).
+#[unsafe(no_mangle)]
+pub extern "C" fn nph_large_malloc(heap: &mut NphHeap, bytes: u32, handle: &mut u32) -> i32
+    ensures { IsCallOnOpen (held_in heap.old) result (held_in heap.new) (handle.new ≡ handle.old)
+        (λ h h2. IsMallocCall h bytes handle.old result handle.new h2) }
+{
+    if heap.is_open() {
+        heap.held().malloc(bytes, handle)
+    } else {
+        CLOSED
+    }
+}
+
+/// Frees an object (`Held::free`).
+#[unsafe(no_mangle)]
+pub extern "C" fn nph_large_free(heap: &mut NphHeap, handle: u32) -> i32
+    ensures { IsCallOnOpen (held_in heap.old) result (held_in heap.new) (Unit {0}) (λ h h2. IsFreeCall h handle result h2) }
+{
+    if heap.is_open() {
+        heap.held().free(handle)
+    } else {
+        CLOSED
+    }
+}
+
+/// Writes `bytes` into an object, from its byte `at` on (`Held::write`).
+#[unsafe(no_mangle)]
+pub extern "C" fn nph_large_write(heap: &mut NphHeap, handle: u32, at: u32, bytes: &[u8]) -> i32
+    ensures { IsCallOnOpen (held_in heap.old) result (held_in heap.new) (Unit {0})
+        (λ h h2. IsWriteCall h handle at bytes.now result h2) }
+{
+    if heap.is_open() {
+        heap.held().write(handle, at, bytes)
+    } else {
+        CLOSED
+    }
+}
+
+/// Fills `out` with bytes of an object, from its byte `at` on (`Held::read`).
+#[unsafe(no_mangle)]
+pub extern "C" fn nph_large_read(heap: &mut NphHeap, handle: u32, at: u32, out: &mut [u8]) -> i32
+    ensures { IsCallOnOpen (held_in heap.old) result (held_in heap.new) (out.new ≡ out.old)
+        (λ h h2. IsReadCall h handle at out.old result out.new h2) }
+{
+    if heap.is_open() {
+        heap.held().read(handle, at, out)
+    } else {
+        CLOSED
+    }
+}
+
+/// Writes the length in bytes of an object into `bytes` (`Held::length`).
+#[unsafe(no_mangle)]
+pub extern "C" fn nph_large_length(heap: &mut NphHeap, handle: u32, bytes: &mut u32) -> i32
+    ensures { IsCallOnOpen (held_in heap.old) result (held_in heap.new) (bytes.new ≡ bytes.old)
+        (λ h h2. IsLengthCall h handle bytes.old result bytes.new h2) }
+{
+    if heap.is_open() {
+        heap.held().length(handle, bytes)
+    } else {
+        CLOSED
+    }
+}
+
+/// Writes the figures of a size class, numbered from 0, into `figures` (`Held::figures`).
+#[unsafe(no_mangle)]
+pub extern "C" fn nph_large_figures(heap: &mut NphHeap, class: u32, figures: &mut NphClass) -> i32
+    ensures { IsCallOnOpen (held_in heap.old) result (held_in heap.new) (figures.new ≡ figures.old)
+        (λ h h2. IsFiguresCall h class figures.old result figures.new h2) }
+{
+    if heap.is_open() {
+        heap.held().figures(class, figures)
+    } else {
+        CLOSED
+    }
+}
+
+/// Writes the figures of the whole heap into `totals` (`Held::totals`).
+#[unsafe(no_mangle)]
+pub extern "C" fn nph_large_totals(heap: &mut NphHeap, totals: &mut NphHeapTotals) -> i32
+    ensures { IsCallOnOpen (held_in heap.old) result (held_in heap.new) (totals.new ≡ totals.old)
+        (λ h h2. IsTotalsCall h result totals.new h2) }
+{
+    if heap.is_open() {
+        heap.held().totals(totals)
+    } else {
+        CLOSED
+    }
+}
+
+/// Writes the steps of the last call that counts them into `steps` (`Held::last_steps`).
+#[unsafe(no_mangle)]
+pub extern "C" fn nph_large_last_steps(heap: &mut NphHeap, steps: &mut u64) -> i32
+    ensures { IsCallOnOpen (held_in heap.old) result (held_in heap.new) (steps.new ≡ steps.old)
+        (λ h h2. IsStepsCall h result steps.new h2) }
+{
+    if heap.is_open() {
+        heap.held().last_steps(steps)
+    } else {
+        CLOSED
+    }
+}
+
+/// Returns the most steps of a malloc of `bytes` bytes in a heap with pages of `page_bytes` bytes (`most_malloc`). It and the two
+/// calls below take no heap.
+#[unsafe(no_mangle)]
+pub extern "C" fn nph_large_most_malloc(page_bytes: u32, bytes: u32) -> u64
+    ensures { IsMostMalloc page_bytes bytes result }
+{
+    most::most_malloc(page_bytes, bytes)
+}
+
+/// Returns the most steps of a free of an object of `bytes` bytes (`most_free`).
+#[unsafe(no_mangle)]
+pub extern "C" fn nph_large_most_free(page_bytes: u32, bytes: u32) -> u64
+    ensures { IsMostFree page_bytes bytes result }
+{
+    most::most_free(page_bytes, bytes)
+}
+
+/// Returns the most steps of a read or a write of `count` bytes from byte `at` on (`most_access`).
+#[unsafe(no_mangle)]
+pub extern "C" fn nph_large_most_access(page_bytes: u32, at: u32, count: u32) -> u64
+    ensures { IsMostAccess page_bytes at count result }
+{
+    most::most_access(page_bytes, at, count)
+}
+
+/// Returns the version of this library (`VERSION`).
+#[unsafe(no_mangle)]
+pub extern "C" fn nph_large_version() -> u32
+    ensures { result ≡ version }
+{
+    VERSION
+}
