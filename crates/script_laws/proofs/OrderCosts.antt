@@ -10,7 +10,7 @@ use Rattle.cf_base.specs.declared.answers.Resized.{Resized}
 use Rattle.page_model.specs.Arrangement.{class_at, objects_on}
 use Rattle.page_model.specs.Held.{Placed}
 use Rattle.page_model.specs.Image.{slot_for}
-use Rattle.page_model.specs.Order.{Order, word_steps}
+use Rattle.page_model.specs.Order.{Order, steps_to_take, word_steps}
 use Rattle.page_model.specs.Paging.{class_for, page_of, slots_of}
 use Rattle.page_model.specs.Steps.{Request}
 use Rattle.page_model.specs.WordSteps.{copy_steps, run_steps, slot_steps, wipe_steps}
