@@ -99,7 +99,7 @@ impl<H: Manager> LargeHeap<H> {
     /// Opens an empty heap with the settings `s`, whose bound is 1; an open heap loses its objects.
     /// Allocates all memory: that of the inner manager, and a table with a length for each proxy. After
     /// `OutOfMemory` the heap is closed, and the inner manager is unchanged or closed; the heap may be
-    /// opened again.
+    /// opened again. A manager that promised an order promises one afterwards.
     pub fn open_heap(&mut self, s: &Settings) -> Result<(), OutOfMemory>
         requires pages { IsPaged self.old.inner.kind }
         requires one { s.now.k ≡ 1 }
