@@ -10,10 +10,10 @@ ghost use Rattle.sizing.specs.Checks.{with_pages};
 ghost use Rattle.sizing.specs.Demands.{Affords, ArePrices, KeepsBudget};
 ghost use Rattle.sizing.specs.Runs.{CanBeRefused, ServesMallocs, ServesResizes};
 
-/// Whatever the bounds, no malloc is refused for space if each class `i` has a level `t` (`AreBudgetLevels`): the
-/// objects of a full page cost at least `t`, whatever its class; and the budget, with `t - price c` for each page of
-/// another class `c` that can be partly full, is less than `t` for each page and `price i` for the new object
-/// (`mallocs`). With one page more no resize is refused either (`resizes`).
+/// Each class `i` has a level `t` (`AreBudgetLevels`). The objects of a full page cost at least `t`, whatever its
+/// class. The budget, with `t - price c` for each page of another class `c` that can be partly full, is less than
+/// `t` for each page and `price i` for the new object. Then, whatever the bounds, no malloc is refused for space
+/// (`mallocs`). With one page more no resize is either (`resizes`).
 pub fn pages_for_a_budget_serve()
     ensures mallocs { (p : Paging) (cost price levels : ℕ → ℕ) (budget : ℕ) → IsPaging p → ArePrices p cost price
         → AreBudgetLevels p price budget levels → ServesMallocs p (KeepsBudget cost budget) }
