@@ -225,7 +225,8 @@ static void long_calls(void) {
     for (uint32_t n = live; n >= 2; n -= 2) release(n - 2);
     ask(0), make(most), make(8);
     while (live) release(live - 1);
-    make(1), make(1), make(1), release(0), release(0), release(0);
+    for (uint32_t n = 0; n < 3; n++) make(1);
+    while (live) release(0);
     /* With blocks: a full region, of which each second block is then free. */
     while (live < LIVE && make(48) == NPH_OK) ;
     for (uint32_t n = live; n >= 2; n -= 2) release(n - 2);
