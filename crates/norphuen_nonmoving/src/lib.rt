@@ -245,7 +245,7 @@ pub extern "C" fn nph_nm_next(heap: &mut NphHeap, handle: u32, next: &mut u32) -
     if heap.is_open() {
         heap.held().next(handle, next)
     } else {
-        heap.refusal()
+        CLOSED
     }
 }
 
@@ -258,7 +258,7 @@ pub extern "C" fn nph_nm_counts(heap: &mut NphHeap, counts: &mut NphCounted) -> 
     if heap.is_open() {
         heap.held().counts(counts)
     } else {
-        heap.refusal()
+        CLOSED
     }
 }
 
@@ -272,7 +272,7 @@ pub extern "C" fn nph_nm_set_bound(heap: &mut NphHeap, slot_words: u32, k: u32) 
     if heap.is_open() {
         heap.held().set_bound(slot_words, k)
     } else {
-        heap.refusal()
+        CLOSED
     }
 }
 
