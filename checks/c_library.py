@@ -14,15 +14,15 @@ SLICED, TASKS, IMAGES, LARGE = 'norphuen_sliced', 'norphuen_tasks', 'norphuen_im
 # Libraries with calls of their own, without short names: those of slices and tasks have a file of the bindings.
 OWN = (SLICED, TASKS, IMAGES, LARGE)
 NUMBERS = {'u8': 'uint8_t', 'u32': 'uint32_t', 'u64': 'uint64_t', 'i32': 'nph_status', 'usize': 'size_t', 'bool': 'bool', '': 'void'}
-RUST = {'NphHeap': 'RawHeap', 'NphNeeded': 'Needed', 'NphNeed': 'Need', 'NphFreed': 'RawFreed', 'NphResized': 'RawResized', 'NphClass': 'Class', 'NphHeapTotals': 'HeapTotals', 'NphTask': 'Task'}
+RUST = {'NphHeap': 'RawHeap', 'NphNeeded': 'Needed', 'NphNeed': 'Need', 'NphFreed': 'RawFreed', 'NphResized': 'RawResized', 'NphClass': 'Class', 'NphHeapTotals': 'HeapTotals', 'NphCounted': 'Counted', 'NphTask': 'Task'}
 ADA = {'u8': 'Unsigned_8', 'u32': 'Unsigned_32', 'u64': 'Unsigned_64', 'bool': 'Unsigned_8', '*mut u64': 'System.Address',
-       '[u8]': 'Bytes', '[NphNeed]': 'Needs', 'NphHeap': 'Heap', 'NphNeeded': 'Needed', 'NphNeed': 'Need', 'NphFreed': 'Freed', 'NphResized': 'Resized', 'NphClass': 'Class', 'NphHeapTotals': 'Heap_Totals', 'NphTask': 'Task_Figures'}
+       '[u8]': 'Bytes', '[NphNeed]': 'Needs', 'NphHeap': 'Heap', 'NphNeeded': 'Needed', 'NphNeed': 'Need', 'NphFreed': 'Freed', 'NphResized': 'Resized', 'NphClass': 'Class', 'NphHeapTotals': 'Heap_Totals', 'NphCounted': 'Counted', 'NphTask': 'Task_Figures'}
 # The names of each library begin with this; its heap is named so too.
 PREFIXES = {'norphuen': 'nph_', 'norphuen_nonmoving': 'nph_nm_', 'norphuen_tlsf': 'nph_tlsf_', SLICED: 'nph_sliced_', TASKS: 'nph_tasks_', IMAGES: 'nph_images_', LARGE: 'nph_large_'}
 # The exports that a library may lack, if an object's words are not side by side there.
 LOAN = {'place', 'lend', 'return'}
 # The exports of a library with pages.
-PAGED = {'slot_words', 'class_of', 'pages_needed'}
+PAGED = {'slot_words', 'class_of', 'pages_needed', 'set_bound'}
 # Structs of other crates: the file that has them, their name there.
 ELSEWHERE = {'NphNeed': (Path('crates/quota_model/src/answers.rt'), 'Need')}
 # Parameters with another name in C: `class` is a word of C++.

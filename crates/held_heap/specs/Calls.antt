@@ -203,7 +203,7 @@ pub record IsTotalsCall (most : Option Bounds) (old : HeldState) (code : ℤ) (a
   pub bound : ByOwn most (λ b. RoseAtMost 0 new.steps (b.totals (totals_in old.heap.kind old.heap)))
   pub exact : ByOwn most (λ b. RoseBy 0 new.steps (b.totals_exact old.heap))
 
--- a call of `last_steps`: it returns the steps of the last other call, but for `figures`, and changes nothing
+-- a call of `last_steps`: it returns the steps of the last call that counts them, and changes nothing
 pub record IsStepsCall (old : HeldState) (code : ℤ) (after : ℕ) (new : HeldState) : Type 0 where
   pub by_code : code ≡ pos 0
   pub by_steps : after ≡ old.steps

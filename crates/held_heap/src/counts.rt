@@ -65,11 +65,13 @@ pub(crate) fn count_refusal(counts: &mut NphCounted, cause: Refusal)
 pub(crate) fn count_resize_fault(counts: &mut NphCounted, cause: ResizeFault)
     ensures { (s : HeapState) → counts.new ≡ resize_counts counts.old (Err cause) s }
 {
-    match cause {
-        ResizeFault::Unknown => count(&mut counts.unknown),
-        ResizeFault::Kind => {}
-        ResizeFault::Size => count(&mut counts.size),
-        ResizeFault::Space => count(&mut counts.space),
+    // Not a match of four cases, of which LLVM makes a jump through a table.
+    if cause == ResizeFault::Unknown {
+        count(&mut counts.unknown);
+    } else if cause == ResizeFault::Size {
+        count(&mut counts.size);
+    } else if cause == ResizeFault::Space {
+        count(&mut counts.space);
     }
 }
 

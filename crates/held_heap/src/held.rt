@@ -18,10 +18,9 @@ use std::rt::Memory;
 use step_ledger::Meter;
 
 /// An open heap, the steps of its last call, the handle of each number: what C has for an object; and what it counts from the
-/// opening on (`counts`). A call on a handle that
-/// its number does not have now is a call on `NONE`, which is never live. Lending, returning, `figures` and `last_steps` count none,
-/// and leave this number unchanged. Each other call makes a ledger of its own from `memory`, so that the compiler keeps the
-/// count in a register.
+/// opening on. A call on a handle that its number does not have now is a call on `NONE`, which is never live. Lending,
+/// returning, `figures`, `counts`, `set_bound` and `last_steps` count no steps, and leave the number unchanged. Each other call
+/// makes a ledger of its own from `memory`, so that the compiler keeps the count in a register.
 #[derive(Drop)]
 pub struct Held<H: OfKind> {
     pub(crate) heap: H,
@@ -269,8 +268,7 @@ impl<H: OfKind> Held<H> {
         DONE
     }
 
-    /// Writes the steps of the last call into `steps`; 0 if there was none. `figures` and this call count
-    /// none, and leave that number unchanged. Always returns `DONE`.
+    /// Writes the steps of the last call that counts them into `steps`; 0 if there was none. Always returns `DONE`.
     pub fn last_steps(&mut self, steps: &mut u64) -> i32
         ensures { IsStepsCall self.old result steps.new self.new }
     {

@@ -277,8 +277,7 @@ pub extern "C" fn nph_set_bound(heap: &mut NphHeap, slot_words: u32, k: u32) -> 
     }
 }
 
-/// Writes the steps of the last call into `steps` (`Held::last_steps`). `nph_figures`, `nph_lend`, `nph_return` and
-/// this call count none, and leave that number unchanged.
+/// Writes the steps of the last call that counts them into `steps` (`Held::last_steps`).
 #[unsafe(no_mangle)]
 pub extern "C" fn nph_last_steps(heap: &mut NphHeap, steps: &mut u64) -> i32
     ensures { IsCallOnOpen (held_in heap.old) result (held_in heap.new) (steps.new ≡ steps.old)

@@ -246,7 +246,7 @@ pub extern "C" fn nph_nm_next(heap: &mut NphHeap, handle: u32, next: &mut u32) -
     if heap.is_open() {
         heap.held().next(handle, next)
     } else {
-        heap.refusal()
+        CLOSED
     }
 }
 
@@ -259,7 +259,7 @@ pub extern "C" fn nph_nm_counts(heap: &mut NphHeap, counts: &mut NphCounted) -> 
     if heap.is_open() {
         heap.held().counts(counts)
     } else {
-        heap.refusal()
+        CLOSED
     }
 }
 
@@ -273,12 +273,11 @@ pub extern "C" fn nph_nm_set_bound(heap: &mut NphHeap, slot_words: u32, k: u32) 
     if heap.is_open() {
         heap.held().set_bound(slot_words, k)
     } else {
-        heap.refusal()
+        CLOSED
     }
 }
 
-/// Writes the steps of the last call into `steps` (`Held::last_steps`). `nph_nm_figures` and this call count
-/// none, and leave that number unchanged.
+/// Writes the steps of the last call that counts them into `steps` (`Held::last_steps`).
 #[unsafe(no_mangle)]
 pub extern "C" fn nph_nm_last_steps(heap: &mut NphHeap, steps: &mut u64) -> i32
     ensures { IsCallOnOpen (held_in heap.old) result (held_in heap.new) (steps.new ≡ steps.old)

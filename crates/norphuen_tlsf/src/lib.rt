@@ -216,8 +216,7 @@ pub extern "C" fn nph_tlsf_counts(heap: &mut NphHeap, counts: &mut NphCounted) -
     }
 }
 
-/// Writes the steps of the last call into `steps` (`Held::last_steps`). `nph_tlsf_figures`, `nph_tlsf_lend`, `nph_tlsf_return` and
-/// this call count none, and leave that number unchanged.
+/// Writes the steps of the last call that counts them into `steps` (`Held::last_steps`).
 #[unsafe(no_mangle)]
 pub extern "C" fn nph_tlsf_last_steps(heap: &mut NphHeap, steps: &mut u64) -> i32
     ensures { IsCallOnOpen (held_in heap.old) result (held_in heap.new) (steps.new ≡ steps.old)
