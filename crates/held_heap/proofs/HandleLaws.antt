@@ -1,5 +1,5 @@
 -- For `laws`: each call keeps the rules of the handles (`KeepsHandles`); a malloc's handle is new; a handle that names no object is refused.
-use Rattle.std.proofs.Common.{◌≡◌, ℕ, ℤ, pos, ◌-◌, ◌<◌, ◌≤◌, List, length, Option, Some, None, refl, sym, ◌∙◌, ap, subst, arith}
+use Rattle.std.proofs.Common.{◌≡◌, ℕ, ℤ, pos, ◌<◌, ◌≤◌, List, length, Option, Some, None, refl, sym, ◌∙◌, ap, subst, arith}
 use Rattle.std.specs.Prelude.{Result, Ok, Err, option_map}
 use Rattle.std.specs.FinMap.{get}
 use Rattle.cf_base.specs.Settings.{Profile}
@@ -29,8 +29,7 @@ use Rattle.c_base.specs.Handles.{none, number_in, raised_by}
 use Rattle.held_heap.specs.HeldState.{HeldState}
 use Rattle.c_base.specs.declared.answers.NphFreed.{NphFreed}
 use Rattle.c_base.specs.declared.answers.NphResized.{NphResized}
-use Rattle.c_base.proofs.Generations.{handle_small, names_itself}
-use Rattle.c_base.proofs.HandleLaws.{first_are_handles, length-raised_by, raised_by_handles}
+use Rattle.c_base.proofs.CallerLemmas.{first_are_handles, handle_small, length-raised_by, names_itself, raised_by_handles}
 
 -- ---- the settings stay
 

@@ -16,8 +16,7 @@ use Rattle.sliced_heap.proofs.CallerLemmas.{lent_held, lent_valid}
 use Rattle.held_sliced.specs.HeldState.{HeldState}
 use Rattle.c_base.specs.Lending.{IsOf}
 use Rattle.c_base.specs.Lent.{opened}
-use Rattle.c_base.proofs.Loans.{replaced}
-use Rattle.c_base.proofs.WholeWords.{again}
+use Rattle.c_base.proofs.CallerLemmas.{again, replaced}
 use Rattle.held_sliced.specs.Loose.{held_all, inner_all, lending, region_all}
 use Rattle.held_sliced.specs.declared.loose.LooseHeld.{LooseHeld}
 use Rattle.held_sliced.specs.contracts.loose.LooseHeld.{the_row as loose_heap}
