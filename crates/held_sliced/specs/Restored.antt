@@ -1,5 +1,5 @@
 -- For `Lendable` of `Held`: a heap with its own words in their place is the same.
-use Rattle.std.specs.Prelude.{◌≡◌, List, Option, Some, None, refl}
+use Rattle.std.specs.Prelude.{◌≡◌, Option, Some, None, refl}
 use mathlib.Core.Path.{ap}
 use Rattle.sliced_heap.specs.declared.open_heap.OpenHeap.{OpenHeap}
 use Rattle.c_base.specs.Lending.{AreWords}

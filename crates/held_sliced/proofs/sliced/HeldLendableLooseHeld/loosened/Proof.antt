@@ -1,7 +1,7 @@
 -- By hand, the contract of `Lendable::loosened` for `Held`: the address stays, and who owns a `Held` there owns its fields.
 -- The proof steps through the compiled body; a comment in brackets lists what is owned at that point, in order.
 -- The tokens are those of the call's lifetimes; here there are none.
-use Rattle.std.proofs.Common.{◌≡◌, List, [], ◌∷◌, ◌++◌, refl, sym, subst, Some, IsSome}
+use Rattle.std.proofs.Common.{List, [], ◌∷◌, ◌++◌, refl, sym, subst, Some, IsSome}
 use Rattle.std.proofs.raw_atomic.Walks.{proved_at, leaves}
 use base.Logic.{SProp, emp}
 use base.Fml.{ftrue}

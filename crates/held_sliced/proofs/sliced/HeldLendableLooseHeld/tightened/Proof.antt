@@ -1,7 +1,7 @@
 -- By hand, the contract of `Lendable::tightened` for `Held`: the address stays, and who owns the fields of a `Held` there owns the `Held`.
 -- The proof steps through the compiled body; a comment in brackets lists what is owned at that point, in order.
 -- The tokens are those of the call's lifetimes; here there are none.
-use Rattle.std.proofs.Common.{◌≡◌, List, [], ◌∷◌, ◌++◌, refl, sym, subst, Some}
+use Rattle.std.proofs.Common.{List, [], ◌∷◌, ◌++◌, refl, sym, subst, Some}
 use Rattle.std.proofs.raw_atomic.Walks.{proved_at, leaves}
 use base.Logic.{SProp, emp}
 use base.Fml.{ftrue}
