@@ -100,13 +100,16 @@ def structs(crate):
     folder, module = (re.search(r'use (held_\w+)::(\w+)::(?:NphHeap|\{[^}]*\bNphHeap\b)', text) or fail(f'{crate}: no NphHeap')).groups()
     found = {}
     aliases = {(file, there): here for here, (file, there) in ELSEWHERE.items()}
-    for file in [*sorted(BASE.glob('*.rt')), *sorted(Path('crates', folder, 'src').glob('*.rt')), *{file for file, _ in aliases}]:
-        if 'pub struct NphHeap {' in file.read_text() and file.stem != module:
+    files = [*sorted(BASE.glob('*.rt')), *sorted(Path('crates', folder, 'src').glob('*.rt')), *{file for file, _ in aliases}]
+    heaps = [file.stem for file in files if re.search(r'pub struct NphHeap\b', file.read_text())]
+    for file in files:
+        if file.stem in heaps and file.stem != (module if module in heaps else 'heap'):
             continue
-        for name, inside in re.findall(r'#\[repr\(C\)\]\n(?:#\[[^\n]*\]\n)*pub struct (\w+) \{\n(.*?)\n\}', file.read_text(), re.S):
+        for name, inside in re.findall(r'#\[repr\(C\)\]\n(?:#\[[^\n]*\]\n)*pub struct (\w+)(?:<[^{]*>)? \{\n(.*?)\n\}', file.read_text(), re.S):
             name = aliases.get((file, name), name)
-            fields = re.findall(r'^ +(?:pub(?:\(crate\))? )?(\w+): ([^,{]+),$', inside, re.M)
-            lines = [line for line in inside.split('\n') if line.strip() and 'ghost ' not in line and '//' not in line]
+            # A `Loan` has no bytes, and the type parameters of a field don't change its size.
+            lines = [line for line in inside.split('\n') if line.strip() and 'ghost ' not in line and '//' not in line and ': Loan<' not in line]
+            fields = re.findall(r'^ +(?:pub(?:\(crate\))? )?(\w+): ([^,{<]+)(?:<[^>]*>)?,$', '\n'.join(lines), re.M)
             if len(fields) != len(lines):
                 fail(f'{file}: cannot read the struct {name}')
             if found.setdefault(name, fields) != fields:
@@ -154,7 +157,7 @@ def header(crate):
     print('#include "norphuen.h"\n#include <stdbool.h>\n#define SAME(test, text) _Static_assert(test, text)')
     print('SAME(sizeof(nph_status) == sizeof(int32_t), "size of a status");')
     exported = exports(crate)
-    order = ['Sealed', 'HeapBlock'] + sorted(named(exported))
+    order = ['HeapBlock'] + sorted(named(exported))
     for name in order:
         print(f'struct twin_{name} {{\n' + '\n'.join(twin_field(*field) for field in all_structs.get(name) or fail(f'no struct {name}')) + '\n};')
     for name in sorted(named(exported)):

@@ -7,3 +7,4 @@ pub mod Again
 pub mod Crosses
 pub mod Generations
 pub mod HandleLaws
+pub mod CallerLemmas

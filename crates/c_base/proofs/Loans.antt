@@ -2,7 +2,7 @@
 use Rattle.std.proofs.Common.{◌≡◌, ℕ, List, [], ◌∷◌, ◌++◌, refl, subst, length, Option, Some, None, IsSome, sym}
 use seplogic.Ra.Ura.{Ura}
 use base.Fraction.{full_share}
-use base.Fml.{Fml, feq, fsep, fobs, fres}
+use base.Fml.{feq, fsep, fobs, fres}
 use base.Stored.{coded_list}
 use mathlib.Core.Bool.{true≢false}
 use mir.Val.{Val, vstruct, of_list}

@@ -1,5 +1,5 @@
 -- What a caller in C has for a heap: a closed heap, an open one, or an open one that is lent. T is the state of a heap.
-use Rattle.std.specs.Prelude.{◌≡◌, ℕ, ℤ, pos, Bool, true, false, Option, Some, None, Result, Ok, Err}
+use Rattle.std.specs.Prelude.{ℕ, ℤ, pos, Bool, true, false, Option, Some, None, Result, Ok, Err}
 use denote.RawPtr.{Ptr}
 
 -- The heap of a caller in C: closed, with the largest handle of the heaps before; or open in this state. While it is lent, the words of its region are the caller's, and the pointer is their address.

@@ -10,7 +10,6 @@ mod heap;
 pub mod laws;
 mod loan;
 mod needed;
-mod place;
 mod unboxed;
 
 pub use answers::{NphClass, NphCounted, NphFreed, NphHeapTotals, NphNeeded, NphResized};
@@ -24,5 +23,4 @@ pub use handles::Handles;
 pub use heap::NphHeap;
 pub use loan::{Lendable, Loan};
 pub use needed::needed_with;
-pub use place::Sealed;
 pub use unboxed::Unboxed;

@@ -30,9 +30,8 @@ use Rattle.c_base.specs.Handles.{none, number_in, raised_by}
 use Rattle.held_heap.specs.HeldState.{HeldState}
 use Rattle.c_base.specs.declared.answers.NphFreed.{NphFreed}
 use Rattle.c_base.specs.declared.answers.NphResized.{NphResized}
-use Rattle.c_base.proofs.Generations.{handle_small, names_itself}
+use Rattle.c_base.proofs.CallerLemmas.{first_are_handles, handle_small, length-raised_by, names_itself, raised_by_handles}
 use Rattle.held_heap.proofs.SettingsStay.{bound_settings, free_settings, malloc_settings, resize_settings, settings, write_settings}
-use Rattle.c_base.proofs.HandleLaws.{first_are_handles, length-raised_by, raised_by_handles}
 
 -- ---- each call keeps the rules of the handles
 

@@ -1,6 +1,6 @@
 -- What a caller in C may do with the words of a region that a `Loan` owns. It owns them (`words_lie`), so it may read them, and write bytes of live objects: then it owns the words of the heap's state after that
 -- write, and by the law `bytes_are_written` what makes the heap whole again is that of this state. So it owns the `Loan` with this state, and may pass it to the next call. No function cites the law.
-use Rattle.std.proofs.Common.{◌≡◌, ℕ, ◌+◌, ◌/◌, ◌%◌, ◌≤◌, List, [], ◌∷◌, length, refl, sym, ap, ◌∙◌, subst, Option, Some, None, arith}
+use Rattle.std.proofs.Common.{◌≡◌, ℕ, ◌+◌, ◌/◌, ◌%◌, ◌≤◌, List, length, refl, sym, ap, ◌∙◌, subst, Option, Some, None, arith}
 use Rattle.std.proofs.lemmas.Bool.{false≢true}
 use Rattle.std.specs.Prelude.{IsTrue, is_some}
 use Rattle.std.specs.FinMap.{get, insert}
@@ -20,8 +20,7 @@ use Rattle.paged_heap.proofs.CallerLemmas.{has_place, no_place, lies, wrote, wro
 use Rattle.held_heap.specs.HeldState.{HeldState, IsOpenOfKind}
 use Rattle.c_base.specs.Lending.{IsOf}
 use Rattle.c_base.specs.Lent.{opened}
-use Rattle.c_base.proofs.Loans.{replaced}
-use Rattle.c_base.proofs.WholeWords.{again, as_many, long}
+use Rattle.c_base.proofs.CallerLemmas.{again, as_many, long, replaced}
 use Rattle.held_heap.specs.Loose.{held_all, inner_all, lending, region_all}
 use Rattle.held_heap.specs.declared.loose.LooseHeld.{LooseHeld}
 use Rattle.held_heap.specs.contracts.loose.LooseHeld.{the_row as loose_heap}

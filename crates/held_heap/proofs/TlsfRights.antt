@@ -1,5 +1,5 @@
 -- `Rights` for the TLSF manager: what a caller in C may do with the words of a region that a `HeapBlock` of `tlsf.rt` owns apart. No function cites the law `bytes_are_written`.
-use Rattle.std.proofs.Common.{◌≡◌, ℕ, ◌+◌, ◌/◌, ◌%◌, ◌≤◌, List, [], ◌∷◌, length, refl, sym, ap, ◌∙◌, subst, Option, Some, None}
+use Rattle.std.proofs.Common.{◌≡◌, ℕ, ◌+◌, ◌/◌, ◌%◌, ◌≤◌, List, length, refl, sym, ap, ◌∙◌, subst, Option, Some, None}
 use Rattle.std.proofs.lemmas.Bool.{false≢true}
 use Rattle.std.specs.Prelude.{IsTrue}
 use Rattle.std.specs.FinMap.{insert}
@@ -28,8 +28,7 @@ use Rattle.tag_heap.proofs.WriteLemmas.{writes, wrote_rules, wrote_valid}
 use Rattle.held_heap.specs.HeldState.{HeldState, IsOpenOfKind}
 use Rattle.c_base.specs.Lending.{IsOf}
 use Rattle.c_base.specs.Lent.{opened}
-use Rattle.c_base.proofs.Loans.{replaced}
-use Rattle.c_base.proofs.WholeWords.{again}
+use Rattle.c_base.proofs.CallerLemmas.{again, replaced}
 use Rattle.held_heap.specs.declared.loose_tlsf.LooseTlsf.{LooseTlsf}
 use Rattle.held_heap.specs.contracts.loose_tlsf.LooseTlsf.{the_row as loose_heap}
 use Rattle.held_heap.specs.LooseTlsf.{FitIn, FitOpen, held_all, lending, inner_all, open_all, seen_blocks, seen_heap, seen_in, state_seen}

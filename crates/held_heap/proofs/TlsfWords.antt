@@ -1,5 +1,5 @@
 -- For `Lendable` of `Held`: a heap that is open shows the words of its region.
-use Rattle.std.proofs.Common.{◌≡◌, ℕ, ◌^◌, ◌<◌, List, length, get_or, refl, sym, ap, ◌∙◌, subst, Option, Some, None, IsSome}
+use Rattle.std.proofs.Common.{◌≡◌, refl, Option, Some, None, IsSome}
 use Rattle.std.proofs.lemmas.Bool.{false≢true}
 use Rattle.cf_base.specs.declared.kind.Kind.TheVariants.{Tlsf}
 use Rattle.held_heap.specs.HeldState.{IsOpenOfKind}

@@ -1,5 +1,5 @@
 -- `LooseHeld`, the fields of an open heap of the moving manager with its step count: its words, other words in their place, and which of them is a `Held`, with which state.
-use Rattle.std.specs.Prelude.{◌≡◌, ℕ, List, Option, Some, None, length}
+use Rattle.std.specs.Prelude.{ℕ, List, Option, Some, None, length}
 use Rattle.cf_base.specs.declared.kind.Kind.TheVariants.{Moving}
 use Rattle.region.specs.Lending.{with_words}
 use Rattle.paged_heap.specs.Layout.{IsValidIn, state_in}

@@ -1,11 +1,11 @@
 -- For `Lendable` of `Held`: a heap with its own words in their place is the same.
-use Rattle.std.specs.Prelude.{◌≡◌, List, Option, Some, None, refl}
+use Rattle.std.specs.Prelude.{◌≡◌, Option, Some, None, refl}
 use mathlib.Core.Path.{ap}
 use Rattle.cf_base.specs.declared.kind.Kind.TheVariants.{Moving}
 use Rattle.paged_heap.specs.Layout.{state_in}
 use Rattle.paged_heap.specs.declared.open_heap.OpenHeap.{OpenHeap}
 use Rattle.c_base.specs.Lending.{AreWords}
-use Rattle.c_base.proofs.WholeWords.{same_words}
+use Rattle.c_base.proofs.CallerLemmas.{same_words}
 use Rattle.held_heap.specs.Loose.{Fits, held_all, inner_all, state_of}
 use Rattle.held_heap.specs.LooseTlsf as tlsf
 use Rattle.held_heap.specs.declared.loose.LooseHeld.{LooseHeld}

@@ -26,8 +26,7 @@ use Rattle.cf_lemmas.proofs.MapValues.{get-map_values}
 use Rattle.c_base.specs.Codes.{access_code}
 use Rattle.c_base.specs.HandleRules.{AreHandles}
 use Rattle.c_base.specs.Handles.{none, number_in}
-use Rattle.c_base.proofs.Generations.{handle_small, length-raised, names_itself}
-use Rattle.c_base.proofs.HandleLaws.{first_are_handles, raised_handles}
+use Rattle.c_base.proofs.CallerLemmas.{first_are_handles, handle_small, length-raised, names_itself, raised_handles}
 use Rattle.held_sliced.specs.Calls.{IsFreeCall, IsFreshHeap, IsLengthCall, IsMallocCall, IsPlaceCall, IsReadCall, IsSlotWordsCall, IsStepCall, IsWriteCall, found_code, found_number, malloc_number, raised_by}
 use Rattle.held_sliced.specs.Codes.{free_code, malloc_code}
 use Rattle.held_sliced.specs.HandleRules.{IsNewHandle, KeepsHandles}

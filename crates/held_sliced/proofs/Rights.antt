@@ -1,7 +1,7 @@
 -- What a caller in C may do with the words of a region that a `Loan` owns. It owns them (`words_lie`), so it may read them, and write bytes of live
 -- objects: then it owns the words of the heap's state after that write, and by the law `bytes_are_written` what makes the heap whole again is that of this
 -- state. So it owns the `Loan` with this state, and may pass it to the next call. No function cites the law.
-use Rattle.std.proofs.Common.{◌≡◌, ℕ, ◌+◌, ◌/◌, ◌%◌, List, [], ◌∷◌, length, refl, sym, ap, ◌∙◌, subst, Option, Some, None}
+use Rattle.std.proofs.Common.{◌≡◌, ℕ, ◌+◌, ◌/◌, ◌%◌, List, length, refl, sym, ap, ◌∙◌, subst, Option, Some, None}
 use Rattle.std.proofs.lemmas.Bool.{false≢true}
 use Rattle.std.specs.Prelude.{IsTrue}
 use seplogic.Ra.Ura.{Ura}
@@ -16,8 +16,7 @@ use Rattle.sliced_heap.proofs.CallerLemmas.{lent_held, lent_valid}
 use Rattle.held_sliced.specs.HeldState.{HeldState}
 use Rattle.c_base.specs.Lending.{IsOf}
 use Rattle.c_base.specs.Lent.{opened}
-use Rattle.c_base.proofs.Loans.{replaced}
-use Rattle.c_base.proofs.WholeWords.{again}
+use Rattle.c_base.proofs.CallerLemmas.{again, replaced}
 use Rattle.held_sliced.specs.Loose.{held_all, inner_all, lending, region_all}
 use Rattle.held_sliced.specs.declared.loose.LooseHeld.{LooseHeld}
 use Rattle.held_sliced.specs.contracts.loose.LooseHeld.{the_row as loose_heap}

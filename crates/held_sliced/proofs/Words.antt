@@ -1,5 +1,5 @@
 -- For `Lendable` of `Held`: a heap that shows an open state is open.
-use Rattle.std.proofs.Common.{◌≡◌, refl, Option, Some, None, IsSome}
+use Rattle.std.proofs.Common.{refl, Option, Some, None, IsSome}
 use Rattle.std.proofs.lemmas.Bool.{false≢true}
 use Rattle.std.specs.Prelude.{IsTrue}
 use Rattle.sliced_heap.specs.Shown.{shown}

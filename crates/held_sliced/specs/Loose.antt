@@ -1,5 +1,5 @@
 -- `LooseHeld`, the fields of an open sliced heap with its step count: its words, other words in their place, and which of them is a `Held`, with which state.
-use Rattle.std.specs.Prelude.{◌≡◌, ℕ, IsTrue, List, Option, Some, None, length}
+use Rattle.std.specs.Prelude.{ℕ, IsTrue, List, Option, Some, None, length}
 use Rattle.region.specs.Lending.{with_words}
 use Rattle.sliced_heap.specs.Shown.{IsValidIn, shown}
 use Rattle.sliced_heap.specs.declared.open_heap.OpenHeap.{OpenHeap}

@@ -1,9 +1,9 @@
 -- For `Lendable` of `Held`: a heap with its own words in their place is the same.
-use Rattle.std.specs.Prelude.{◌≡◌, List, Option, Some, None, refl}
+use Rattle.std.specs.Prelude.{◌≡◌, Option, Some, None, refl}
 use mathlib.Core.Path.{ap}
 use Rattle.sliced_heap.specs.declared.open_heap.OpenHeap.{OpenHeap}
 use Rattle.c_base.specs.Lending.{AreWords}
-use Rattle.c_base.proofs.WholeWords.{same_words}
+use Rattle.c_base.proofs.CallerLemmas.{same_words}
 use Rattle.held_sliced.specs.Loose.{Fits, held_all, inner_all, words_in, words_of}
 use Rattle.held_sliced.specs.declared.loose.LooseHeld.{LooseHeld}
 

@@ -1,5 +1,4 @@
 pub mod Tables
-pub mod Places
 pub mod Sent
 pub mod TaskLaws
 pub mod Admissions

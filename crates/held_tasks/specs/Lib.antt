@@ -5,6 +5,5 @@ pub mod Calls
 pub mod CallerTasks
 pub mod Needed
 pub mod Tasks
-pub mod Loan
 pub mod Place
 pub mod LeavesAlone

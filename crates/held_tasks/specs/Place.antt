@@ -4,7 +4,7 @@ use Rattle.std.specs.Borrow.{Fml, Lends, MutBor}
 use Rattle.c_base.specs.PlainHeap.{PlainHeap, heap_of}
 use Rattle.held_tasks.specs.TasksState.{TasksState}
 use Rattle.held_tasks.specs.Tasks.{open_heap}
-use Rattle.held_tasks.specs.Loan.{with_heap}
+use Rattle.c_base.specs.Borrow.{with_heap}
 use Rattle.held_tasks.specs.declared.tasks.NphHeap.{NphHeap}
 use Rattle.held_tasks.specs.contracts.tasks.NphHeap.{the_row}
 

@@ -1,7 +1,7 @@
 -- By hand, the contract of `place_of`: it keeps the address, and the `HeapBlock` owns the block there.
 -- The proof steps through the compiled body; a comment in brackets lists what is owned at that point, in order.
 -- The tokens are those of the call's lifetimes, here one for T.
-use Rattle.std.proofs.Common.{◌≡◌, List, [], ◌∷◌, ◌++◌, refl, Option, Some}
+use Rattle.std.proofs.Common.{◌≡◌, List, [], ◌∷◌, ◌++◌, refl, Some}
 use Rattle.std.proofs.raw_atomic.Walks.{proved_at, leaves}
 use base.Logic.{SProp, emp}
 use base.Fml.{ftrue, flft}

@@ -1,7 +1,7 @@
 -- By hand, the contract of `joined`: the loan is ended, and the result owns the block with the heap's fields.
 -- The proof steps through the compiled body; a comment in brackets lists what is owned at that point, in order.
 -- The tokens are those of the call's lifetimes, one for T and one for S.
-use Rattle.std.proofs.Common.{◌≡◌, List, [], ◌∷◌, ◌++◌, refl, sym, ◌∙◌, subst, Option, Some, IsSome}
+use Rattle.std.proofs.Common.{◌≡◌, List, [], ◌∷◌, ◌++◌, refl, sym, ◌∙◌, subst, Some, IsSome}
 use Rattle.std.proofs.raw_atomic.Walks.{proved_at, leaves}
 use base.Logic.{SProp, emp, id⊢}
 use base.Fml.{ftrue, flft}

@@ -2,7 +2,7 @@
 -- and owns the words apart from it.
 -- The proof steps through the compiled body; a comment in brackets lists what is owned at that point, in order.
 -- The tokens are those of the call's lifetimes, one for T and one for S.
-use Rattle.std.proofs.Common.{◌≡◌, ℕ, List, [], ◌∷◌, ◌++◌, length, refl, sym, ap, ◌∙◌, subst, Option, Some, None, IsSome, MutBor, w64}
+use Rattle.std.proofs.Common.{◌≡◌, ℕ, List, [], ◌∷◌, ◌++◌, length, refl, sym, ap, subst, Some, None, MutBor, w64}
 use Rattle.std.proofs.raw_atomic.Walks.{proved_at, leaves}
 use base.Fraction.{full_share}
 use base.Logic.{SProp, emp, id⊢, guard_i}
@@ -46,12 +46,11 @@ use denote.Struct.Tuple.{tuple_type}
 use denote.Triple.Call.{calls_at}
 use denote.Triple.Clauses.{lasts}
 use denote.Triple.Spec.{triple_of}
-use denote.Triple.Table.{framed}
 use denote.Triple.Walked.{Stays, walk_of, stay_dropped}
 use Rattle.core.proofs.alloc.Calls.{Goes-blank}
 use Rattle.core.proofs.alloc.Shapes.{after}
 use Rattle.core.proofs.atomic.Steps.{fm}
-use Rattle.c_base.specs.Lending.{AreOf, AreWords, IsFit, IsOf, Lending}
+use Rattle.c_base.specs.Lending.{AreOf, AreWords, IsFit, IsOf}
 use Rattle.c_base.specs.Lent.{Names, open_borrow}
 use Rattle.c_base.specs.contracts.block.HeapBlock.{the_row as P}
 use Rattle.c_base.specs.contracts.loan.Loan.{the_row as Q}

@@ -3,21 +3,20 @@
 -- The tokens are those of the call's lifetimes, here one for T.
 use Rattle.std.proofs.Common.{◌≡◌, [], ◌∷◌, refl, Option, None, lit<}
 use Rattle.std.proofs.raw_atomic.Walks.{proved_at, leaves}
-use base.Logic.{SProp, emp, id⊢}
+use base.Logic.{SProp, emp}
 use base.Fml.{ftrue, flft}
 use mir.MapTy.{inst_fn}
 use mir.Syntax.{a_type}
 use mir.Val.{Val}
-use contract.BorrowLft.{◌⊑◌}
 use contract.Monad.{fact, fact_i}
 use contract.Running.{tables}
-use types.Kit.{‵, raw, ◌⊛◌, ◌$◌, ◌∵◌, !, qed, by, keep, split, use0, drop}
+use types.Kit.{‵, raw, ◌⊛◌, ◌$◌, ◌∵◌, !, qed, by, keep, split, use0}
 use types.Run.{enter, lit, no_more, and_then, returns}
 use types.ByLocal.{alloc_all, pass_all, free_all, look_at, sets}
 use types.Part.{agg}
 use denote.Param.{layouts, param}
 use denote.RattleType.{owns}
-use denote.RawPtr.{Ptr, null_ptr}
+use denote.RawPtr.{null_ptr}
 use denote.Signature.{types_at}
 use denote.Steps.{nothing}
 use denote.Triple.Walked.{walk_of}

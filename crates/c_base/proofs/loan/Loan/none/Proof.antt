@@ -16,7 +16,7 @@ use types.ByLocal.{alloc_all, pass_all, free_all, get, look_at, sets}
 use types.Part.{agg}
 use denote.Param.{bounded, param}
 use denote.RattleType.{owns}
-use denote.RawPtr.{Ptr, null_ptr}
+use denote.RawPtr.{null_ptr}
 use denote.Signature.{types_at}
 use denote.Steps.{nothing}
 use denote.Triple.Walked.{walk_of}

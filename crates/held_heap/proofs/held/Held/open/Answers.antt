@@ -1,6 +1,6 @@
 use Rattle.cf_base.specs.Settings.{profile_of}
 use Rattle.held_heap.specs.Calls.{IsFreshHeap}
-use Rattle.c_base.proofs.Opened.{at_ok, at_some, in_box}
+use Rattle.c_base.proofs.CallerLemmas.{at_ok, at_some, in_box}
 use Rattle.held_heap.proofs.Fresh.{fresh_from_closed}
 use Rattle.held_heap.proofs.held.Held.open.Goals as goal
 

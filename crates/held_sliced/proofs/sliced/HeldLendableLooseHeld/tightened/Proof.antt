@@ -1,7 +1,7 @@
 -- By hand, the contract of `Lendable::tightened` for `Held`: the address stays, and who owns the fields of a `Held` there owns the `Held`.
 -- The proof steps through the compiled body; a comment in brackets lists what is owned at that point, in order.
 -- The tokens are those of the call's lifetimes; here there are none.
-use Rattle.std.proofs.Common.{◌≡◌, List, [], ◌∷◌, ◌++◌, refl, sym, subst, Some}
+use Rattle.std.proofs.Common.{List, [], ◌∷◌, ◌++◌, refl, sym, subst, Some}
 use Rattle.std.proofs.raw_atomic.Walks.{proved_at, leaves}
 use base.Logic.{SProp, emp}
 use base.Fml.{ftrue}
@@ -20,8 +20,7 @@ use denote.Steps.{nothing, heard}
 use denote.Triple.Walked.{Stays, walk_of, stay_dropped, Goes-dropped}
 use Rattle.c_base.specs.Lending.{AreOf, IsFit}
 use Rattle.c_base.specs.contracts.block.HeapBlock.{the_row as P}
-use Rattle.c_base.proofs.Loans.{fit_some}
-use Rattle.c_base.proofs.Blocks.{place_val, place_in, place_out}
+use Rattle.c_base.proofs.CallerLemmas.{fit_some, place_in, place_out, place_val}
 use Rattle.held_sliced.specs.Loose.{Fits, lending, state_of}
 use Rattle.held_sliced.specs.Sliced.{open_heap as T}
 use Rattle.held_sliced.specs.contracts.sliced.HeldLendableLooseHeld.tightened as f

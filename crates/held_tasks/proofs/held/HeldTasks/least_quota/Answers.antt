@@ -1,7 +1,7 @@
 use Rattle.std.proofs.Common.{◌≡◌, refl, sym, ◌∙◌, ap, subst, inl, inr}
 use Rattle.std.specs.Prelude.{is_some}
 use Rattle.std.proofs.lemmas.Bool.{false≢true}
-use Rattle.c_base.proofs.Opened.{at_some}
+use Rattle.c_base.proofs.CallerLemmas.{at_some}
 use Rattle.cf_base.specs.Settings.{profile_of}
 use Rattle.held_tasks.specs.Calls.{IsLeastQuota}
 use Rattle.held_tasks.specs.TasksState.{TasksState}

@@ -1,6 +1,6 @@
 use Rattle.std.proofs.Common.{refl}
 use Rattle.cf_base.specs.Settings.{profile_of}
-use Rattle.c_base.proofs.Opened.{at_some, in_box, ok_value}
+use Rattle.c_base.proofs.CallerLemmas.{at_some, in_box, ok_value}
 use Rattle.held_tasks.specs.Calls.{IsFreshHeap}
 use Rattle.held_tasks.proofs.held.HeldTasks.open.Goals as goal
 
