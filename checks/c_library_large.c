@@ -47,6 +47,7 @@ void rattle_dealloc(void *at) { free(at); }
 
 static uint32_t part_bytes(void) { return page_bytes - 8; }
 static uint32_t parts_of(uint32_t bytes) { return (bytes + part_bytes() - 1) / part_bytes(); }
+static uint32_t cut(uint32_t bytes) { return bytes <= part_bytes() ? 0 : parts_of(bytes); }
 static uint32_t inner_of(uint32_t bytes) { return bytes <= part_bytes() ? 1 : 1 + parts_of(bytes); }
 static uint32_t class_for(uint32_t bytes) {
     uint32_t words = 1 + (bytes + 7) / 8, c = 0;
@@ -131,6 +132,7 @@ static void make(void) {
         return;
     }
     if (steps == 0 || steps > most) fail("the steps of a malloc", (long)steps, (long)most);
+    if (most > 17 + 20 * cut(bytes)) fail("the most steps of a malloc", (long)most, 17 + 20 * cut(bytes));
     same("an old handle", found(handle), -1);
     for (uint32_t i = 0; i < stale_count && i < STALE; i++)
         if (stale[i] == handle) fail("a stale handle", handle, -1);
@@ -149,6 +151,8 @@ static void drop(void) {
     }
     uint64_t most = nph_large_most_free(page_bytes, objects[at].length);
     if (steps == 0 || steps > most) fail("the steps of a free", (long)steps, (long)most);
+    uint32_t parts = cut(objects[at].length), large = 20 + 23 * parts + (parts + 1) * page_bytes / 8;
+    if (most > large) fail("the most steps of a free", (long)most, large);
     objects[at] = objects[--live];
     stale[stale_count++ % STALE] = handle;
 }
@@ -172,7 +176,8 @@ static void access(int writes) {
     uint32_t words = count ? (from % 8 + count + 7) / 8 : 0;
     if (wanted == NPH_OK) exact = objects[at].length <= u ? 2 + words : count ? 5 * ((from + count - 1) / u + 1 - from / u) + words : 0;
     same("the steps of an access", (long)steps, (long)exact);
-    if (steps > most) fail("the most steps of an access", (long)steps, (long)most);
+    uint64_t large = count ? 5 * ((from + count - 1) / u + 1 - from / u) + words : 2;
+    if (steps > most || most > large) fail("the most steps of an access", (long)most, (long)large);
 }
 
 static void measure(void) {
