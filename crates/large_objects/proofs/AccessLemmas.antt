@@ -104,6 +104,7 @@ then_kept a b c x y = record {
       open_now = y.stays.inner.open_now;
       profile = y.stays.inner.profile ∙ x.stays.inner.profile;
     };
+    promise = y.stays.promise ∙ x.stays.promise;
   };
   parts = y.parts;
 }

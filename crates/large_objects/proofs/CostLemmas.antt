@@ -1,15 +1,16 @@
--- The steps of the calls of an inner manager that it can't refuse, from its own bounds; and sums of such steps over the parts of an object.
-use Rattle.std.proofs.Common.{◌≡◌, ℕ, suc, ◌+◌, ◌-◌, ◌*◌, ◌/◌, ◌%◌, ◌^◌, ◌<◌, ◌≤◌, false, min, List, Some, None, length, arith, sym, ◌∙◌, ap, refl, inl, inr}
-use Rattle.std.specs.Prelude.{Option, Result, Ok, Err, nat_eq, sum_by}
+-- The steps of the calls of an inner manager that it can't refuse, from its own bounds and its order; and sums of such steps over the parts of an object.
+use Rattle.std.proofs.Common.{◌≡◌, ℕ, suc, ◌+◌, ◌-◌, ◌*◌, ◌/◌, ◌%◌, ◌^◌, ◌<◌, ◌≤◌, Bool, true, false, min, List, Some, None, length, arith, sym, ◌∙◌, ap, refl, subst, inl, inr}
+use Rattle.std.specs.Prelude.{Option, Result, Ok, Err, ◌&&◌, if◌then◌else◌, is_some, nat_eq, sum_by}
 use Rattle.std.proofs.Math.Nat.{div-add-mod, mod-lt}
 use Rattle.std.proofs.lemmas.Nat.{le-div, mul-le}
-use Rattle.std.proofs.lemmas.Bool.{cases_eq, cases_lt}
+use Rattle.std.proofs.lemmas.Bool.{cases_eq, cases_lt, eqb-true}
 use Rattle.std.proofs.lemmas.List.Sums.{sum_by-cons}
 use Rattle.std.specs.FinMap.{get}
 use Rattle.cf_lemmas.proofs.Tests.{eq_no, le_no}
 use Rattle.std.specs.List.{range_with_len}
 use Rattle.cf_lemmas.proofs.Ranges.{sum_range_same}
 use Rattle.step_ledger.specs.Counting.{RoseAtMost, RoseBy}
+use Rattle.cf_base.specs.Classes.{need}
 use Rattle.cf_base.specs.declared.answers.AccessFault.{AccessFault}
 use Rattle.cf_base.specs.declared.answers.Freed.{Freed}
 use Rattle.cf_base.specs.declared.answers.Handle.{Handle}
@@ -17,16 +18,20 @@ use Rattle.cf_base.specs.declared.answers.NotLive.{NotLive}
 use Rattle.cf_base.specs.declared.kind.Kind.{Kind}
 use Rattle.page_model.specs.Held.{objects}
 use Rattle.page_model.specs.Image.{slot_for}
+use Rattle.page_model.specs.Order.{Order}
 use Rattle.page_model.specs.Paging.{Paging, class_for}
 use Rattle.page_model.proofs.CallerLemmas.{between_multiples, bytes_held, bytes_missing, slot_fits}
 use Rattle.cf_model.specs.Bounds.{Bounds, ByOwn}
 use Rattle.cf_model.specs.Costs.{TakesAtMost, access_bound, block_free_bound, free_bound, words_touched}
 use Rattle.cf_model.specs.Families.{IsPaged}
+use Rattle.cf_model.specs.Ordered.{Follows, FreeByOrder, FreeInOrder, IsOrderedFree, IsOrderedMalloc, KeepsPromise, MallocByOrder, MallocInOrder}
 use Rattle.cf_model.specs.State.{HeapState, paging_in}
 use Rattle.cf_model.specs.Steps.{IsFreeStep, IsReadAnswer, IsWriteStep, Position, slot_in}
 use Rattle.large_objects.specs.InnerCalls.{HasInner, IsReadyInner}
-use Rattle.large_objects.specs.LargeCosts.{ByCosts, InnerCosts, handle_steps, object_free_steps, object_malloc_steps, bytes_in_part, parts_access_steps, parts_free_steps, parts_malloc_steps}
+use Rattle.large_objects.specs.LargeCosts.{AreInnerCosts, ByCosts, FollowFrom, InnerCosts, bytes_in_part, handle_steps, inner_free_steps, inner_malloc_steps, object_free_steps}
+use Rattle.large_objects.specs.LargeCosts.{object_malloc_steps, page_free_steps, page_malloc_steps, parts_access_steps, parts_free_steps, parts_malloc_steps, slots_with}
 use Rattle.large_objects.specs.InnerObjects.{part_count, part_length, spine_bytes}
+use Rattle.large_objects.proofs.OrderedCosts.{own_page_free, own_page_malloc}
 use Rattle.large_objects.proofs.InnerSteps.{inner_no_fault, keeps_pages, not_both, page_small}
 use Rattle.std.proofs.lemmas.Option.{same_Some}
 
@@ -34,14 +39,33 @@ use Rattle.std.proofs.lemmas.Option.{same_Some}
 pub takes_paged : (kind : Kind) (old new n m : ℕ) → IsPaged kind → TakesAtMost kind old new n m → RoseAtMost old new n
 takes_paged kind old new n m paged takes = rw (paged, TakesAtMost) at takes
 
-pub malloc_costs : (most : Option Bounds) (old new : ℕ) (h : Handle) → ByOwn most (λ b. RoseAtMost old new (b.malloc (Ok h)))
-    → ByCosts most (λ c. RoseAtMost old new c.malloc)
-malloc_costs None old new h own c follow = absurd follow
-malloc_costs (Some b) old new h own c follow = record { kept = own.kept; bound = (let m = follow.malloc h in let l = own.bound in omega arith) }
+-- the steps that follow for one state of a manager follow for a later one
+pub follow_on : (most : Option Bounds) (s t : HeapState) (c : InnerCosts) → t.kind ≡ s.kind → KeepsPromise s t → AreInnerCosts s most c → AreInnerCosts t most c
+follow_on None s t c kind promise follow = follow
+follow_on (Some b) s t c kind promise follow =
+    subst (λ (k : Kind). FollowFrom k (is_some t.order) b c) (sym kind) (subst (λ ordered. FollowFrom s.kind ordered b c) (sym promise) follow)
 
-pub totals_cost : (most : Option Bounds) (s : HeapState) (old new : ℕ) → ByOwn most (λ b. RoseBy old new (b.totals_exact s)) → ByCosts most (λ c. new ≡ old)
-totals_cost None s old new own c follow = absurd follow
-totals_cost (Some b) s old new own c follow = (let none = follow.totals s in let low = own.kept in let high = own.bound in omega arith)
+pub malloc_costs : (most : Option Bounds) (s t : HeapState) (n : ℕ) (h : Handle) (old new : ℕ) → IsReadyInner s → need n ≤ s.profile.page_words
+    → IsOrderedMalloc s n (Ok h) t → new ≡ old + t.cost → ByOwn most (λ b. RoseAtMost old new (b.malloc (Ok h)))
+    → ByCosts s most (λ c. RoseAtMost old new (inner_malloc_steps c (paging_in s) n))
+malloc_costs None s t n h old new ready fits ordered took own c follow = absurd follow
+malloc_costs (Some b) s t n h old new ready fits ordered took own c follow =
+    by s.order t.order refl (nat_eq (slots_with (paging_in s) n) 1) refl ordered (follow.malloc (slots_with (paging_in s) n) h)
+  where
+    by : (was now : Option Order) → s.order ≡ was → (alone : Bool) → nat_eq (slots_with (paging_in s) n) 1 ≡ alone → Follows (MallocByOrder s n (Ok h) t) was now
+        → (if is_some was && alone then page_malloc_steps s.kind else b.malloc (Ok h)) ≤ inner_malloc_steps c (paging_in s) n
+        → RoseAtMost old new (inner_malloc_steps c (paging_in s) n)
+    by None now is alone e f most = record { kept = own.kept; bound = (let l = own.bound in omega arith) }
+    by (Some o) now is false e f most = record { kept = own.kept; bound = (let l = own.bound in omega arith) }
+    by (Some o) None is true e f most = absurd f
+    by (Some o) (Some o') is true e f most =
+        let m : MallocInOrder s n (Ok h) t o o' = rw (ready.pages, MallocByOrder) at f in
+        let cost = m.cost ∙ own_page_malloc s ready o is n h fits (eqb-true (slots_with (paging_in s) n) 1 e) in
+        record { kept = own.kept; bound = omega arith }
+
+pub totals_cost : (most : Option Bounds) (s t : HeapState) (old new : ℕ) → ByOwn most (λ b. RoseBy old new (b.totals_exact s)) → ByCosts t most (λ c. new ≡ old)
+totals_cost None s t old new own c follow = absurd follow
+totals_cost (Some b) s t old new own c follow = (let none = follow.totals s in let low = own.kept in let high = own.bound in omega arith)
 
 -- a write within a live object is done
 pub write_done : (old new : HeapState) (position : Position) (bytes : List ℕ) (r : Result Unit AccessFault) → HasInner old position.number position.from (length bytes)
@@ -65,10 +89,10 @@ few_touched from count = elim (cases_eq count 0) [
 pub access_few : (old new from count : ℕ) → RoseAtMost old new (access_bound from count) → RoseAtMost old new (64 + count)
 access_few old new from count rose = record { kept = rose.kept; bound = (let l = rose.bound in let f = few_touched from count in omega arith) }
 
-pub access_costs : (most : Option Bounds) (old new from count : ℕ) (r : Result Unit AccessFault) → ((u : Unit {0}) × (r ≡ Ok u)) → old + count < 2 ^ 63 + 2 ^ 32
-    → RoseAtMost old new (64 + count) → ByOwn most (λ b. RoseBy old new (b.access from count r)) → ByCosts most (λ c. new ≡ old + c.access from count)
-access_costs None old new from count r done low rose own c follow = absurd follow
-access_costs (Some b) old new from count r done low rose own c follow =
+pub access_costs : (most : Option Bounds) (s : HeapState) (old new from count : ℕ) (r : Result Unit AccessFault) → ((u : Unit {0}) × (r ≡ Ok u)) → old + count < 2 ^ 63 + 2 ^ 32
+    → RoseAtMost old new (64 + count) → ByOwn most (λ b. RoseBy old new (b.access from count r)) → ByCosts s most (λ c. new ≡ old + c.access from count)
+access_costs None s old new from count r done low rose own c follow = absurd follow
+access_costs (Some b) s old new from count r done low rose own c follow =
     let e : b.access from count r ≡ c.access from count = ap (λ x. b.access from count x) done.1 ∙ follow.access from count done.0 in
     let l = rose.bound in
     elim (cases_lt (old + b.access from count r) (2 ^ 64)) [
@@ -91,17 +115,31 @@ free_few before after h (Err e) old new ready step takes =
     record { kept = rose.kept; bound = (let l = rose.bound in omega arith) }
 
 -- the slot of the freed object, by its length
-pub free_costs : (most : Option Bounds) (before after : HeapState) (h : ℕ) (r : Result Freed NotLive) (old new : ℕ) → IsReadyInner before → IsFreeStep before h r after
-    → ByOwn most (λ b. RoseAtMost old new (b.free r)) → ByCosts most (λ c. (v : List ℕ) → get (objects before.held) h ≡ Some v
-    → RoseAtMost old new (c.free (slot_for (paging_in before) (length v))))
-free_costs None before after h r old new ready step own c follow v found = absurd follow
-free_costs (Some b) before after h (Err e) old new ready (none, same) own c follow v found =
-    absurd (not_both (objects before.held) h v found (bytes_missing before.held h none))
-free_costs (Some b) before after h (Ok freed) old new ready step own c follow v found =
-    let slot : freed.slot_words ≡ slot_for (paging_in before) (length step.object.bytes) = rw (ready.pages, slot_in) at step.slot in
-    let same = same_Some step.object.bytes v (sym (bytes_held before.held h step.object step.found) ∙ found) in
-    let e : c.free freed.slot_words ≡ c.free (slot_for (paging_in before) (length v)) = ap c.free (slot ∙ ap (λ (w : List ℕ). slot_for (paging_in before) (length w)) same) in
-    record { kept = own.kept; bound = (let m = follow.free freed in let l = own.bound in omega arith) }
+pub free_costs : (most : Option Bounds) (s t : HeapState) (h : ℕ) (r : Result Freed NotLive) (old new : ℕ) → IsReadyInner s → IsFreeStep s h r t
+    → IsOrderedFree s h r t → new ≡ old + t.cost → ByOwn most (λ b. RoseAtMost old new (b.free r))
+    → ByCosts s most (λ c. (v : List ℕ) → get (objects s.held) h ≡ Some v → RoseAtMost old new (inner_free_steps c (paging_in s) (length v)))
+free_costs None s t h r old new ready step ordered took own c follow v found = absurd follow
+free_costs (Some b) s t h (Err e) old new ready (none, same) ordered took own c follow v found =
+    absurd (not_both (objects s.held) h v found (bytes_missing s.held h none))
+free_costs (Some b) s t h (Ok freed) old new ready step ordered took own c follow v found =
+    let same = same_Some step.object.bytes v (sym (bytes_held s.held h step.object step.found) ∙ found) in
+    subst (λ (w : List ℕ). RoseAtMost old new (inner_free_steps c (paging_in s) (length w))) same
+    (subst (λ words. RoseAtMost old new (c.free (slots_with (paging_in s) (length step.object.bytes)) words)) (rw (ready.pages, slot_in) at step.slot)
+    (by (slots_with (paging_in s) (length step.object.bytes)) refl s.order t.order refl (nat_eq (slots_with (paging_in s) (length step.object.bytes)) 1) refl
+    ordered (follow.free (slots_with (paging_in s) (length step.object.bytes)) freed)))
+  where
+    by : (k : ℕ) → slots_with (paging_in s) (length step.object.bytes) ≡ k → (was now : Option Order) → s.order ≡ was → (alone : Bool) → nat_eq k 1 ≡ alone
+        → Follows (FreeByOrder s h (Ok freed) t) was now
+        → (if is_some was && alone then page_free_steps s.kind freed.slot_words else b.free (Ok freed)) ≤ c.free k freed.slot_words
+        → RoseAtMost old new (c.free k freed.slot_words)
+    by k k_is None now is alone e f most = record { kept = own.kept; bound = (let l = own.bound in omega arith) }
+    by k k_is (Some o) now is false e f most = record { kept = own.kept; bound = (let l = own.bound in omega arith) }
+    by k k_is (Some o) None is true e f most = absurd f
+    by k k_is (Some o) (Some o') is true e f most =
+        let m : FreeInOrder s h (Ok freed) t o o' = rw (ready.pages, FreeByOrder) at f in
+        let few = own_page_free s ready o is h freed t step (k_is ∙ eqb-true k 1 e) in
+        let cost = m.cost in
+        record { kept = own.kept; bound = omega arith }
 
 -- the sum over the numbers from i up to n begins with that of i
 sum_ahead : (f : ℕ → ℕ) (i n : ℕ) → i < n → sum_by f (range_with_len i (n - i)) ≡ f i + sum_by f (range_with_len (i + 1) (n - (i + 1)))
@@ -112,35 +150,36 @@ sum_past f i n le = (let e : n - i ≡ 0 = omega arith in rw e refl)
 
 -- the steps of freeing, or of making, the parts from part i on
 abbrev pub parts_free_from : InnerCosts → Paging → ℕ → ℕ → ℕ → ℕ
-parts_free_from c p u n i = sum_by (λ j. handle_steps c j + c.free (slot_for p (part_length u n j))) (range_with_len i (part_count u n - i))
+parts_free_from c p u n i = sum_by (λ j. handle_steps c j + inner_free_steps c p (part_length u n j)) (range_with_len i (part_count u n - i))
 
-abbrev pub parts_malloc_from : InnerCosts → ℕ → ℕ → ℕ → ℕ
-parts_malloc_from c u n i = sum_by (λ j. c.malloc + handle_steps c j) (range_with_len i (part_count u n - i))
+abbrev pub parts_malloc_from : InnerCosts → Paging → ℕ → ℕ → ℕ → ℕ
+parts_malloc_from c p u n i = sum_by (λ j. inner_malloc_steps c p (part_length u n j) + handle_steps c j) (range_with_len i (part_count u n - i))
 
 pub free_next : (c : InnerCosts) (p : Paging) (u n i : ℕ) → i < part_count u n
-    → parts_free_from c p u n i ≡ handle_steps c i + c.free (slot_for p (part_length u n i)) + parts_free_from c p u n (i + 1)
-free_next c p u n i below = sum_ahead (λ j. handle_steps c j + c.free (slot_for p (part_length u n j))) i (part_count u n) below
+    → parts_free_from c p u n i ≡ handle_steps c i + inner_free_steps c p (part_length u n i) + parts_free_from c p u n (i + 1)
+free_next c p u n i below = sum_ahead (λ j. handle_steps c j + inner_free_steps c p (part_length u n j)) i (part_count u n) below
 
 pub free_past : (c : InnerCosts) (p : Paging) (u n i : ℕ) → part_count u n ≤ i → parts_free_from c p u n i ≡ 0
-free_past c p u n i past = sum_past (λ j. handle_steps c j + c.free (slot_for p (part_length u n j))) i (part_count u n) past
+free_past c p u n i past = sum_past (λ j. handle_steps c j + inner_free_steps c p (part_length u n j)) i (part_count u n) past
 
 pub free_first : (c : InnerCosts) (p : Paging) (u n : ℕ) → parts_free_from c p u n 0 ≡ parts_free_steps c p u n
 free_first c p u n = (let e : part_count u n - 0 ≡ part_count u n = omega arith in rw e refl)
 
-pub malloc_first : (c : InnerCosts) (u n : ℕ) → parts_malloc_from c u n 0 ≡ parts_malloc_steps c u n
-malloc_first c u n = (let e : part_count u n - 0 ≡ part_count u n = omega arith in rw e refl)
+pub malloc_first : (c : InnerCosts) (p : Paging) (u n : ℕ) → parts_malloc_from c p u n 0 ≡ parts_malloc_steps c p u n
+malloc_first c p u n = (let e : part_count u n - 0 ≡ part_count u n = omega arith in rw e refl)
 
-pub malloc_next : (c : InnerCosts) (u n i : ℕ) → i < part_count u n
-    → parts_malloc_from c u n i ≡ c.malloc + handle_steps c i + parts_malloc_from c u n (i + 1)
-malloc_next c u n i below = sum_ahead (λ j. c.malloc + handle_steps c j) i (part_count u n) below
+pub malloc_next : (c : InnerCosts) (p : Paging) (u n i : ℕ) → i < part_count u n
+    → parts_malloc_from c p u n i ≡ inner_malloc_steps c p (part_length u n i) + handle_steps c i + parts_malloc_from c p u n (i + 1)
+malloc_next c p u n i below = sum_ahead (λ j. inner_malloc_steps c p (part_length u n j) + handle_steps c j) i (part_count u n) below
 
-pub malloc_past : (c : InnerCosts) (u n i : ℕ) → part_count u n ≤ i → parts_malloc_from c u n i ≡ 0
-malloc_past c u n i past = sum_past (λ j. c.malloc + handle_steps c j) i (part_count u n) past
+pub malloc_past : (c : InnerCosts) (p : Paging) (u n i : ℕ) → part_count u n ≤ i → parts_malloc_from c p u n i ≡ 0
+malloc_past c p u n i past = sum_past (λ j. inner_malloc_steps c p (part_length u n j) + handle_steps c j) i (part_count u n) past
 
-pub malloc_long : (c : InnerCosts) (u n : ℕ) → u < n → object_malloc_steps c u n ≡ c.malloc + parts_malloc_steps c u n
-malloc_long c u n long = rw (le_no n u long) refl
+pub malloc_long : (c : InnerCosts) (p : Paging) (u n : ℕ) → u < n
+    → object_malloc_steps c p u n ≡ inner_malloc_steps c p (spine_bytes u n) + parts_malloc_steps c p u n
+malloc_long c p u n long = rw (le_no n u long) refl
 
-pub free_long : (c : InnerCosts) (p : Paging) (u n : ℕ) → u < n → object_free_steps c p u n ≡ parts_free_steps c p u n + c.free (slot_for p (spine_bytes u n))
+pub free_long : (c : InnerCosts) (p : Paging) (u n : ℕ) → u < n → object_free_steps c p u n ≡ parts_free_steps c p u n + inner_free_steps c p (spine_bytes u n)
 free_long c p u n long = rw (le_no n u long) refl
 
 -- the steps of an access of no byte; and of one or more: those in the first part that has one, and then those of the bytes that are left

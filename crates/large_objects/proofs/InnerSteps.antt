@@ -1,13 +1,14 @@
 -- What the calls of a *ready* inner manager (open, with pages and every bound 1) do to its objects: it refuses no malloc that has room, no free of a live
 -- object, and no access within an object.
 use Rattle.std.proofs.Common.{◌≡◌, ℕ, ◌+◌, ◌*◌, ◌^◌, ◌<◌, ◌≤◌, List, Some, None, true, length, take, drop, arith, sym, ◌∙◌, ap, refl, subst}
-use Rattle.std.specs.Prelude.{Result, Ok, Err}
+use Rattle.std.specs.Prelude.{Result, Ok, Err, is_some}
 use Rattle.std.proofs.lemmas.Option.{same_Some}
 use Rattle.std.proofs.lemmas.Nat.{mul-le}
 use Rattle.std.specs.FinMap.{get}
 use Rattle.cf_base.specs.declared.answers.AccessFault.{AccessFault}
 use Rattle.cf_base.specs.declared.answers.AccessFault.TheVariants as access
 use Rattle.cf_base.specs.declared.answers.Freed.{Freed}
+use Rattle.cf_base.specs.declared.answers.Handle.{Handle}
 use Rattle.cf_base.specs.declared.answers.NotLive.{NotLive}
 use Rattle.cf_base.specs.declared.answers.Refusal.{Refusal}
 use Rattle.cf_base.specs.declared.answers.Refusal.TheVariants as refusal
@@ -15,13 +16,13 @@ use Rattle.cf_lemmas.proofs.MapValues.{map_values-insert}
 use Rattle.page_model.specs.Arrangement.{LacksRoom}
 use Rattle.page_model.specs.Held.{Objects, Placed, objects}
 use Rattle.page_model.specs.Paging.{EveryBoundIsOne, Paging, class_for, paging_of}
-use Rattle.page_model.specs.Steps.{Request}
 use Rattle.page_model.proofs.CallerLemmas.{class_fits, class_holds, lacks_room_at_one, len-objects, malloc_objects, slot_fits}
 use Rattle.cf_model.specs.Families.{family_of}
+use Rattle.cf_model.specs.Ordered.{FreeByOrder, IsOrderedFree, IsOrderedMalloc, KeepsPromise, MallocByOrder}
 use Rattle.cf_model.specs.Rules.{KeepsPages, KeepsRules}
 use Rattle.cf_model.specs.State.{HeapState, layout_of, paging_in}
 use Rattle.cf_model.specs.Steps.{AddsObject, IsFault, IsFreeStep, IsReadAnswer, IsRefusedBy, IsWriteStep, KeepsSettings, LacksRoomIn, Position}
-use Rattle.cf_model.proofs.CallerLemmas.{pages_kept}
+use Rattle.cf_model.proofs.CallerLemmas.{order_stays, pages_kept}
 use Rattle.page_model.proofs.CallerLemmas.{bytes_held, bytes_missing, held_of_bytes}
 use Rattle.large_objects.specs.InnerCalls.{FreesInner, MakesOneInner, HasInner, HasInnerRoom, IsReadyInner, StaysReady, WritesInner}
 
@@ -36,9 +37,10 @@ same_paging old new k =
     ∙ ap (λ p. paging_of p (layout_of old.kind) new.bounds) k.profile
     ∙ ap (λ b. paging_of old.profile (layout_of old.kind) b) k.bounds
 
-pub stays_ready : (old new : HeapState) → IsReadyInner old → KeepsSettings old new → KeepsRules new → StaysReady old new
-stays_ready old new r k rules = record {
+pub stays_ready : (old new : HeapState) → IsReadyInner old → KeepsSettings old new → KeepsPromise old new → KeepsRules new → StaysReady old new
+stays_ready old new r k promise rules = record {
   settings = k;
+  promise = promise;
   ready = record {
     opened = (let e : new.is_open ≡ true = k.opened ∙ r.opened in e);
     rules = rules;
@@ -56,11 +58,12 @@ then_ready a b c x y = record {
     profile = y.settings.profile ∙ x.settings.profile;
     bounds = y.settings.bounds ∙ x.settings.bounds;
   };
+  promise = y.promise ∙ x.promise;
   ready = y.ready;
 }
 
 pub same_ready : (s : HeapState) → IsReadyInner s → StaysReady s s
-same_ready s r = record { settings = record { kind = refl; opened = refl; profile = refl; bounds = refl }; ready = r }
+same_ready s r = record { settings = record { kind = refl; opened = refl; profile = refl; bounds = refl }; promise = refl; ready = r }
 
 pub not_both : (o : Objects) (h : ℕ) (v : List ℕ) → get o h ≡ Some v → get o h ≡ None → ⊥
 not_both o h v some none = (let g : Some v ≡ None = sym some ∙ none in cc)
@@ -75,18 +78,18 @@ inner_not_refused s n r room refusal.Space cause =
     let past = (lacks_room_at_one (paging_in s) kept.paging r.ones s.held kept.sound n (class_fits (paging_in s) kept.paging n room.fits)).0 lacking in
     let pages = room.pages in omega arith
 
-pub inner_given : (old new : HeapState) (asked : Request) → IsReadyInner old → AddsObject old asked new → KeepsRules new
-    → MakesOneInner old asked.number asked.length new
-inner_given old new asked r given rules = record {
+pub inner_given : (old new : HeapState) (h : Handle) (n : ℕ) → IsReadyInner old → AddsObject old (record { number = h.0; length = n }) new
+    → IsOrderedMalloc old n (Ok h) new → KeepsRules new → MakesOneInner old h.0 n new
+inner_given old new h n r given ordered rules = record {
   stays = stays_ready old new r (record {
     kind = ap (λ (s : HeapState). s.kind) given.whole;
     opened = ap (λ (s : HeapState). s.is_open) given.whole;
     profile = ap (λ (s : HeapState). s.profile) given.whole;
     bounds = ap (λ (s : HeapState). s.bounds) given.whole;
-  }) rules;
-  unused = bytes_missing old.held asked.number given.unused;
+  }) (order_stays (MallocByOrder old n (Ok h) new) old.order new.order ordered) rules;
+  unused = bytes_missing old.held h.0 given.unused;
   below = (let h = given.in_range in let f = r.rules.settings.few_proxies in omega arith);
-  left = ap (λ (s : HeapState). objects s.held) given.whole ∙ malloc_objects old.held asked.number given.place asked.length;
+  left = ap (λ (s : HeapState). objects s.held) given.whole ∙ malloc_objects old.held h.0 given.place n;
 }
 
 module _ (old : HeapState) (position : Position) (count : ℕ) (has : HasInner old position.number position.from count) where
@@ -106,7 +109,7 @@ inner_written old new position bytes (Ok u) ready has step rules = record {
     opened = ap (λ (s : HeapState). s.is_open) step.whole;
     profile = ap (λ (s : HeapState). s.profile) step.whole;
     bounds = ap (λ (s : HeapState). s.bounds) step.whole;
-  }) rules;
+  }) (ap (λ (s : HeapState). is_some s.order) step.whole) rules;
   object = step.object.bytes;
   found = bytes_held old.held position.number step.object step.found;
   left = ap (λ (s : HeapState). objects s.held) step.whole ∙ map_values-insert (λ (x : Placed). x.bytes) old.held position.number _;
@@ -122,9 +125,12 @@ inner_read s position room out (Err e) v found within (fault, same) =
     absurd (inner_no_fault s position (length room) (record { bytes = v; found = found; within = within }) e fault)
 
 pub inner_freed : (old new : HeapState) (h : ℕ) (v : List ℕ) (r : Result Freed NotLive) → IsReadyInner old → get (objects old.held) h ≡ Some v
-    → IsFreeStep old h r new → KeepsRules new → FreesInner old h new
-inner_freed old new h v (Ok freed) ready found step rules = record { stays = stays_ready old new ready step.rest rules; left = step.left }
-inner_freed old new h v (Err e) ready found (none, same) rules =
+    → IsFreeStep old h r new → IsOrderedFree old h r new → KeepsRules new → FreesInner old h new
+inner_freed old new h v (Ok freed) ready found step ordered rules = record {
+  stays = stays_ready old new ready step.rest (order_stays (FreeByOrder old h (Ok freed) new) old.order new.order ordered) rules;
+  left = step.left;
+}
+inner_freed old new h v (Err e) ready found (none, same) ordered rules =
     absurd (not_both (objects old.held) h v found (bytes_missing old.held h none))
 
 pub page_small : (s : HeapState) → IsReadyInner s → s.profile.page_words ≤ 2 ^ 23

@@ -2,7 +2,7 @@
 -- the cause for which a malloc is refused.
 use Rattle.std.proofs.Common.{◌≡◌, ℕ, ◌+◌, ◌*◌, ◌^◌, ◌<◌, ◌≤◌, Bool, true, List, Some, None, length}
 use Rattle.std.proofs.Common.{get_or, set, take, drop, replicate, arith, sym, ◌∙◌, ap, refl, subst, inl, inr}
-use Rattle.std.specs.Prelude.{Option, IsTrue, option_map}
+use Rattle.std.specs.Prelude.{Option, IsTrue, is_some, option_map}
 use Rattle.std.proofs.lemmas.Bool.{cases_eq, cases_lt}
 use Rattle.std.proofs.lemmas.List.{get_or_past, length-replicate}
 use Rattle.std.proofs.lemmas.Option.{same_Some}
@@ -10,17 +10,20 @@ use Rattle.std.specs.FinMap.{get, insert, remove, len}
 use Rattle.cf_base.specs.Settings.{Profile}
 use Rattle.cf_lemmas.proofs.Maps.{get_inserted, get_insert_other, some_inserted}
 use Rattle.cf_base.specs.declared.kind.Kind.{Kind}
+use Rattle.step_ledger.specs.Counting.{RoseAtMost}
 use Rattle.page_model.specs.Arrangement.{live, pages_for}
 use Rattle.page_model.specs.Bytes.{written}
 use Rattle.page_model.specs.Held.{Objects, objects}
 use Rattle.page_model.specs.Paging.{Paging}
 use Rattle.page_model.proofs.CallerLemmas.{len-objects, length-written}
 use Rattle.cf_model.specs.Answers.{totals_in}
+use Rattle.cf_model.specs.Bounds.{Bounds}
 use Rattle.cf_model.specs.Families.{IsPaged}
 use Rattle.cf_model.specs.State.{HeapState, paging_in}
 use Rattle.large_objects.specs.Growing.{HasObjectRoom, MakesInner}
 use Rattle.large_objects.specs.InnerCalls.{HasInner, IsReadyInner, StaysReady, WritesInner}
 use Rattle.large_objects.specs.Large.{AreInnerCounted, AreLaidOut, KeepsParts, LargeState, named, part_bytes_at}
+use Rattle.large_objects.specs.LargeCosts.{ByCosts, InnerCosts}
 use Rattle.large_objects.specs.LargeSteps.{FitsSpine, FreesLarge, GivesLarge, HasPartRange, HasLargeRoom, HasShort}
 use Rattle.large_objects.specs.LargeSteps.{StaysKept, HasLongSpine, LacksPages, LacksProxies, WritesLarge, part_bytes_in}
 use Rattle.large_objects.specs.Layout.{AreKept, AreLengths, IsValid, gathered_objects, large_state}
@@ -59,6 +62,14 @@ module _ (b : Bool) (pages u : ℕ) (lengths : List (Option ℕ)) (s : HeapState
 
   pub part_is : u ≡ part_bytes_in old
   part_is = kept.part_bytes ∙ ap (λ (s : HeapState). whole_part_bytes s.profile) inner_is
+
+  -- the steps of a malloc or a free, by the state that contracts see
+  pub steps_seen : (most : Option Bounds) (f : InnerCosts → Paging → ℕ → ℕ → ℕ) (n before after : ℕ)
+      → ByCosts s most (λ c. RoseAtMost before after (f c (paging_in s) u n))
+      → ByCosts old.inner most (λ c. RoseAtMost before after (f c (paging_in old.inner) (part_bytes_in old) n))
+  steps_seen most f n before after steps =
+      subst (λ (m : HeapState). ByCosts m most (λ c. RoseAtMost before after (f c (paging_in m) (part_bytes_in old) n))) inner_is
+      (subst (λ k. ByCosts s most (λ c. RoseAtMost before after (f c (paging_in s) k n))) part_is steps)
 
   pub laid : AreLaidOut u old.objects (objects s.held)
   laid = subst (λ (u : ℕ). AreLaidOut u old.objects (objects s.held)) (sym kept.part_bytes) kept.parts.laid
@@ -127,6 +138,7 @@ module _ (b : Bool) (pages u : ℕ) (lengths : List (Option ℕ)) (s : HeapState
           open_now = stays.ready.opened;
           profile = stays.settings.profile ∙ ap (λ (s : HeapState). s.profile) inner_is;
         };
+        promise = stays.promise ∙ ap (λ (s : HeapState). is_some s.order) inner_is;
       };
       parts = parts_new;
     })
@@ -564,6 +576,7 @@ module _ (b : Bool) (pages u : ℕ) (lengths : List (Option ℕ)) (s : HeapState
     stays = record {
       open_now = opened;
       inner = record { kind = refl; open_now = ap (λ (s : HeapState). s.is_open) (sym inner_is) ∙ kept.parts.opened; profile = refl };
+      promise = refl;
     };
     parts = keeps;
   }

@@ -1,6 +1,7 @@
 pub mod Cutting
 pub mod Fitting
 pub mod InnerSteps
+pub mod OrderedCosts
 pub mod CostLemmas
 pub mod Room
 pub mod Summed

@@ -1,52 +1,116 @@
 -- The steps of calls on long objects over a moving manager, as sums over their parts.
-use Rattle.std.proofs.Common.{◌≡◌, ℕ, false, zero, suc, ◌+◌, ◌-◌, ◌*◌, ◌/◌, ◌%◌, ◌<◌, ◌≤◌, min, arith, sym, ◌∙◌, ap, refl, inl, inr}
-use Rattle.std.specs.Prelude.{nat_eq, sum_by}
+use Rattle.std.proofs.Common.{◌≡◌, ℕ, Bool, true, false, zero, suc, ◌+◌, ◌-◌, ◌*◌, ◌/◌, ◌%◌, ◌<◌, ◌≤◌, min, arith, ◌∙◌, ap, refl, inl, inr}
+use Rattle.std.specs.Prelude.{if◌then◌else◌, nat_eq, sum_by}
 use Rattle.std.specs.List.{range_with_len}
-use Rattle.std.proofs.Math.Nat.{div-add-mod, mod-lt}
-use Rattle.std.proofs.lemmas.Bool.{cases_eq, cases_lt}
+use Rattle.std.proofs.Math.Nat.{div-add-mod, div_self, mod-lt}
+use Rattle.std.proofs.lemmas.Bool.{cases_lt}
 use Rattle.std.proofs.lemmas.List.Sums.{sum_by-cons}
 use Rattle.std.proofs.lemmas.Nat.{le-div}
 use Rattle.cf_lemmas.proofs.Tests.{eq_no}
 use Rattle.page_model.specs.Image.{slot_for}
-use Rattle.page_model.specs.Paging.{Paging}
-use Rattle.page_model.proofs.CallerLemmas.{between_multiples}
+use Rattle.page_model.specs.Paging.{Paging, class_for, slot_words}
+use Rattle.page_model.proofs.CallerLemmas.{between_multiples, class_fits, class_holds, slot_fits}
 use Rattle.cf_model.specs.Costs.{words_touched}
-use Rattle.large_objects.specs.LargeCosts.{handle_steps, moving_costs, object_free_steps, object_malloc_steps, parts_access_steps, parts_touched, slots_taken}
-use Rattle.large_objects.specs.InnerObjects.{part_count, part_length}
+use Rattle.cf_model.specs.State.{paging_in}
+use Rattle.large_objects.specs.Large.{KeepsParts, LargeState}
+use Rattle.large_objects.specs.LargeCosts.{handle_steps, inner_free_steps, inner_malloc_steps, moving_costs, object_free_steps, object_malloc_steps, parts_access_steps}
+use Rattle.large_objects.specs.LargeCosts.{parts_touched, shares_page, sharing, slots_taken, slots_with}
+use Rattle.large_objects.specs.LargeSteps.{part_bytes_in}
+use Rattle.large_objects.specs.InnerObjects.{part_count, part_length, spine_bytes}
+use Rattle.large_objects.proofs.AccessLemmas.{is_ready}
 use Rattle.large_objects.proofs.CostLemmas.{access_next, free_long, malloc_long}
+use Rattle.large_objects.proofs.Cutting.{whole_part}
+use Rattle.large_objects.proofs.InnerSteps.{keeps_pages}
+use Rattle.large_objects.proofs.Opening.{some_words}
 
 -- a handle is in one word
 handle_is : (i : ℕ) → handle_steps moving_costs i ≡ 3
 handle_is i = (let e : (4 * i % 8 + 4 + 7) / 8 ≡ 1 = omega arith in omega arith)
 
--- the sum of a number more for each term
-sum_more_each : (f g : ℕ → ℕ) (k a n : ℕ) → ((i : ℕ) → f i ≡ k + g i) → sum_by f (range_with_len a n) ≡ k * n + sum_by g (range_with_len a n)
-sum_more_each f g k a zero each = omega arith
-sum_more_each f g k a (suc n) each =
+-- the sum of k, m times another term, and a third one
+sum_of_three : (f g h : ℕ → ℕ) (k m a n : ℕ) → ((i : ℕ) → f i ≡ k + m * g i + h i)
+    → sum_by f (range_with_len a n) ≡ k * n + m * sum_by g (range_with_len a n) + sum_by h (range_with_len a n)
+sum_of_three f g h k m a zero each = omega arith
+sum_of_three f g h k m a (suc n) each =
     let x = sum_by-cons f a (range_with_len (a + 1) n) in
-    let y = sum_by-cons g a (range_with_len (a + 1) n) in
+    let y = ap (λ s. m * s) (sum_by-cons g a (range_with_len (a + 1) n)) in
+    let z = sum_by-cons h a (range_with_len (a + 1) n) in
     let e = each a in
-    let rest = sum_more_each f g k (a + 1) n each in
+    let rest = sum_of_three f g h k m (a + 1) n each in
     let t : k * suc n ≡ k * n + k = omega arith in
+    let d : m * (g a + sum_by g (range_with_len (a + 1) n)) ≡ m * g a + m * sum_by g (range_with_len (a + 1) n) = omega arith in
     omega arith
 
 sum_none : (a n : ℕ) → sum_by (λ i. 0) (range_with_len a n) ≡ 0
 sum_none a zero = refl
 sum_none a (suc n) = (let x = sum_by-cons (λ i. 0) a (range_with_len (a + 1) n) in let rest = sum_none (a + 1) n in omega arith)
 
-pub malloc_is : (u n : ℕ) → u < n → object_malloc_steps moving_costs u n ≡ 17 + 20 * part_count u n
-malloc_is u n long =
-    let whole = malloc_long moving_costs u n long in
-    let sum = sum_more_each (λ i. 17 + handle_steps moving_costs i) (λ i. 0) 20 0 (part_count u n) (λ i. (let h = handle_is i in omega arith)) in
-    let none = sum_none 0 (part_count u n) in
+-- a malloc and a free of an inner object
+either : (b : Bool) (x m : ℕ) → (if b then x else (x + m)) ≡ x + m * (if b then 0 else 1)
+either true x m = omega arith
+either false x m = omega arith
+
+one_malloc : (p : Paging) (n : ℕ) → inner_malloc_steps moving_costs p n ≡ 15 + 2 * shares_page p n
+one_malloc p n = either (nat_eq (slots_with p n) 1) 15 2
+
+one_free : (p : Paging) (n : ℕ) → inner_free_steps moving_costs p n ≡ 16 + 4 * shares_page p n + slot_for p n
+one_free p n = ap (λ k. k + slot_for p n) (either (nat_eq (slots_with p n) 1) 16 4)
+
+module _ (p : Paging) (u n : ℕ) (long : u < n) where
+  pub malloc_is : object_malloc_steps moving_costs p u n ≡ 15 + 18 * part_count u n + 2 * sharing p u n
+  malloc_is =
+      let whole = malloc_long moving_costs p u n long in
+      let sum = sum_of_three (λ i. inner_malloc_steps moving_costs p (part_length u n i) + handle_steps moving_costs i) (λ i. shares_page p (part_length u n i))
+      (λ i. 0) 18 2 0 (part_count u n) (λ i. (let m = one_malloc p (part_length u n i) in let h = handle_is i in omega arith)) in
+      let none = sum_none 0 (part_count u n) in
+      let spine = one_malloc p (spine_bytes u n) in
+      omega arith
+
+  pub free_is : object_free_steps moving_costs p u n ≡ 16 + 19 * part_count u n + 4 * sharing p u n + slots_taken p u n
+  free_is =
+      let whole = free_long moving_costs p u n long in
+      let sum = sum_of_three (λ i. handle_steps moving_costs i + inner_free_steps moving_costs p (part_length u n i)) (λ i. shares_page p (part_length u n i))
+      (λ i. slot_for p (part_length u n i)) 19 4 0 (part_count u n) (λ i. (let m = one_free p (part_length u n i) in let h = handle_is i in omega arith)) in
+      let spine = one_free p (spine_bytes u n) in
+      omega arith
+
+-- a sum in which each term is at most 1, and each but the last is 0
+sum_last : (f : ℕ → ℕ) (a n : ℕ) → ((i : ℕ) → f i ≤ 1) → ((i : ℕ) → i + 1 < a + n → f i ≡ 0) → sum_by f (range_with_len a n) ≤ 1
+sum_last f a zero few none = omega arith
+sum_last f a (suc zero) few none = (let x = sum_by-cons f a (range_with_len (a + 1) 0) in let one = few a in omega arith)
+sum_last f a (suc (suc n)) few none =
+    let x = sum_by-cons f a (range_with_len (a + 1) (suc n)) in
+    let first = none a (omega arith) in
+    let rest = sum_last f (a + 1) (suc n) few (λ i lt. none i (omega arith)) in
     omega arith
 
-pub free_is : (p : Paging) (u n : ℕ) → u < n → object_free_steps moving_costs p u n ≡ 20 + 23 * part_count u n + slots_taken p u n
-free_is p u n long =
-    let whole = free_long moving_costs p u n long in
-    let sum = sum_more_each (λ i. handle_steps moving_costs i + (20 + slot_for p (part_length u n i))) (λ i. slot_for p (part_length u n i)) 23 0 (part_count u n)
-    (λ i. (let h = handle_is i in omega arith)) in
-    omega arith
+-- a whole part has a page of its own, so at most the last part and the spine share theirs
+module _ (s : LargeState) (keeps : KeepsParts s) where
+  own_page : shares_page (paging_in s.inner) (part_bytes_in s) ≡ 0
+  own_page =
+      let p : Paging = paging_in s.inner in
+      let ok = (keeps_pages s.inner (is_ready s keeps)).paging in
+      let some = some_words p.page_words keeps.rules.settings.page_size in
+      let below = class_fits p ok (part_bytes_in s) (omega arith) in
+      let holds = class_holds p ok (part_bytes_in s) below in
+      let fits = slot_fits p ok (class_for p (part_bytes_in s)) below in
+      let same : slot_words p (class_for p (part_bytes_in s)) ≡ p.page_words = omega arith in
+      let one : slots_with p (part_bytes_in s) ≡ 1 = ap (λ k. p.page_words / k) same ∙ div_self {n = p.page_words} (omega arith) in
+      ap (λ k. if nat_eq k 1 then 0 else 1) one
+
+  pub few_share : (n : ℕ) → part_bytes_in s < n → sharing (paging_in s.inner) (part_bytes_in s) n ≤ 2
+  few_share n long =
+      let p : Paging = paging_in s.inner in
+      let u : ℕ = part_bytes_in s in
+      let some = some_words p.page_words keeps.rules.settings.page_size in
+      let parts = sum_last (λ i. shares_page p (part_length u n i)) 0 (part_count u n) (λ i. at_most_one (nat_eq (slots_with p (part_length u n i)) 1))
+      (λ i lt. (let below : i + 1 < part_count u n = omega arith in ap (shares_page p) (whole_part u n (omega arith) i below) ∙ own_page)) in
+      let spine = at_most_one (nat_eq (slots_with p (spine_bytes u n)) 1) in
+      omega arith
+    where
+      at_most_one : (b : Bool) → (if b then 0 else 1) ≤ 1
+      at_most_one true = omega arith
+      at_most_one false = omega arith
 
 -- the words of a range, and of its two halves if the first ends where a word ends
 words_are : (a n : ℕ) → 0 < n → words_touched a n ≡ (a % 8 + n + 7) / 8

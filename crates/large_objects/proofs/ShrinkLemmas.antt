@@ -9,7 +9,6 @@ use Rattle.cf_lemmas.proofs.Maps.{get_removed, get_remove_other, len_fresh}
 use Rattle.cf_lemmas.proofs.Ranges.{one}
 use Rattle.cf_lemmas.proofs.Sums.{put_back}
 use Rattle.step_ledger.specs.Counting.{RoseAtMost}
-use Rattle.page_model.specs.Image.{slot_for}
 use Rattle.page_model.specs.Held.{Objects, objects}
 use Rattle.page_model.specs.Paging.{Paging, class_for}
 use Rattle.page_model.proofs.CallerLemmas.{live_taken}
@@ -18,7 +17,7 @@ use Rattle.large_objects.specs.InnerCalls.{FreesInner, HasInner, IsReadyInner}
 use Rattle.large_objects.specs.Large.{bytes_found, handle_at, named}
 use Rattle.large_objects.specs.InnerObjects.{inner_lengths, part_length, part_count, spine_bytes}
 use Rattle.large_objects.specs.Shrinking.{HasParts, IsShrinking, ReleasesLong, Shrinks}
-use Rattle.large_objects.specs.LargeCosts.{InnerCosts, handle_steps, parts_free_steps}
+use Rattle.large_objects.specs.LargeCosts.{InnerCosts, handle_steps, inner_free_steps, parts_free_steps}
 use Rattle.large_objects.proofs.CostLemmas.{free_next, parts_free_from}
 use Rattle.large_objects.proofs.Cutting.{in_class_more, in_class_take_none, length_long, inner_length_is}
 use Rattle.large_objects.proofs.InnerSteps.{inner_small, same_paging, same_ready, then_ready}
@@ -114,15 +113,14 @@ module _ (u n : ℕ) (old now : HeapState) (h i : ℕ) (some : 0 < u) (long : u 
   pub free_more : (c : InnerCosts) (start before after : ℕ)
       → before + parts_free_from c (paging_in old) u n i ≤ start + parts_free_steps c (paging_in old) u n
       → ((v : List ℕ) → get (objects now.held) (named (objects now.held) h i) ≡ Some v
-      → RoseAtMost before after (handle_steps c i + c.free (slot_for (paging_in now) (length v))))
+      → RoseAtMost before after (handle_steps c i + inner_free_steps c (paging_in now) (length v)))
       → after + parts_free_from c (paging_in old) u n (i + 1) ≤ start + parts_free_steps c (paging_in old) u n
   unfolding next_there
   free_more c start before after so_far part =
       let v = (has.made i below).0 in
       let rose = part v next_there.found in
-      let slot : c.free (slot_for (paging_in now) (length v)) ≡ c.free (slot_for (paging_in old) (part_length u n i)) =
-      ap (λ p. c.free (slot_for p (length v))) (same_paging old now g.stays.settings)
-      ∙ ap (λ k. c.free (slot_for (paging_in old) k)) (has.made i below).2 in
+      let slot : inner_free_steps c (paging_in now) (length v) ≡ inner_free_steps c (paging_in old) (part_length u n i) =
+      ap (λ p. inner_free_steps c p (length v)) (same_paging old now g.stays.settings) ∙ ap (inner_free_steps c (paging_in old)) (has.made i below).2 in
       let next = free_next c (paging_in old) u n i below in
       let b = rose.bound in omega arith
 
@@ -157,11 +155,10 @@ releases_long u n old now new h long g frees = record {
 -- the steps of freeing the spine
 pub spine_costs : (u n : ℕ) (old now : HeapState) (h : ℕ) → HasParts u n (objects old.held) h → Shrinks u n old h (part_count u n) now
     → (c : InnerCosts) (before after : ℕ)
-    → ((v : List ℕ) → get (objects now.held) h ≡ Some v → RoseAtMost before after (c.free (slot_for (paging_in now) (length v))))
-    → RoseAtMost before after (c.free (slot_for (paging_in old) (spine_bytes u n)))
+    → ((v : List ℕ) → get (objects now.held) h ≡ Some v → RoseAtMost before after (inner_free_steps c (paging_in now) (length v)))
+    → RoseAtMost before after (inner_free_steps c (paging_in old) (spine_bytes u n))
 spine_costs u n old now h has g c before after spine =
     let found = g.shrinking.others h (λ j lt e. has.not_spine j lt (sym e)) ∙ has.spine.found in
-    let slot : c.free (slot_for (paging_in now) (length has.spine.spine)) ≡ c.free (slot_for (paging_in old) (spine_bytes u n)) =
-    ap (λ p. c.free (slot_for p (length has.spine.spine))) (same_paging old now g.stays.settings)
-    ∙ ap (λ k. c.free (slot_for (paging_in old) k)) has.spine.long in
+    let slot : inner_free_steps c (paging_in now) (length has.spine.spine) ≡ inner_free_steps c (paging_in old) (spine_bytes u n) =
+    ap (λ p. inner_free_steps c p (length has.spine.spine)) (same_paging old now g.stays.settings) ∙ ap (inner_free_steps c (paging_in old)) has.spine.long in
     rw slot at (spine has.spine.spine found)

@@ -8,6 +8,7 @@ use Rattle.page_model.specs.Bytes.{written}
 use Rattle.page_model.specs.Held.{objects}
 use Rattle.page_model.specs.Paging.{EveryBoundIsOne}
 use Rattle.cf_model.specs.Families.{IsPaged}
+use Rattle.cf_model.specs.Ordered.{KeepsPromise}
 use Rattle.cf_model.specs.Rules.{KeepsRules}
 use Rattle.cf_model.specs.State.{HeapState, paging_in}
 use Rattle.cf_model.specs.Steps.{KeepsSettings}
@@ -19,9 +20,10 @@ pub record IsReadyInner (s : HeapState) : Type 0 where
   pub pages : IsPaged s.kind
   pub ones : EveryBoundIsOne (paging_in s)
 
--- after a call the manager has the same settings and bounds, and is ready
+-- after a call the manager has the same settings and bounds, promises an order if it did before, and is ready
 pub record StaysReady (old new : HeapState) : Type 0 where
   pub settings : KeepsSettings old new
+  pub promise : KeepsPromise old new
   pub ready : IsReadyInner new
 
 -- the manager has room for one more inner object of n bytes

@@ -1,56 +1,77 @@
 -- How many steps the calls of a heap of long objects take, from those of its inner manager. In all definitions u is the bytes of a whole part.
-use Rattle.std.specs.Prelude.{◌≡◌, ℕ, ◌+◌, ◌-◌, ◌*◌, ◌/◌, ◌^◌, ◌≤◌, Option, Some, None, Result, Ok, Err, if◌then◌else◌, length, min, nat_eq, nat_le, sum_by}
+use Rattle.std.specs.Prelude.{◌≡◌, ℕ, Bool, ◌&&◌, ◌+◌, ◌-◌, ◌*◌, ◌/◌, ◌^◌, ◌≤◌, Option, Some, None, Result, Ok, Err, if◌then◌else◌, is_some, length, min, nat_eq, nat_le}
+use Rattle.std.specs.Prelude.{sum_by}
 use Rattle.std.specs.FinMap.{get}
 use Rattle.std.specs.List.{range_with_len}
 use Rattle.cf_base.specs.declared.answers.AccessFault.{AccessFault}
 use Rattle.cf_base.specs.declared.answers.Freed.{Freed}
 use Rattle.cf_base.specs.declared.answers.Handle.{Handle}
 use Rattle.cf_base.specs.declared.answers.Refusal.{Refusal}
+use Rattle.cf_base.specs.declared.kind.Kind.{Kind}
 use Rattle.cf_model.specs.Bounds.{Bounds}
 use Rattle.cf_model.specs.State.{HeapState, paging_in}
 use Rattle.cf_model.specs.Steps.{Position}
 use Rattle.cf_model.specs.Costs.{words_touched}
 use Rattle.page_model.specs.Image.{slot_for}
-use Rattle.page_model.specs.Paging.{Paging}
-use Rattle.page_model.specs.WordSteps.{blocks_of}
+use Rattle.page_model.specs.Order.{drop_steps, new_page_steps, word_steps}
+use Rattle.page_model.specs.Paging.{Paging, class_for, slots_of}
+use Rattle.page_model.specs.WordSteps.{blocks_of, wipe_steps}
 use Rattle.large_objects.specs.Large.{LargeState}
 use Rattle.large_objects.specs.LargeSteps.{part_bytes_in}
 use Rattle.large_objects.specs.InnerObjects.{part_count, part_length, spine_bytes}
 
--- The steps of calls of an inner manager: at most `malloc` for a malloc, at most `free s` for a free of a slot of s words, and exactly `access from count` for a
--- read or a write of `count` bytes from byte `from` on.
+-- how many slots a page has in the class of an object of n bytes
+abbrev pub slots_with : Paging → ℕ → ℕ
+slots_with p n = slots_of p (class_for p n)
+
+-- The steps of calls of an inner manager. In a class with k slots to a page a malloc takes at most `malloc k`, and a free of a slot of s words at most
+-- `free k s`. A read or a write of `count` bytes from byte `from` on takes exactly `access from count`.
 pub record InnerCosts : Type 0 where
-  pub malloc : ℕ
-  pub free : ℕ → ℕ
+  pub malloc : ℕ → ℕ
+  pub free : ℕ → ℕ → ℕ
   pub access : ℕ → ℕ → ℕ
 
--- the steps c follow from a manager's own bounds b, and its totals take no step
-pub record FollowFrom (b : Bounds) (c : InnerCosts) : Type 0 where
-  pub malloc : (h : Handle) → b.malloc (Ok h) ≤ c.malloc
-  pub free : (freed : Freed) → b.free (Ok freed) ≤ c.free freed.slot_words
+-- the exact steps of a malloc in order whose slot is a page of its own: it takes a free page, since none with one slot is partly full
+abbrev pub page_malloc_steps : Kind → ℕ
+page_malloc_steps kind = 3 + word_steps kind + new_page_steps
+
+-- those of a free of such a slot of s words: it clears the slot and empties the page, and no object moves
+abbrev pub page_free_steps : Kind → ℕ → ℕ
+page_free_steps kind s = 5 + word_steps kind + (wipe_steps kind s + drop_steps 1 1)
+
+-- The steps c follow from a manager's own bounds b, and its totals take no step. If it promises an order (`ordered`), those of a slot that is a page of its own
+-- follow from the order.
+pub record FollowFrom (kind : Kind) (ordered : Bool) (b : Bounds) (c : InnerCosts) : Type 0 where
+  pub malloc : (k : ℕ) (h : Handle) → (if ordered && nat_eq k 1 then page_malloc_steps kind else b.malloc (Ok h)) ≤ c.malloc k
+  pub free : (k : ℕ) (freed : Freed)
+      → (if ordered && nat_eq k 1 then page_free_steps kind freed.slot_words else b.free (Ok freed)) ≤ c.free k freed.slot_words
   pub access : (from count : ℕ) (u : Unit {0}) → b.access from count (Ok u) ≡ c.access from count
   pub totals : (s : HeapState) → b.totals_exact s ≡ 0
 
--- the steps c follow from the own bounds of the inner manager, which must have some
-abbrev pub AreInnerCosts : Option Bounds → InnerCosts → Type 0
-AreInnerCosts None c = ⊥
-AreInnerCosts (Some b) c = FollowFrom b c
+-- the steps c follow from the own bounds of the inner manager s, which must have some
+abbrev pub AreInnerCosts : HeapState → Option Bounds → InnerCosts → Type 0
+AreInnerCosts s None c = ⊥
+AreInnerCosts s (Some b) c = FollowFrom s.kind (is_some s.order) b c
 
--- the steps of a moving manager's calls; of an access two, and one for each word that has one of its bytes
+-- the steps of calls of a moving manager that promises an order; of an access two, and one for each word that has one of its bytes
 abbrev pub moving_costs : InnerCosts
-moving_costs = record { malloc = 17; free = λ s. 20 + s; access = λ from count. 2 + words_touched from count }
+moving_costs = record {
+  malloc = λ k. if nat_eq k 1 then 15 else 17;
+  free = λ k s. (if nat_eq k 1 then 16 else 20) + s;
+  access = λ from count. 2 + words_touched from count;
+}
 
 -- those of a non-moving one; of an access three, and one for each word and for each block of four words that has one of its bytes
 abbrev pub nonmoving_costs : InnerCosts
 nonmoving_costs = record {
-  malloc = 18;
-  free = λ s. 22 + (s + s / 2);
+  malloc = λ k. if nat_eq k 1 then 16 else 18;
+  free = λ k s. if nat_eq k 1 then 17 + (s + s / 4) else 22 + (s + s / 2);
   access = λ from count. 3 + (words_touched from count + blocks_of (1 + from / 8) (words_touched from count));
 }
 
--- the claim p holds of all steps that follow from the own bounds of the inner manager
-abbrev pub ByCosts : Option Bounds → (InnerCosts → Type 0) → Type 0
-ByCosts most p = (c : InnerCosts) → AreInnerCosts most c → p c
+-- the claim p holds of all steps that follow from the own bounds of the inner manager s
+abbrev pub ByCosts : HeapState → Option Bounds → (InnerCosts → Type 0) → Type 0
+ByCosts s most p = (c : InnerCosts) → AreInnerCosts s most c → p c
 
 -- the count with which a call begins: the meter's, or 0 if the meter's is above 2 ^ 62, for then the call resets the meter
 abbrev pub first_count : ℕ → ℕ
@@ -60,23 +81,29 @@ first_count count = if nat_le count (2 ^ 62) then count else 0
 abbrev pub handle_steps : InnerCosts → ℕ → ℕ
 handle_steps c i = c.access (4 * i) 4
 
+-- a malloc, and a free, of an inner object of n bytes
+abbrev pub inner_malloc_steps : InnerCosts → Paging → ℕ → ℕ
+inner_malloc_steps c p n = c.malloc (slots_with p n)
+
+abbrev pub inner_free_steps : InnerCosts → Paging → ℕ → ℕ
+inner_free_steps c p n = c.free (slots_with p n) (slot_for p n)
+
 -- making the parts of an object of n bytes: for each an object, and its handle in the spine
-abbrev pub parts_malloc_steps : InnerCosts → ℕ → ℕ → ℕ
-parts_malloc_steps c u n = sum_by (λ i. c.malloc + handle_steps c i) (range_with_len 0 (part_count u n))
+abbrev pub parts_malloc_steps : InnerCosts → Paging → ℕ → ℕ → ℕ
+parts_malloc_steps c p u n = sum_by (λ i. inner_malloc_steps c p (part_length u n i) + handle_steps c i) (range_with_len 0 (part_count u n))
 
 -- freeing the parts of an object of n bytes: for each its handle in the spine, and an object
 abbrev pub parts_free_steps : InnerCosts → Paging → ℕ → ℕ → ℕ
-parts_free_steps c p u n = sum_by (λ i. handle_steps c i + c.free (slot_for p (part_length u n i))) (range_with_len 0 (part_count u n))
+parts_free_steps c p u n = sum_by (λ i. handle_steps c i + inner_free_steps c p (part_length u n i)) (range_with_len 0 (part_count u n))
 
 -- a malloc of n bytes: one object if it fits a page, else a spine and the parts
-abbrev pub object_malloc_steps : InnerCosts → ℕ → ℕ → ℕ
-object_malloc_steps c u n = if nat_le n u then c.malloc else c.malloc + parts_malloc_steps c u n
+abbrev pub object_malloc_steps : InnerCosts → Paging → ℕ → ℕ → ℕ
+object_malloc_steps c p u n = if nat_le n u then inner_malloc_steps c p n else inner_malloc_steps c p (spine_bytes u n) + parts_malloc_steps c p u n
 
 -- a free of an object of n bytes: one object if it fits a page, else the parts and the spine
 abbrev pub object_free_steps : InnerCosts → Paging → ℕ → ℕ → ℕ
 object_free_steps c p u n =
-    if nat_le n u then c.free (slot_for p n)
-    else parts_free_steps c p u n + c.free (slot_for p (spine_bytes u n))
+    if nat_le n u then inner_free_steps c p n else parts_free_steps c p u n + inner_free_steps c p (spine_bytes u n)
 
 -- the bytes of part i that are among the `count` bytes from byte `at` of the object on
 abbrev pub bytes_in_part : ℕ → ℕ → ℕ → ℕ → ℕ
@@ -96,9 +123,9 @@ abbrev pub object_access_steps : InnerCosts → ℕ → ℕ → ℕ → ℕ → 
 object_access_steps c u n at count = if nat_le n u then c.access at count else parts_access_steps c u at count
 
 -- the most steps of a malloc of n bytes by its result; none if refused
-abbrev pub large_malloc_steps : InnerCosts → ℕ → ℕ → Result Handle Refusal → ℕ
-large_malloc_steps c u n (Ok h) = object_malloc_steps c u n
-large_malloc_steps c u n (Err e) = 0
+abbrev pub large_malloc_steps : InnerCosts → LargeState → ℕ → Result Handle Refusal → ℕ
+large_malloc_steps c s n (Ok h) = object_malloc_steps c (paging_in s.inner) (part_bytes_in s) n
+large_malloc_steps c s n (Err e) = 0
 
 -- the most steps of a free of object h; none if it isn't live
 abbrev pub large_free_steps : InnerCosts → LargeState → ℕ → ℕ
@@ -113,3 +140,11 @@ large_access_steps c s position count (Err e) = 0
 -- the words of the slots of an object of n bytes, which is longer than a page: those of its parts and of its spine
 abbrev pub slots_taken : Paging → ℕ → ℕ → ℕ
 slots_taken p u n = sum_by (λ i. slot_for p (part_length u n i)) (range_with_len 0 (part_count u n)) + slot_for p (spine_bytes u n)
+
+-- 1 if an object of n bytes shares its page, whose class has several slots a page; else 0
+abbrev pub shares_page : Paging → ℕ → ℕ
+shares_page p n = if nat_eq (slots_with p n) 1 then 0 else 1
+
+-- how many of the inner objects of an object of n bytes, which is longer than a page, share their pages: of its parts and its spine
+abbrev pub sharing : Paging → ℕ → ℕ → ℕ
+sharing p u n = sum_by (λ i. shares_page p (part_length u n i)) (range_with_len 0 (part_count u n)) + shares_page p (spine_bytes u n)

@@ -10,6 +10,7 @@ use Rattle.cf_base.specs.declared.answers.Refusal.{Refusal}
 use Rattle.cf_base.specs.declared.answers.Refusal.TheVariants as refusal
 use Rattle.cf_base.specs.declared.settings.Settings.{Settings}
 use Rattle.page_model.specs.Bytes.{written}
+use Rattle.cf_model.specs.Ordered.{KeepsPromise}
 use Rattle.cf_model.specs.State.{paging_in}
 use Rattle.cf_model.specs.Steps.{IsClosed, IsEmptyHeap, Position, StaysOpen}
 use Rattle.large_objects.specs.Large.{KeepsParts, LargeState}
@@ -31,10 +32,11 @@ pub record IsShutLarge (old new : LargeState) : Type 0 where
   pub none : new.objects ≡ empty
   pub inner : (new.inner ≡ old.inner) ⊎ IsClosed old.inner new.inner
 
--- after a call the heap is open under the same settings
+-- after a call the heap is open under the same settings, and the inner manager promises an order if it did before
 pub record StaysOpenLarge (old new : LargeState) : Type 0 where
   pub open_now : new.is_open ≡ true
   pub inner : StaysOpen old.inner new.inner
+  pub promise : KeepsPromise old.inner new.inner
 
 -- an object of n bytes fits a page, or its spine does; a whole part has u bytes
 abbrev pub FitsSpine : ℕ → ℕ → Type 0

@@ -21,7 +21,7 @@ impl<H: Manager> LargeHeap<H> {
         requires low { steps.old ≤ 2 ^ 62 }
         ensures writes { WritesLarge self.old (record { number = h.0; from = at }) bytes.now self.new }
         ensures kept { StaysKept self.old self.new }
-        ensures steps { ByCosts H.most (λ c. steps.new ≡ steps.old + c.access at (length bytes.now)) }
+        ensures steps { ByCosts self.old.inner H.most (λ c. steps.new ≡ steps.old + c.access at (length bytes.now)) }
     {
         write_inner(&mut self.inner, h, at, bytes, steps);
     }
@@ -35,7 +35,7 @@ impl<H: Manager> LargeHeap<H> {
         requires low { steps.old ≤ 2 ^ 62 }
         ensures writes { WritesLarge self.old (record { number = h.0; from = at }) bytes.now self.new }
         ensures kept { StaysKept self.old self.new }
-        ensures steps { ByCosts H.most (λ c. steps.new ≡ steps.old + parts_access_steps c (part_bytes_in self.old) at (length bytes.now)) }
+        ensures steps { ByCosts self.old.inner H.most (λ c. steps.new ≡ steps.old + parts_access_steps c (part_bytes_in self.old) at (length bytes.now)) }
     {
         let part_bytes = self.part_bytes as usize;
         let mut done = 0;
@@ -58,7 +58,7 @@ impl<H: Manager> LargeHeap<H> {
         ensures writes { WritesLarge self.old (record { number = h.0; from = part_bytes_in self.old * i + at }) bytes.now self.new }
         ensures kept { StaysKept self.old self.new }
         ensures few { RoseAtMost steps.old steps.new (132 + length bytes.now) }
-        ensures steps { ByCosts H.most (λ c. steps.new ≡ steps.old + (handle_steps c i + c.access at (length bytes.now))) }
+        ensures steps { ByCosts self.old.inner H.most (λ c. steps.new ≡ steps.old + (handle_steps c i + c.access at (length bytes.now))) }
     {
         let part = part_handle(&self.inner, h, i, steps);
         write_inner(&mut self.inner, part, at, bytes, steps);
@@ -70,7 +70,7 @@ impl<H: Manager> LargeHeap<H> {
         requires has { HasShort self.now h.0 at (length out.old) }
         requires low { steps.old ≤ 2 ^ 62 }
         ensures value { (v : List ℕ) → get self.now.objects h.0 ≡ Some v → out.new ≡ take (length out.old) (drop at v) }
-        ensures steps { ByCosts H.most (λ c. steps.new ≡ steps.old + c.access at (length out.old)) }
+        ensures steps { ByCosts self.now.inner H.most (λ c. steps.new ≡ steps.old + c.access at (length out.old)) }
     {
         read_inner(&self.inner, h, at, out, steps);
     }
@@ -83,7 +83,7 @@ impl<H: Manager> LargeHeap<H> {
         requires small { length out.old < 2 ^ 32 }
         requires low { steps.old ≤ 2 ^ 62 }
         ensures value { (v : List ℕ) → get self.now.objects h.0 ≡ Some v → out.new ≡ take (length out.old) (drop at v) }
-        ensures steps { ByCosts H.most (λ c. steps.new ≡ steps.old + parts_access_steps c (part_bytes_in self.now) at (length out.old)) }
+        ensures steps { ByCosts self.now.inner H.most (λ c. steps.new ≡ steps.old + parts_access_steps c (part_bytes_in self.now) at (length out.old)) }
     {
         let part_bytes = self.part_bytes as usize;
         let mut done = 0;
@@ -106,7 +106,7 @@ impl<H: Manager> LargeHeap<H> {
         ensures value { (v : List ℕ) → get self.now.objects h.0 ≡ Some v
             → out.new ≡ take (length out.old) (drop (part_bytes_in self.now * i + at) v) }
         ensures few { RoseAtMost steps.old steps.new (132 + length out.old) }
-        ensures steps { ByCosts H.most (λ c. steps.new ≡ steps.old + (handle_steps c i + c.access at (length out.old))) }
+        ensures steps { ByCosts self.now.inner H.most (λ c. steps.new ≡ steps.old + (handle_steps c i + c.access at (length out.old))) }
     {
         let part = part_handle(&self.inner, h, i, steps);
         read_inner(&self.inner, part, at, out, steps);

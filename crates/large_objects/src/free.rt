@@ -4,11 +4,10 @@ ghost use Rattle.std.specs.Prelude.{◌≡◌, ℕ, ◌+◌, ◌*◌, ◌<◌, �
 ghost use Rattle.std.specs.FinMap.{get};
 ghost use Rattle.step_ledger.specs.Counting.{RoseAtMost};
 ghost use Rattle.page_model.specs.Held.{objects};
-ghost use Rattle.page_model.specs.Image.{slot_for};
 ghost use Rattle.cf_model.specs.State.{paging_in};
 ghost use Rattle.large_objects.specs.InnerCalls.{FreesInner, HasInner, IsReadyInner};
 ghost use Rattle.large_objects.specs.Large.{named};
-ghost use Rattle.large_objects.specs.LargeCosts.{ByCosts, handle_steps, parts_free_steps, object_free_steps};
+ghost use Rattle.large_objects.specs.LargeCosts.{ByCosts, handle_steps, inner_free_steps, object_free_steps, parts_free_steps};
 ghost use Rattle.large_objects.specs.InnerObjects.{part_count};
 ghost use Rattle.large_objects.specs.Shrinking.{HasInnerObjects, HasParts, ReleasesInner, ReleasesLong, Shrinks};
 
@@ -33,7 +32,8 @@ pub(crate) fn release<H: Manager>(
     requires has { HasInnerObjects part_bytes bytes (H.state inner.old) h.0 }
     requires low { steps.old ≤ 2 ^ 62 }
     ensures step { ReleasesInner part_bytes bytes (H.state inner.old) h.0 (H.state inner.new) }
-    ensures steps { ByCosts H.most (λ c. RoseAtMost steps.old steps.new (object_free_steps c (paging_in (H.state inner.old)) part_bytes bytes)) }
+    ensures steps { ByCosts (H.state inner.old) H.most (λ c. RoseAtMost steps.old steps.new
+        (object_free_steps c (paging_in (H.state inner.old)) part_bytes bytes)) }
 {
     if bytes <= part_bytes {
         release_inner(inner, h, steps);
@@ -56,7 +56,8 @@ fn release_long<H: Manager>(
     requires long { part_bytes < bytes }
     requires low { steps.old ≤ 2 ^ 62 }
     ensures step { ReleasesLong part_bytes bytes (H.state inner.old) spine.0 (H.state inner.new) }
-    ensures steps { ByCosts H.most (λ c. RoseAtMost steps.old steps.new (object_free_steps c (paging_in (H.state inner.old)) part_bytes bytes)) }
+    ensures steps { ByCosts (H.state inner.old) H.most (λ c. RoseAtMost steps.old steps.new
+        (object_free_steps c (paging_in (H.state inner.old)) part_bytes bytes)) }
 {
     release_parts(inner, spine, bytes, part_bytes, steps);
     release_inner(inner, spine, steps);
@@ -78,7 +79,8 @@ fn release_parts<H: Manager>(
     requires low { steps.old ≤ 2 ^ 62 }
     ensures step { Shrinks part_bytes bytes (H.state inner.old) spine.0 (part_count part_bytes bytes) (H.state inner.new) }
     ensures few { RoseAtMost steps.old steps.new (2 ^ 62) }
-    ensures steps { ByCosts H.most (λ c. RoseAtMost steps.old steps.new (parts_free_steps c (paging_in (H.state inner.old)) part_bytes bytes)) }
+    ensures steps { ByCosts (H.state inner.old) H.most (λ c. RoseAtMost steps.old steps.new
+        (parts_free_steps c (paging_in (H.state inner.old)) part_bytes bytes)) }
 {
     for i in 0..count_parts(bytes, part_bytes) {
         release_part(inner, spine, i, steps);
@@ -93,8 +95,9 @@ fn release_part<H: Manager>(inner: &mut H, spine: Handle, i: u32, steps: &mut St
     requires low { steps.old + 68 ≤ 2 ^ 63 }
     ensures step { FreesInner (H.state inner.old) (named (objects (H.state inner.old).held) spine.0 i) (H.state inner.new) }
     ensures few { RoseAtMost steps.old steps.new (2 ^ 26) }
-    ensures steps { ByCosts H.most (λ c. (v : List ℕ) → get (objects (H.state inner.old).held) (named (objects (H.state inner.old).held) spine.0 i) ≡ Some v
-        → RoseAtMost steps.old steps.new (handle_steps c i + c.free (slot_for (paging_in (H.state inner.old)) (length v)))) }
+    ensures steps { ByCosts (H.state inner.old) H.most (λ c. (v : List ℕ)
+        → get (objects (H.state inner.old).held) (named (objects (H.state inner.old).held) spine.0 i) ≡ Some v
+        → RoseAtMost steps.old steps.new (handle_steps c i + inner_free_steps c (paging_in (H.state inner.old)) (length v))) }
 {
     let part = part_handle(inner, spine, i, steps);
     release_inner(inner, part, steps);

@@ -4,6 +4,7 @@ ghost use Rattle.std.specs.Prelude.{◌≡◌, ◌+◌, ◌^◌, ◌<◌, ◌≤
 ghost use Rattle.std.specs.FinMap.{get};
 ghost use Rattle.cf_lemmas.specs.Maps.{vacant};
 ghost use Rattle.cf_model.specs.Families.{IsPaged};
+ghost use Rattle.cf_model.specs.Ordered.{KeepsPromise};
 ghost use Rattle.cf_model.specs.State.{paging_in};
 ghost use Rattle.step_ledger.specs.Counting.{RoseAtMost};
 ghost use Rattle.large_objects.specs.Large.{KeepsParts};
@@ -98,7 +99,7 @@ impl<H: Manager> LargeHeap<H> {
     /// Opens an empty heap with the settings `s`, whose bound is 1; an open heap loses its objects.
     /// Allocates all memory: that of the inner manager, and a table with a length for each proxy. After
     /// `OutOfMemory` the heap is closed, and the inner manager is unchanged or closed; the heap may be
-    /// opened again.
+    /// opened again. A manager that promised an order promises one afterwards.
     pub fn open_heap(&mut self, s: &Settings) -> Result<(), OutOfMemory>
         requires pages { IsPaged self.old.inner.kind }
         requires one { s.now.k ≡ 1 }
@@ -106,6 +107,7 @@ impl<H: Manager> LargeHeap<H> {
         ensures parts { OnOk result (KeepsParts self.new) }
         ensures err { OnErr result (IsShutLarge self.old self.new) }
         ensures kind { self.new.inner.kind ≡ self.old.inner.kind }
+        ensures promise { KeepsPromise self.old.inner self.new.inner }
     {
         self.is_open = false;
         self.lengths = Vec::new(self.alloc);
@@ -132,7 +134,8 @@ impl<H: Manager> LargeHeap<H> {
         requires { IsTrue self.old.is_open }
         ensures step { IsLargeMalloc self.old bytes result self.new }
         ensures kept { StaysKept self.old self.new }
-        ensures steps { ByCosts H.most (λ c. RoseAtMost (first_count meter.old) meter.new (large_malloc_steps c (part_bytes_in self.old) bytes result)) }
+        ensures steps { ByCosts self.old.inner H.most (λ c. RoseAtMost (first_count meter.old) meter.new
+            (large_malloc_steps c self.old bytes result)) }
     {
         make_room(meter);
         match self.refusal(bytes, meter.steps()) {
@@ -152,7 +155,8 @@ impl<H: Manager> LargeHeap<H> {
         requires { IsTrue self.old.is_open }
         ensures step { IsLargeFree self.old h.0 result self.new }
         ensures kept { StaysKept self.old self.new }
-        ensures steps { ByCosts H.most (λ c. RoseAtMost (first_count meter.old) meter.new (large_free_steps c self.old h.0)) }
+        ensures steps { ByCosts self.old.inner H.most (λ c. RoseAtMost (first_count meter.old) meter.new
+            (large_free_steps c self.old h.0)) }
     {
         make_room(meter);
         match self.length_of(h) {
@@ -178,7 +182,7 @@ impl<H: Manager> LargeHeap<H> {
         requires { IsTrue self.old.is_open }
         ensures step { IsLargeWrite self.old (record { number = h.0; from = at }) bytes.now result self.new }
         ensures kept { StaysKept self.old self.new }
-        ensures steps { ByCosts H.most (λ c. meter.new ≡ first_count meter.old
+        ensures steps { ByCosts self.old.inner H.most (λ c. meter.new ≡ first_count meter.old
             + large_access_steps c self.old (record { number = h.0; from = at }) (length bytes.now) result) }
     {
         make_room(meter);
@@ -208,7 +212,7 @@ impl<H: Manager> LargeHeap<H> {
         requires { IsTrue self.now.is_open }
         ensures answer { IsLargeRead self.now (record { number = h.0; from = at }) out.old result out.new }
         ensures kept { KeepsParts self.now }
-        ensures steps { ByCosts H.most (λ c. meter.new ≡ first_count meter.old
+        ensures steps { ByCosts self.now.inner H.most (λ c. meter.new ≡ first_count meter.old
             + large_access_steps c self.now (record { number = h.0; from = at }) (length out.old) result) }
     {
         make_room(meter);
@@ -232,7 +236,8 @@ impl<H: Manager> LargeHeap<H> {
         requires low { steps.old ≤ 2 ^ 62 }
         ensures given { GivesLarge self.old result.0 bytes self.new }
         ensures kept { StaysKept self.old self.new }
-        ensures steps { ByCosts H.most (λ c. RoseAtMost steps.old steps.new (object_malloc_steps c (part_bytes_in self.old) bytes)) }
+        ensures steps { ByCosts self.old.inner H.most (λ c. RoseAtMost steps.old steps.new
+            (object_malloc_steps c (paging_in self.old.inner) (part_bytes_in self.old) bytes)) }
     {
         let h = make(&mut self.inner, bytes, self.part_bytes, steps);
         self.lengths[h.0 as usize] = Some(bytes);
@@ -246,7 +251,7 @@ impl<H: Manager> LargeHeap<H> {
         requires low { steps.old ≤ 2 ^ 62 }
         ensures freed { FreesLarge self.old h.0 self.new }
         ensures kept { StaysKept self.old self.new }
-        ensures steps { ByCosts H.most (λ c. RoseAtMost steps.old steps.new
+        ensures steps { ByCosts self.old.inner H.most (λ c. RoseAtMost steps.old steps.new
             (object_free_steps c (paging_in self.old.inner) (part_bytes_in self.old) bytes)) }
     {
         release(&mut self.inner, h, bytes, self.part_bytes, steps);

@@ -1,14 +1,13 @@
 //! Calls of the inner manager that it can't refuse: each function requires that there is room, or that the
 //! inner object is live and has the bytes. Clause `few` of each bounds its steps for every manager, clause `steps`
-//! by the manager's own bounds.
+//! by the manager's own bounds and, if it promises an order, by that.
 ghost use Rattle.std.specs.Prelude.{◌≡◌, ℕ, ◌+◌, ◌^◌, ◌≤◌, List, Some, length, take, drop};
 ghost use Rattle.std.specs.FinMap.{get};
 ghost use Rattle.step_ledger.specs.Counting.{RoseAtMost};
 ghost use Rattle.page_model.specs.Held.{objects};
-ghost use Rattle.page_model.specs.Image.{slot_for};
 ghost use Rattle.cf_model.specs.State.{paging_in};
 ghost use Rattle.large_objects.specs.InnerCalls.{FreesInner, MakesOneInner, HasInner, HasInnerRoom, IsReadyInner, WritesInner};
-ghost use Rattle.large_objects.specs.LargeCosts.{ByCosts};
+ghost use Rattle.large_objects.specs.LargeCosts.{ByCosts, inner_free_steps, inner_malloc_steps};
 
 use cf_base::Handle;
 use cf_model::Manager;
@@ -21,7 +20,8 @@ pub(crate) fn make_inner<H: Manager>(inner: &mut H, bytes: u32, steps: &mut Step
     requires low { steps.old ≤ 2 ^ 63 }
     ensures step { MakesOneInner (H.state inner.old) result.0 bytes (H.state inner.new) }
     ensures few { RoseAtMost steps.old steps.new 64 }
-    ensures steps { ByCosts H.most (λ c. RoseAtMost steps.old steps.new c.malloc) }
+    ensures steps { ByCosts (H.state inner.old) H.most (λ c. RoseAtMost steps.old steps.new
+        (inner_malloc_steps c (paging_in (H.state inner.old)) bytes)) }
 {
     match inner.malloc(bytes, steps) {
         Ok(object) => object,
@@ -42,7 +42,7 @@ pub(crate) fn write_inner<H: Manager>(
     requires low { steps.old ≤ 2 ^ 63 }
     ensures step { WritesInner (H.state inner.old) object.0 at bytes.now (H.state inner.new) }
     ensures few { RoseAtMost steps.old steps.new (64 + length bytes.now) }
-    ensures steps { ByCosts H.most (λ c. steps.new ≡ steps.old + c.access at (length bytes.now)) }
+    ensures steps { ByCosts (H.state inner.old) H.most (λ c. steps.new ≡ steps.old + c.access at (length bytes.now)) }
 {
     let _ = inner.write(object, at, bytes, steps);
 }
@@ -60,7 +60,7 @@ pub(crate) fn read_inner<H: Manager>(
     requires low { steps.old ≤ 2 ^ 63 }
     ensures value { (v : List ℕ) → get (objects (H.state inner.now).held) object.0 ≡ Some v → out.new ≡ take (length out.old) (drop at v) }
     ensures few { RoseAtMost steps.old steps.new (64 + length out.old) }
-    ensures steps { ByCosts H.most (λ c. steps.new ≡ steps.old + c.access at (length out.old)) }
+    ensures steps { ByCosts (H.state inner.now) H.most (λ c. steps.new ≡ steps.old + c.access at (length out.old)) }
 {
     let _ = inner.read(object, at, out, steps);
 }
@@ -72,8 +72,8 @@ pub(crate) fn release_inner<H: Manager>(inner: &mut H, object: Handle, steps: &m
     requires low { steps.old ≤ 2 ^ 63 }
     ensures step { FreesInner (H.state inner.old) object.0 (H.state inner.new) }
     ensures few { RoseAtMost steps.old steps.new (2 ^ 25) }
-    ensures steps { ByCosts H.most (λ c. (v : List ℕ) → get (objects (H.state inner.old).held) object.0 ≡ Some v
-        → RoseAtMost steps.old steps.new (c.free (slot_for (paging_in (H.state inner.old)) (length v)))) }
+    ensures steps { ByCosts (H.state inner.old) H.most (λ c. (v : List ℕ) → get (objects (H.state inner.old).held) object.0 ≡ Some v
+        → RoseAtMost steps.old steps.new (inner_free_steps c (paging_in (H.state inner.old)) (length v))) }
 {
     let _ = inner.free(object, steps);
 }

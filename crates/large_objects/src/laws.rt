@@ -10,7 +10,7 @@ ghost use Rattle.cf_model.specs.Steps.{Position};
 ghost use Rattle.page_model.specs.Arrangement.{pages_for, used_pages};
 ghost use Rattle.page_model.specs.Paging.{Paging};
 ghost use Rattle.large_objects.specs.Large.{KeepsParts, LargeState};
-ghost use Rattle.large_objects.specs.LargeCosts.{moving_costs, object_free_steps, object_malloc_steps, parts_access_steps, parts_touched, slots_taken};
+ghost use Rattle.large_objects.specs.LargeCosts.{moving_costs, object_free_steps, object_malloc_steps, parts_access_steps, parts_touched, sharing, slots_taken};
 ghost use Rattle.large_objects.specs.LargeSteps.{GivesLarge, IsLargeFault, IsRefusedLarge, ReadsLarge, WritesLarge, part_bytes_in};
 ghost use Rattle.large_objects.specs.InnerObjects.{inner_live, part_count};
 
@@ -49,13 +49,18 @@ pub fn what_is_written_is_read()
         → (q : ℕ) → q ≢ position.number → get new.objects q ≡ get old.objects q }
 {}
 
-/// The steps of calls on a long object over a moving manager. With q parts a malloc takes at most 17 + 20 q, and a
-/// free at most 20 + 23 q plus the words of all its slots. A read or a write takes exactly 5 for each part and 1 for
-/// each word that has one of its bytes.
+/// The steps of calls on a long object over a moving manager that promises an order. With q parts a malloc takes at
+/// most 15 + 18 q + 2 x, and a free at most 16 + 19 q + 4 x plus the words of all its slots. x counts the parts and
+/// the spine whose class has several slots to a page (`sharing`). It is at most 2 (clause `few`), since a whole part
+/// has a page of its own. A read or a write takes exactly 5 for each part and 1 for each word that has one of its
+/// bytes.
 pub fn long_calls_take_steps_for_parts_and_words()
-    ensures malloc { (u n : ℕ) → u < n → object_malloc_steps moving_costs u n ≡ 17 + 20 * part_count u n }
+    ensures malloc { (p : Paging) (u n : ℕ) → u < n
+        → object_malloc_steps moving_costs p u n ≡ 15 + 18 * part_count u n + 2 * sharing p u n }
     ensures free { (p : Paging) (u n : ℕ) → u < n
-        → object_free_steps moving_costs p u n ≡ 20 + 23 * part_count u n + slots_taken p u n }
+        → object_free_steps moving_costs p u n ≡ 16 + 19 * part_count u n + 4 * sharing p u n + slots_taken p u n }
+    ensures few { (s : LargeState) → KeepsParts s → (n : ℕ) → part_bytes_in s < n
+        → sharing (paging_in s.inner) (part_bytes_in s) n ≤ 2 }
     ensures access { (m u at count : ℕ) → 0 < m → u ≡ 8 * m
         → parts_access_steps moving_costs u at count ≡ 5 * parts_touched u at count + words_touched at count }
 {}

@@ -2,10 +2,11 @@
 //! functions `part_bytes` is the bytes of a whole part, the largest object that fits a page.
 ghost use Rattle.std.specs.Prelude.{◌≡◌, ◌+◌, ◌*◌, ◌<◌, ◌≤◌, ◌^◌};
 ghost use Rattle.step_ledger.specs.Counting.{RoseAtMost};
+ghost use Rattle.cf_model.specs.State.{paging_in};
 ghost use Rattle.large_objects.specs.Growing.{GrowsInner, HasObjectRoom, MakesInner, NamesPart};
 ghost use Rattle.large_objects.specs.InnerCalls.{HasInner, HasInnerRoom, IsReadyInner};
 ghost use Rattle.large_objects.specs.InnerObjects.{part_count};
-ghost use Rattle.large_objects.specs.LargeCosts.{ByCosts, handle_steps, object_malloc_steps};
+ghost use Rattle.large_objects.specs.LargeCosts.{ByCosts, handle_steps, inner_malloc_steps, object_malloc_steps};
 
 use crate::cut::{bytes_of_part, count_parts};
 use crate::inner_calls::{make_inner, write_inner};
@@ -25,7 +26,8 @@ pub(crate) fn make<H: Manager>(
     requires room { HasObjectRoom part_bytes bytes (H.state inner.old) }
     requires low { steps.old ≤ 2 ^ 62 }
     ensures step { MakesInner part_bytes bytes (H.state inner.old) result.0 (H.state inner.new) }
-    ensures steps { ByCosts H.most (λ c. RoseAtMost steps.old steps.new (object_malloc_steps c part_bytes bytes)) }
+    ensures steps { ByCosts (H.state inner.old) H.most (λ c. RoseAtMost steps.old steps.new
+        (object_malloc_steps c (paging_in (H.state inner.old)) part_bytes bytes)) }
 {
     if bytes <= part_bytes {
         return make_inner(inner, bytes, steps);
@@ -40,7 +42,8 @@ fn make_long<H: Manager>(inner: &mut H, bytes: u32, part_bytes: u32, steps: &mut
     requires room { HasObjectRoom part_bytes bytes (H.state inner.old) }
     requires low { steps.old ≤ 2 ^ 62 }
     ensures step { GrowsInner part_bytes bytes (H.state inner.old) result.0 (part_count part_bytes bytes) (H.state inner.new) }
-    ensures steps { ByCosts H.most (λ c. RoseAtMost steps.old steps.new (object_malloc_steps c part_bytes bytes)) }
+    ensures steps { ByCosts (H.state inner.old) H.most (λ c. RoseAtMost steps.old steps.new
+        (object_malloc_steps c (paging_in (H.state inner.old)) part_bytes bytes)) }
 {
     let count = count_parts(bytes, part_bytes);
     let spine = make_inner(inner, 4 * count, steps);
@@ -60,7 +63,8 @@ fn make_part<H: Manager>(inner: &mut H, spine: Handle, i: u32, bytes: u32, steps
     requires low { steps.old + 64 ≤ 2 ^ 63 }
     ensures step { NamesPart (H.state inner.old) spine.0 i bytes (H.state inner.new) }
     ensures few { RoseAtMost steps.old steps.new 132 }
-    ensures steps { ByCosts H.most (λ c. RoseAtMost steps.old steps.new (c.malloc + handle_steps c i)) }
+    ensures steps { ByCosts (H.state inner.old) H.most (λ c. RoseAtMost steps.old steps.new
+        (inner_malloc_steps c (paging_in (H.state inner.old)) bytes + handle_steps c i)) }
 {
     let part = make_inner(inner, bytes, steps);
     write_inner(inner, spine, 4 * i, &part.0.to_le_bytes(), steps);

@@ -24,7 +24,7 @@ impl<H: Manager> LargeHeap<H> {
         requires { IsTrue self.now.is_open }
         ensures cause { MatchOption result (HasLargeRoom self.now bytes) (λ e. IsRefusedLarge self.now bytes e) }
         ensures kept { StaysKept self.now self.now }
-        ensures steps { ByCosts H.most (λ c. steps.new ≡ steps.old) }
+        ensures steps { ByCosts self.now.inner H.most (λ c. steps.new ≡ steps.old) }
     {
         if !has_spine_that_fits(bytes, self.part_bytes) {
             return Some(Refusal::Size);

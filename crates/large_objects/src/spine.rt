@@ -19,7 +19,7 @@ pub(crate) fn part_handle<H: Manager>(inner: &H, spine: Handle, i: u32, steps: &
     requires low { steps.old ≤ 2 ^ 63 }
     ensures value { result.0 ≡ named (objects (H.state inner.now).held) spine.0 i }
     ensures few { RoseAtMost steps.old steps.new 68 }
-    ensures steps { ByCosts H.most (λ c. steps.new ≡ steps.old + handle_steps c i) }
+    ensures steps { ByCosts (H.state inner.now) H.most (λ c. steps.new ≡ steps.old + handle_steps c i) }
 {
     let mut bytes = [0; 4];
     read_inner(inner, spine, 4 * i, &mut bytes, steps);

@@ -14,6 +14,7 @@ use Rattle.cf_lemmas.specs.Maps.{numbered}
 use Rattle.cf_lemmas.proofs.Numbered.{get-numbered}
 use Rattle.page_model.specs.Bytes.{AreBytes}
 use Rattle.page_model.specs.Held.{Placed}
+use Rattle.cf_model.specs.Ordered.{IsOrderedMalloc}
 use Rattle.cf_model.specs.Rules.{KeepsRules}
 use Rattle.cf_model.specs.State.{HeapState}
 use Rattle.cf_model.specs.Steps.{IsMallocStep}
@@ -99,7 +100,7 @@ module _ (s : HeapState) (ready : IsReadyInner s) where
   gives_there n room =
       let t = step_exists run (Malloc s.profile.proxies n) going (record { formed = tt; bytes = tt }) in
       let m = of_free t.0 t.1 (get ids s.profile.proxies) (id_is s.profile.proxies ∙ own_past s.profile.proxies (omega arith)) t.2.step in
-      by_answer t.1.heap m.answer m.step m.rules
+      by_answer t.1.heap m.answer m.step m.ordered m.rules
     where
       of_free : (reply : Reply) (new : RunState) (o : Option ℕ) → o ≡ None
           → MatchOption o (Mallocs run (record { number = s.profile.proxies; length = n }) reply new) (λ h. Stays run (codes "live") reply new)
@@ -107,9 +108,10 @@ module _ (s : HeapState) (ready : IsReadyInner s) where
       of_free reply new None none m = m
       of_free reply new (Some h) none m = absurd (let z : ◌≡◌ {A = Option ℕ} (Some h) None = none in cc)
 
-      by_answer : (new : HeapState) (r : Result Handle Refusal) → IsMallocStep s n r new → KeepsRules new → (q : ℕ) × (new : HeapState) × MakesOneInner s q n new
-      by_answer new (Ok h) given rules = (h.0, new, inner_given s new (record { number = h.0; length = n }) ready given rules)
-      by_answer new (Err e) (cause, same) rules = absurd (inner_not_refused s n ready room e cause)
+      by_answer : (new : HeapState) (r : Result Handle Refusal) → IsMallocStep s n r new → IsOrderedMalloc s n r new → KeepsRules new
+          → (q : ℕ) × (new : HeapState) × MakesOneInner s q n new
+      by_answer new (Ok h) given ordered rules = (h.0, new, inner_given s new h n ready given ordered rules)
+      by_answer new (Err e) (cause, same) ordered rules = absurd (inner_not_refused s n ready room e cause)
 
   -- a live inner object is freed
   pub frees_there : (q : ℕ) → HasInner s q 0 0 → (new : HeapState) × FreesInner s q new
@@ -117,7 +119,7 @@ module _ (s : HeapState) (ready : IsReadyInner s) where
       let x = held_of_bytes s.held q has.bytes has.found in
       let t = step_exists run (Free q) going (record { formed = tt; bytes = tt }) in
       let f = of_live t.0 t.1 (get ids q) (id_is q ∙ ap (option_map (λ (x : Placed). q)) x.1) t.2.step in
-      (t.1.heap, inner_freed s t.1.heap q has.bytes (Ok f.freed) ready has.found f.step f.rules)
+      (t.1.heap, inner_freed s t.1.heap q has.bytes (Ok f.freed) ready has.found f.step f.ordered f.rules)
     where
       of_live : (reply : Reply) (new : RunState) (o : Option ℕ) → o ≡ Some q
           → MatchOption o (Stays run (codes "unknown") reply new) (λ h. Frees run (record { id = q; number = h }) reply new)

@@ -1,9 +1,11 @@
 //! Laws of a script on many managers: each has its own run and meets the headline; a cut reply stops
 //! between two managers; what was written is a prefix. And of long objects: from which numbers their step bounds
 //! are. The functions do nothing: their contracts are the laws.
-ghost use Rattle.std.specs.Prelude.{◌≡◌, ◌++◌, ℕ, List, [], Option, None, Some, option_map};
+ghost use Rattle.std.specs.Prelude.{◌≡◌, ◌++◌, ℕ, IsSome, List, [], Option, None, Some, option_map};
 ghost use Rattle.std.specs.List.{All};
 ghost use Rattle.cf_base.specs.declared.kind.Kind.{Kind};
+ghost use Rattle.cf_base.specs.declared.kind.Kind.TheVariants.{Moving, NonMoving};
+ghost use Rattle.cf_model.specs.State.{HeapState};
 ghost use Rattle.script_reader.specs.Items.{Item};
 ghost use Rattle.run_model.specs.Sessions.{IsGoing, RunState};
 ghost use Rattle.run_model.specs.Texts.{Reply, text_of};
@@ -82,8 +84,10 @@ pub fn what_was_cut_is_a_prefix()
 {}
 
 /// The steps of long objects are bounded from those of their inner manager. These are the numbers for a moving
-/// and for a non-moving one: they follow from the step bounds that the manager itself promises.
+/// and for a non-moving one: they follow from the step bounds and from the order that the manager itself promises.
 pub fn long_objects_take_the_steps_of_their_manager()
-    ensures moving { AreInnerCosts ⟦<MovingHeap as StepBounds>⟧.most moving_costs }
-    ensures non_moving { AreInnerCosts ⟦<NonMovingHeap as StepBounds>⟧.most nonmoving_costs }
+    ensures moving { (s : HeapState) → s.kind ≡ Moving → IsSome s.order
+        → AreInnerCosts s ⟦<MovingHeap as StepBounds>⟧.most moving_costs }
+    ensures non_moving { (s : HeapState) → s.kind ≡ NonMoving → IsSome s.order
+        → AreInnerCosts s ⟦<NonMovingHeap as StepBounds>⟧.most nonmoving_costs }
 {}

@@ -153,19 +153,32 @@ enum Call {
     Read(u32, u32, usize),
 }
 
+/// The parts of object 2 of `CALLS`: 43 whole ones and a shorter one.
+const PARTS: u64 = 44;
+
+/// Of these parts and the spine, those that share their pages: the shorter part and the spine.
+const SHARING: u64 = 2;
+
+/// The words of their slots: of the whole parts, the shorter one, and the spine.
+const SLOTS: u64 = 43 * 64 + 30 + 23;
+
+/// The most steps of a malloc and of a free of object 2, by `long_calls_take_steps_for_parts_and_words`.
+const MALLOC_BOUND: u64 = 15 + 18 * PARTS + 2 * SHARING;
+
+const FREE_BOUND: u64 = 16 + 19 * PARTS + 4 * SHARING + SLOTS;
+
 /// Calls on pages of 64 words over a moving manager, each with its steps. A whole part has 504 bytes and a page of
 /// its own. A page has two slots of 30 words, for objects of 232 bytes, or two of 23, for objects of 176 bytes.
 ///
 /// A malloc on the moving manager takes 15 steps on a free page, and 17 if it fills a page. A free takes 16 and the
 /// words of the slot if that empties the page, and 20 and these words if another object moves into the slot and that
-/// empties another page. So the bounds, 17 + 20 q for a malloc and 20 + 23 q + s for a free of q parts and slots of
-/// s words, are met but for the whole parts: a malloc takes two steps less for each of them, and a free four less.
+/// empties another page.
 static CALLS: [(Call, u64); 18] = [
     (Call::Malloc(232), 15),
     (Call::Malloc(176), 15),
-    // Object 2 has 43 whole parts and a shorter one. The spine, of 176 bytes, and the shorter part, of 232, fill the
-    // pages of their classes. The spine gets the handle of each part, in three steps.
-    (Call::Malloc(21_904), 17 + 43 * (15 + 3) + (17 + 3)),
+    // Object 2: the spine, of 176 bytes, and the shorter part, of 232, fill the pages of their classes. The spine gets
+    // the handle of each part, in three steps.
+    (Call::Malloc(21_904), MALLOC_BOUND),
     (Call::Malloc(232), 15),
     (Call::Malloc(176), 15),
     // Refused: the spine would exceed a page.
@@ -183,10 +196,7 @@ static CALLS: [(Call, u64); 18] = [
     (Call::Read(2, 21_903, 2), 0),
     (Call::Free(3), 0),
     // Each whole part empties its page. Into the slots of the last part and of the spine another object moves.
-    (
-        Call::Free(2),
-        43 * (3 + 16 + 64) + (3 + 20 + 30) + (20 + 23),
-    ),
+    (Call::Free(2), FREE_BOUND),
     // Short objects take the steps of the moving manager: object 0 has its last 8 bytes in one word, and these two
     // bytes of object 1 are in two.
     (Call::Read(0, 224, 8), 2 + 1),
@@ -228,7 +238,7 @@ fn first_other<H: Manager>(heap: &mut LargeHeap<H>, meter: &mut Meter) -> Option
     None
 }
 
-// Each call of `CALLS` adds exactly its steps to the meter.
+// Each call of `CALLS` adds exactly its steps to the meter. So a malloc and a free of a long object reach their bounds.
 #[test]
 fn each_part_adds_its_steps(rt: HostRuntime) -> Result<(), Fail> {
     let alloc = rt.alloc();

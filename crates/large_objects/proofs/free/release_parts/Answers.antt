@@ -2,7 +2,7 @@ use Rattle.std.proofs.Common.{◌≡◌, arith, ◌<◌, subst}
 use Rattle.cf_model.specs.State.{paging_in}
 use Rattle.large_objects.specs.InnerObjects.{part_count}
 use Rattle.large_objects.specs.Shrinking.{Shrinks}
-use Rattle.large_objects.proofs.CostLemmas.{free_first, free_past}
+use Rattle.large_objects.proofs.CostLemmas.{follow_on, free_first, free_past}
 use Rattle.large_objects.proofs.ShrinkLemmas.{free_more, next_there, parts_small, place_there, shrinks_first, shrinks_more}
 use Rattle.large_objects.proofs.free.release_parts.Goals as goal
 
@@ -45,7 +45,8 @@ loop-i-preserved g c =
           c.requires.long c.requires.has inv.step below (g.H.Manager.state c.release_part.new.inner) part.step;
       few = (let a = inv.few in let b = part.few in record { kept = omega arith; bound = omega arith });
       steps = λ k follow. free_more c.args.part_bytes c.args.bytes old now c.args.spine.0 c.loop-i.i c.requires.some c.requires.long c.requires.has inv.step
-          below k c.args.steps.now c.loop-i.steps c.release_part.new.steps (inv.steps k follow) (part.steps k follow);
+          below k c.args.steps.now c.loop-i.steps c.release_part.new.steps (inv.steps k follow)
+          (part.steps k (follow_on g.H.StepBounds.most old now k inv.step.stays.settings.kind inv.step.stays.promise follow));
     }
 
 pub returns-clause-step : goal.returns-clause-step

@@ -15,7 +15,7 @@ pub returns-clause-few : goal.returns-clause-few
 returns-clause-few g c = access_few c.args.steps.now c.read.new.steps c.args.at (length c.args.out.now) c.read.ensures.bound
 
 pub returns-clause-steps : goal.returns-clause-steps
-returns-clause-steps g c = access_costs g.H.StepBounds.most c.args.steps.now c.read.new.steps c.args.at (length c.args.out.now) c.read.result
+returns-clause-steps g c = access_costs g.H.StepBounds.most (g.H.Manager.state c.args.inner.now) c.args.steps.now c.read.new.steps c.args.at (length c.args.out.now) c.read.result
     (read_done (g.H.Manager.state c.args.inner.now) (record { number = c.args.object.0; from = c.args.at }) c.args.out.now c.read.new.out c.read.result
     c.requires.has c.read.ensures.answer)
     (let small = inner_small (g.H.Manager.state c.args.inner.now) c.requires.ready c.args.object.0 c.requires.has.bytes c.requires.has.found in

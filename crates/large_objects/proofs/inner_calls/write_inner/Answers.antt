@@ -12,7 +12,7 @@ pub returns-clause-few : goal.returns-clause-few
 returns-clause-few g c = access_few c.args.steps.now c.write.new.steps c.args.at (length c.args.bytes.now) c.write.ensures.bound
 
 pub returns-clause-steps : goal.returns-clause-steps
-returns-clause-steps g c = access_costs g.H.StepBounds.most c.args.steps.now c.write.new.steps c.args.at (length c.args.bytes.now) c.write.result
+returns-clause-steps g c = access_costs g.H.StepBounds.most (g.H.Manager.state c.args.inner.now) c.args.steps.now c.write.new.steps c.args.at (length c.args.bytes.now) c.write.result
     (write_done (g.H.Manager.state c.args.inner.now) (g.H.Manager.state c.write.new.self) (record { number = c.args.object.0; from = c.args.at })
     c.args.bytes.now c.write.result c.requires.has c.write.ensures.step)
     (let small = inner_small (g.H.Manager.state c.args.inner.now) c.requires.ready c.args.object.0 c.requires.has.bytes c.requires.has.found in

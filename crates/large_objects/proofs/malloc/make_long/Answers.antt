@@ -1,8 +1,11 @@
-use Rattle.std.proofs.Common.{◌≡◌, arith, sym, subst, ◌*◌, ◌<◌}
+use Rattle.std.proofs.Common.{◌≡◌, arith, sym, ◌∙◌, ap, subst, ◌*◌, ◌<◌}
+use Rattle.cf_model.specs.State.{paging_in}
 use Rattle.large_objects.specs.Growing.{GrowsInner, NamesPart}
 use Rattle.large_objects.specs.InnerCalls.{MakesOneInner, HasInnerRoom}
 use Rattle.large_objects.specs.InnerObjects.{part_count}
-use Rattle.large_objects.proofs.CostLemmas.{malloc_first, malloc_long, malloc_next, malloc_past}
+use Rattle.large_objects.specs.LargeCosts.{inner_malloc_steps}
+use Rattle.large_objects.proofs.InnerSteps.{same_paging}
+use Rattle.large_objects.proofs.CostLemmas.{follow_on, malloc_first, malloc_long, malloc_next, malloc_past}
 use Rattle.large_objects.proofs.GrowLemmas.{grows_first, grows_more, place_in_spine, place_is_small, room_for_part, room_for_spine}
 use Rattle.large_objects.proofs.malloc.make_long.Goals as goal
 
@@ -24,8 +27,9 @@ loop-i-init g c =
       steps = λ k follow. (
           let made = spine.steps k follow in
           let b = made.bound in
-          let all = malloc_first k c.args.part_bytes c.args.bytes in
-          let sum = malloc_long k c.args.part_bytes c.args.bytes c.requires.long in omega arith);
+          let e = ap (λ n. inner_malloc_steps k (paging_in old) (4 * n)) c.count_parts-count.ensures in
+          let all = malloc_first k (paging_in old) c.args.part_bytes c.args.bytes in
+          let sum = malloc_long k (paging_in old) c.args.part_bytes c.args.bytes c.requires.long in omega arith);
     }
 
 pub make_part-requires-clause-room : goal.make_part-requires-clause-room
@@ -72,8 +76,11 @@ loop-i-preserved g c =
       few = (let a = inv.few in let b = part.few in record { kept = omega arith; bound = omega arith });
       steps = λ k follow. (
           let so_far = inv.steps k follow in
-          let rose = (part.steps k follow).bound in
-          let more = malloc_next k c.args.part_bytes c.args.bytes c.loop-i.i below in omega arith);
+          let later = follow_on g.H.StepBounds.most old now k inv.step.stays.settings.kind inv.step.stays.promise follow in
+          let rose = (part.steps k later).bound in
+          let same = ap (λ p. inner_malloc_steps k p c.bytes_of_part.result) (same_paging old now inv.step.stays.settings)
+          ∙ ap (inner_malloc_steps k (paging_in old)) c.bytes_of_part.ensures in
+          let more = malloc_next k (paging_in old) c.args.part_bytes c.args.bytes c.loop-i.i below in omega arith);
     }
 
 pub returns-clause-step : goal.returns-clause-step
@@ -85,7 +92,7 @@ returns-clause-step g c =
 
 pub returns-clause-steps : goal.returns-clause-steps
 returns-clause-steps g c k follow =
-    let past = malloc_past k c.args.part_bytes c.args.bytes c.loop-i.i
+    let past = malloc_past k (paging_in (g.H.Manager.state c.args.inner.now)) c.args.part_bytes c.args.bytes c.loop-i.i
     (let e = c.count_parts-count.ensures in let over = c.loop-i-test.false in omega arith) in
     let few = c.loop-i.invariant.few in
     let rose = c.loop-i.invariant.steps k follow in

@@ -1,4 +1,5 @@
 use Rattle.std.proofs.Common.{◌*◌, arith}
+use Rattle.large_objects.proofs.CostLemmas.{follow_on}
 use Rattle.large_objects.proofs.GrowLemmas.{inner_beside, part_named}
 use Rattle.large_objects.proofs.malloc.make_part.Goals as goal
 
@@ -24,5 +25,8 @@ returns-clause-few g c =
 pub returns-clause-steps : goal.returns-clause-steps
 returns-clause-steps g c k follow =
     let made = c.make_inner-part.ensures.steps k follow in
-    let wrote = rw c.to_le_bytes.ensures at (c.write_inner.ensures.steps k follow) in
+    let stays = c.make_inner-part.ensures.step.stays in
+    let later = follow_on g.H.StepBounds.most (g.H.Manager.state c.args.inner.now) (g.H.Manager.state c.make_inner-part.new.inner) k stays.settings.kind
+    stays.promise follow in
+    let wrote = rw c.to_le_bytes.ensures at (c.write_inner.ensures.steps k later) in
     record { kept = (let a = made.kept in omega arith); bound = (let a = made.bound in omega arith) }

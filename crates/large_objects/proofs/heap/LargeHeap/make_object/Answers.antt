@@ -1,7 +1,6 @@
-use Rattle.std.proofs.Common.{arith, subst}
-use Rattle.step_ledger.specs.Counting.{RoseAtMost}
+use Rattle.std.proofs.Common.{arith}
 use Rattle.large_objects.specs.LargeCosts.{object_malloc_steps}
-use Rattle.large_objects.proofs.Kept.{kept, made_below, made_gives, made_kept, made_valid, object_room, part_is}
+use Rattle.large_objects.proofs.Kept.{kept, made_below, made_gives, made_kept, made_valid, object_room, steps_seen}
 use Rattle.large_objects.proofs.heap.LargeHeap.make_object.Goals as goal
 
 pub make-h-requires-clause-some : goal.make-h-requires-clause-some
@@ -35,7 +34,5 @@ index_mut-requires g c = (let lt = made_below c.self.inside.is_open c.self.insid
     c.requires.open c.self.invariant c.args.bytes c.make-h.result.0 (g.H.Manager.state c.make-h.new.inner) c.make-h.ensures.step in omega arith)
 
 pub returns-clause-steps : goal.returns-clause-steps
-returns-clause-steps g c k follow =
-    subst (λ u. RoseAtMost c.args.steps.now c.make-h.new.steps (object_malloc_steps k u c.args.bytes)) (part_is c.self.inside.is_open c.self.inside.pages
-    c.self.inside.part_bytes c.self.inside.lengths.items (g.H.Manager.state c.self.inside.inner) c.args.self.now c.self.view_is
-    c.requires.open c.self.invariant) (c.make-h.ensures.steps k follow)
+returns-clause-steps g c = steps_seen c.self.inside.is_open c.self.inside.pages c.self.inside.part_bytes c.self.inside.lengths.items
+    (g.H.Manager.state c.self.inside.inner) c.args.self.now c.self.view_is c.requires.open c.self.invariant g.H.StepBounds.most object_malloc_steps c.args.bytes c.args.steps.now c.make-h.new.steps c.make-h.ensures.steps

@@ -16,7 +16,7 @@ invariant-parts g l = record {
   so_far : (v : List ℕ) → get l.self.objects l.h.0 ≡ Some v → take l.done l.out ≡ take l.done (drop l.at v);
   few : RoseAtMost l.initial.steps l.steps (200 * l.done);
   -- the steps of the bytes that are left are still to come
-  steps : ByCosts g.H.StepBounds.most (λ c. l.steps + parts_access_steps c l.part_bytes (l.at + l.done) (length l.initial.out - l.done)
+  steps : ByCosts l.self.inner g.H.StepBounds.most (λ c. l.steps + parts_access_steps c l.part_bytes (l.at + l.done) (length l.initial.out - l.done)
       ≡ l.initial.steps + parts_access_steps c l.part_bytes l.at (length l.initial.out));
 }
 

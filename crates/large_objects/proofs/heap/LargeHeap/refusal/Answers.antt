@@ -58,13 +58,16 @@ returns-clause-kept g c = same_kept c.self.inside.is_open c.self.inside.pages c.
     c.requires c.self.invariant
 
 pub returns-then-len-live-clause-steps : goal.returns-then-len-live-clause-steps
-returns-then-len-live-clause-steps g c = totals_cost g.H.StepBounds.most (g.H.Manager.state c.self.inside.inner) c.args.steps.now c.totals-live.new.steps
+returns-then-len-live-clause-steps g c = totals_cost g.H.StepBounds.most (g.H.Manager.state c.self.inside.inner) c.args.self.now.inner
+    c.args.steps.now c.totals-live.new.steps
     c.totals-live.ensures.exact
 
 pub returns-then-self-pages_with-clause-steps : goal.returns-then-self-pages_with-clause-steps
-returns-then-self-pages_with-clause-steps g c = totals_cost g.H.StepBounds.most (g.H.Manager.state c.self.inside.inner) c.args.steps.now c.totals-live.new.steps
+returns-then-self-pages_with-clause-steps g c = totals_cost g.H.StepBounds.most (g.H.Manager.state c.self.inside.inner) c.args.self.now.inner
+    c.args.steps.now c.totals-live.new.steps
     c.totals-live.ensures.exact
 
 pub returns-clause-steps : goal.returns-clause-steps
-returns-clause-steps g c = totals_cost g.H.StepBounds.most (g.H.Manager.state c.self.inside.inner) c.args.steps.now c.totals-live.new.steps
+returns-clause-steps g c = totals_cost g.H.StepBounds.most (g.H.Manager.state c.self.inside.inner) c.args.self.now.inner
+    c.args.steps.now c.totals-live.new.steps
     c.totals-live.ensures.exact

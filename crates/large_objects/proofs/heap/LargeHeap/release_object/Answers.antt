@@ -1,8 +1,5 @@
-use Rattle.std.proofs.Common.{subst}
-use Rattle.step_ledger.specs.Counting.{RoseAtMost}
-use Rattle.cf_model.specs.State.{HeapState, paging_in}
 use Rattle.large_objects.specs.LargeCosts.{object_free_steps}
-use Rattle.large_objects.proofs.Kept.{gone_frees, gone_kept, gone_valid, has_inner_objects, inner_is, part_is}
+use Rattle.large_objects.proofs.Kept.{gone_frees, gone_kept, gone_valid, has_inner_objects, steps_seen}
 use Rattle.large_objects.proofs.heap.LargeHeap.release_object.Goals as goal
 
 pub release-requires-clause-has : goal.release-requires-clause-has
@@ -26,11 +23,5 @@ returns-clause-kept g c = gone_kept c.self.inside.is_open c.self.inside.pages c.
     c.requires.open c.self.invariant c.args.h.0 c.args.bytes c.requires.found (g.H.Manager.state c.release.new.inner) c.release.ensures.step
 
 pub returns-clause-steps : goal.returns-clause-steps
-returns-clause-steps g c k follow =
-    let s = g.H.Manager.state c.self.inside.inner in
-    subst (λ u. RoseAtMost c.args.steps.now c.release.new.steps (object_free_steps k (paging_in c.args.self.now.inner) u c.args.bytes)) (part_is
-    c.self.inside.is_open c.self.inside.pages
-    c.self.inside.part_bytes c.self.inside.lengths.items s c.args.self.now c.self.view_is c.requires.open c.self.invariant)
-    (subst (λ (m : HeapState). RoseAtMost c.args.steps.now c.release.new.steps (object_free_steps k (paging_in m) c.self.inside.part_bytes c.args.bytes)) (inner_is
-    c.self.inside.is_open c.self.inside.pages
-    c.self.inside.part_bytes c.self.inside.lengths.items s c.args.self.now c.self.view_is c.requires.open c.self.invariant) (c.release.ensures.steps k follow))
+returns-clause-steps g c = steps_seen c.self.inside.is_open c.self.inside.pages c.self.inside.part_bytes c.self.inside.lengths.items
+    (g.H.Manager.state c.self.inside.inner) c.args.self.now c.self.view_is c.requires.open c.self.invariant g.H.StepBounds.most object_free_steps c.args.bytes c.args.steps.now c.release.new.steps c.release.ensures.steps

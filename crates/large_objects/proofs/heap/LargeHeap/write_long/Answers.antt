@@ -4,7 +4,7 @@ use Rattle.std.proofs.lemmas.Option.{same_Some}
 use Rattle.large_objects.specs.LargeCosts.{parts_access_steps}
 use Rattle.large_objects.specs.LargeSteps.{HasPartRange}
 use Rattle.large_objects.proofs.AccessLemmas.{next_write, so_far_more, then_kept, write_index_small, wrote_all, wrote_nothing}
-use Rattle.large_objects.proofs.CostLemmas.{access_first, access_more, access_past}
+use Rattle.large_objects.proofs.CostLemmas.{access_first, access_more, access_past, follow_on}
 use Rattle.large_objects.proofs.Kept.{kept, part_is, same_kept}
 use Rattle.large_objects.proofs.heap.LargeHeap.write_long.Goals as goal
 
@@ -71,7 +71,8 @@ parts-preserved g c =
       kept = then_kept c.args.self.now c.parts.self c.write_part.new.self i.kept c.write_part.ensures.kept;
       few = (let a = i.few in let b = c.write_part.ensures.few in let l = long in record { kept = omega arith; bound = omega arith });
       steps = λ k follow. access_more k c.self.inside.part_bytes c.args.at (length c.args.bytes.now) c.args.steps.now c.parts.done n _ c.parts.steps
-          c.write_part.new.steps i.positive (omega arith) few c.min-count.ensures long (i.steps k follow) (c.write_part.ensures.steps k follow);
+          c.write_part.new.steps i.positive (omega arith) few c.min-count.ensures long (i.steps k follow)
+          (c.write_part.ensures.steps k (follow_on g.H.StepBounds.most c.args.self.now.inner c.parts.self.inner k i.kept.stays.inner.kind i.kept.stays.promise follow));
     }
 
 pub returns-clause-writes : goal.returns-clause-writes

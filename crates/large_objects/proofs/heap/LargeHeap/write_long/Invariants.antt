@@ -18,7 +18,7 @@ invariant-parts g l = record {
   kept : StaysKept l.initial.self l.self;
   few : RoseAtMost l.initial.steps l.steps (200 * l.done);
   -- the steps of the bytes that are left are still to come
-  steps : ByCosts g.H.StepBounds.most (λ c. l.steps + parts_access_steps c l.part_bytes (l.at + l.done) (length l.bytes - l.done)
+  steps : ByCosts l.initial.self.inner g.H.StepBounds.most (λ c. l.steps + parts_access_steps c l.part_bytes (l.at + l.done) (length l.bytes - l.done)
       ≡ l.initial.steps + parts_access_steps c l.part_bytes l.at (length l.bytes));
 }
 
