@@ -27,7 +27,7 @@ use Rattle.c_base.specs.Shown.{found_code, found_number, malloc_number}
 use Rattle.c_base.specs.HandleRules.{AreHandles}
 use Rattle.c_base.proofs.Generations.{handle_small, length-raised, names_itself}
 use Rattle.c_base.proofs.HandleLaws.{first_are_handles, raised_handles}
-use Rattle.held_large.specs.Calls.{IsFreeCall, IsFreshHeap, IsLengthCall, IsMallocCall, IsReadCall, IsWriteCall, free_code, length_in, place_in, raised_by}
+use Rattle.held_large.specs.Calls.{IsFreeCall, IsFreshHeap, IsLengthCall, IsMallocCall, IsReadCall, IsWriteCall, free_code, place_in, raised_by}
 use Rattle.held_large.specs.HandleRules.{IsNewHandle, KeepsHandles}
 use Rattle.held_large.specs.HeldState.{HeldState}
 

@@ -1,6 +1,6 @@
 -- For `Held`: what each call of a C library does to an open heap of long objects with its step count (`old`, `new`) and to the caller's number, structure or
 -- buffer (`before`, `after`), and the `code` that it returns. `answer` is the result of the heap's own call, whose steps, counted from 0, are `new.steps`.
-use Rattle.std.specs.Prelude.{◌≡◌, ℕ, ◌%◌, ℤ, pos, true, List, Option, Some, Result, Ok, Err, length, option_map}
+use Rattle.std.specs.Prelude.{◌≡◌, ℕ, ◌%◌, ℤ, pos, true, List, Option, Result, Ok, Err, length, option_map}
 use Rattle.std.specs.FinMap.{empty, get}
 use Rattle.cf_base.specs.Settings.{Profile}
 use Rattle.cf_base.specs.declared.answers.AccessFault.{AccessFault}

@@ -1,5 +1,5 @@
 -- What is true of a heap of long objects and its handles: in every state, and of the handle of a malloc.
-use Rattle.std.specs.Prelude.{◌≡◌, ℕ, ◌<◌, ◌≤◌, List, None, Some, length, replicate}
+use Rattle.std.specs.Prelude.{◌≡◌, ℕ, ◌<◌, ◌≤◌, None, Some, length, replicate}
 use Rattle.std.specs.FinMap.{get}
 use Rattle.large_objects.specs.Large.{KeepsParts}
 use Rattle.c_base.specs.HandleRules.{AreHandles}
