@@ -18,3 +18,5 @@ pub mod Needed
 pub mod Most
 pub mod Slots
 pub mod PagesNeeded
+pub mod MovingPlace
+pub mod TlsfPlace
