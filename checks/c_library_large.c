@@ -132,7 +132,7 @@ static void make(void) {
         return;
     }
     if (steps == 0 || steps > most) fail("the steps of a malloc", (long)steps, (long)most);
-    if (most > 17 + 20 * cut(bytes)) fail("the most steps of a malloc", (long)most, 17 + 20 * cut(bytes));
+    same("the most steps of a malloc", (long)most, cut(bytes) ? 19 + 18 * cut(bytes) : 17);
     same("an old handle", found(handle), -1);
     for (uint32_t i = 0; i < stale_count && i < STALE; i++)
         if (stale[i] == handle) fail("a stale handle", handle, -1);
@@ -151,7 +151,7 @@ static void drop(void) {
     }
     uint64_t most = nph_large_most_free(page_bytes, objects[at].length);
     if (steps == 0 || steps > most) fail("the steps of a free", (long)steps, (long)most);
-    uint32_t parts = cut(objects[at].length), large = 20 + 23 * parts + (parts + 1) * page_bytes / 8;
+    uint32_t parts = cut(objects[at].length), large = (parts ? 24 + 19 * parts : 20) + (parts + 1) * page_bytes / 8;
     if (most > large) fail("the most steps of a free", (long)most, large);
     objects[at] = objects[--live];
     stale[stale_count++ % STALE] = handle;
@@ -202,6 +202,23 @@ static void measure(void) {
     same("partly full", one.not_full, counts[c] % slots_of(c) != 0);
 }
 
+/* A long object whose spine and last part each fill a page: its malloc takes the most steps. The free moves an object into each of
+ * these two slots, from a page that it empties: it takes the most steps for slots of so many words. */
+static void longest_calls(void) {
+    enum { PARTS = 5, BYTES = 504 * (PARTS - 1) + 232, SLOTS = 64 * (PARTS - 1) + 30 + 4 };
+    uint32_t object, other;
+    same("open", nph_large_open(&heap, 40, 512, 100), NPH_OK);
+    for (int i = 0; i < 15; i++) same("malloc", nph_large_malloc(&heap, 8, &other), NPH_OK);
+    same("malloc", nph_large_malloc(&heap, 232, &other), NPH_OK);
+    same("malloc", nph_large_malloc(&heap, BYTES, &object), NPH_OK);
+    same("the most steps of a malloc", (long)last_steps(), (long)nph_large_most_malloc(512, BYTES));
+    same("malloc", nph_large_malloc(&heap, 8, &other), NPH_OK);
+    same("malloc", nph_large_malloc(&heap, 232, &other), NPH_OK);
+    same("free", nph_large_free(&heap, object), NPH_OK);
+    same("the most steps of a free", (long)last_steps(), 24 + 19 * PARTS + SLOTS);
+    nph_large_close(&heap);
+}
+
 int main(int given, char **words) {
     uint32_t calls = given > 1 ? (uint32_t)atoi(words[1]) : 100000, handle = 7;
     state = given > 2 ? (uint64_t)atoi(words[2]) : 1;
@@ -222,6 +239,7 @@ int main(int given, char **words) {
         }
     }
     nph_large_close(&heap);
+    longest_calls();
     printf("%u calls\n", calls);
     return 0;
 }

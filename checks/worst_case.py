@@ -464,7 +464,7 @@ STEPS = {
     **{("tasks", call): steps for call, steps in {
         "malloc": "17", "free, alone": "20 + s", "free, move": "20 + s", "read": "2 + w", "write": "2 + w", "length": "2"}.items()},
     **{("large", call): steps for call, steps in {
-        "malloc": "17 + 20l", "free": "20 + 23l + s", "read": "2 + w, 5l + w", "write": "2 + w, 5l + w", "length": "0", "totals": "0"}.items()},
+        "malloc": "17, 19 + 18l", "free": "20 + s, 24 + 19l + s", "read": "2 + w, 5l + w", "write": "2 + w, 5l + w", "length": "0", "totals": "0"}.items()},
 }
 
 

@@ -1,20 +1,13 @@
--- For `Held::free`: the steps of a moving heap's calls, and what a free of the number that a handle names does.
-use Rattle.std.proofs.Common.{◌≡◌, ℕ, ◌+◌, ◌≤◌, arith, lit≤, refl, subst, sym}
+-- For `Held::free`: what a free of the number that a handle names does.
+use Rattle.std.proofs.Common.{◌≡◌, ℕ, refl, subst, sym}
 use Rattle.std.specs.Prelude.{Result}
 use Rattle.cf_base.specs.declared.answers.NotLive.{NotLive}
-use Rattle.cf_base.specs.declared.kind.Kind.TheVariants.{Moving}
-use Rattle.large_objects.specs.LargeCosts.{FollowFrom, first_count, large_free_steps, moving_costs}
+use Rattle.large_objects.specs.LargeCosts.{first_count, large_free_steps, moving_costs}
 use Rattle.large_objects.specs.LargeSteps.{IsLargeFree, StaysKept}
-use Rattle.paged_heap.specs.Most.{page_bounds}
 use Rattle.step_ledger.specs.Counting.{RoseAtMost}
 use Rattle.c_base.specs.Handles.{number_in}
 use Rattle.held_large.specs.Calls.{IsFreeCall, free_code, raised_by}
 use Rattle.held_large.specs.HeldState.{HeldState}
-
-pub moving_follow : FollowFrom (page_bounds Moving) moving_costs
-moving_follow =
-    let most : (s : ℕ) → 20 + s ≤ 20 + s = λ s. omega arith in
-    record { malloc = λ h. lit≤ tt; free = λ f. most f.slot_words; access = λ from count u. refl; totals = λ s. refl }
 
 -- `old` is seen as `mid`; `begun` is the count of the meter when the heap's own free began, `count` when it ended
 pub freed : (old mid : HeldState) (handle number begun count : ℕ) (r : Result (Unit {0}) NotLive) (new : HeldState) → mid ≡ old → number ≡ number_in mid.handles handle

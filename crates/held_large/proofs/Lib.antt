@@ -1,4 +1,3 @@
-pub mod Places
 pub mod Sent
 pub mod NeededCall
 pub mod Fresh

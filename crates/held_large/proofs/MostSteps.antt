@@ -1,6 +1,6 @@
 -- For `most`: the steps of a call are at most what a caller in C gets before it.
-use Rattle.std.proofs.Common.{◌≡◌, ℕ, Bool, true, false, zero, suc, ◌+◌, ◌-◌, ◌*◌, ◌/◌, ◌%◌, ◌<◌, ◌≤◌, List, [], ◌∷◌, Some, Ok, Err, get_or, length, max, arith, lit<, refl, sym, ◌∙◌, ap, subst, inl, inr, ◌≢◌, ◌⊎◌}
-use Rattle.std.specs.Prelude.{Option, None, cond, nat_le, nat_eq, sum_by}
+use Rattle.std.proofs.Common.{◌≡◌, ℕ, Bool, true, false, zero, suc, ◌+◌, ◌-◌, ◌*◌, ◌/◌, ◌%◌, ◌<◌, ◌≤◌, List, [], ◌∷◌, Some, Ok, Err, get_or, length, max, arith, lit<, refl, sym, ◌∙◌, ap, subst, inl, inr}
+use Rattle.std.specs.Prelude.{Option, None, cond, if◌then◌else◌, nat_le, nat_eq, sum_by}
 use Rattle.std.specs.FinMap.{get}
 use Rattle.std.specs.List.{position_or_len, range_with_len}
 use Rattle.std.proofs.lemmas.Bool.{cases_lt}
@@ -21,10 +21,10 @@ use Rattle.cf_model.specs.State.{layout_of, paging_in}
 use Rattle.page_model.specs.Paging.{Paging}
 use Rattle.large_objects.specs.InnerObjects.{part_count, part_length, spine_bytes}
 use Rattle.large_objects.specs.Large.{LargeState}
-use Rattle.large_objects.specs.LargeCosts.{large_access_steps, large_free_steps, moving_costs, object_access_steps, object_free_steps, object_malloc_steps, parts_access_steps, parts_touched}
+use Rattle.large_objects.specs.LargeCosts.{large_access_steps, large_free_steps, moving_costs, object_access_steps, object_free_steps, parts_access_steps, parts_touched, slots_with}
 use Rattle.large_objects.specs.LargeSteps.{part_bytes_in}
-use Rattle.large_objects.proofs.MovingCosts.{access_is, free_is, malloc_is}
-use Rattle.held_large.specs.Most.{HasPagesOf, IsMostAccess, IsMostFree, IsMostMalloc, part_of, parts_of, slot_cap}
+use Rattle.large_objects.proofs.MovingCosts.{access_is, few_share, free_is, malloc_is}
+use Rattle.held_large.specs.Most.{HasPagesOf, IsMostAccess, IsMostFree, IsMostMalloc, part_of, slot_cap}
 
 -- the first of these sizes that is at least m; 0 if there is none
 abbrev chosen : ℕ → List ℕ → ℕ
@@ -92,66 +92,82 @@ words_are page_bytes w s has is =
     let low = size.large in let high = size.small in
     e ∙ sym (is (omega (arith, e, low)) (omega (arith, e, high)))
 
--- a malloc
-malloc_few : (u n : ℕ) → object_malloc_steps moving_costs u n ≤ 17 + 20 * parts_of u n
-malloc_few u n = elim (cases_lt u n) [
-  | inl long ↦ (let e = malloc_is u n long in let q : parts_of u n ≡ part_count u n = rw (le_no n u long) refl in omega (arith, e, q))
-  | inr short ↦ (let e : object_malloc_steps moving_costs u n ≡ 17 = rw (le_yes n u short) refl in omega (arith, e))
-]
-
-pub malloc_most : (page_bytes n w count : ℕ) → (64 ≤ page_bytes / 8 → page_bytes / 8 ≤ 16384 → w ≡ page_bytes / 8) → count ≡ parts_of (part_of w) n
-    → IsMostMalloc page_bytes n (17 + 20 * count)
-malloc_most page_bytes n w count words is s (Err e) has = omega arith
-malloc_most page_bytes n w count words is s (Ok h) has =
-    let e : part_bytes_in s ≡ part_of w = ap part_of (words_are page_bytes w s has words) in
-    subst (λ (u : ℕ). object_malloc_steps moving_costs u n ≤ 17 + 20 * count) (sym e)
-    (subst (λ (q : ℕ). object_malloc_steps moving_costs (part_of w) n ≤ 17 + 20 * q) (sym is) (malloc_few (part_of w) n))
-
--- a free, of which `last` is freed last: the object if it fits a page, else its spine
-free_few : (p : Profile) (bounds : List ℕ) (n last : ℕ)
-    → ((parts_of (part_of p.page_words) n ≡ 0) × (last ≡ n)) ⊎ ((parts_of (part_of p.page_words) n ≢ 0) × (last ≡ 4 * parts_of (part_of p.page_words) n))
-    → object_free_steps moving_costs (paging_of p Words bounds) (part_of p.page_words) n
-    ≤ 20 + (23 + p.page_words) * parts_of (part_of p.page_words) n + slot_cap p.page_words last
-free_few p bounds n last is = elim (cases_lt u n) [ inl long ↦ by_parts long | inr short ↦ by_page short ]
+-- of an inner object
+one_malloc : (k : ℕ) → moving_costs.malloc k ≤ 17
+one_malloc k = by (nat_eq k 1)
   where
-    u : ℕ
-    u = part_of p.page_words
+    by : (b : Bool) → (if b then 15 else 17) ≤ 17
+    by true = omega arith
+    by false = omega arith
 
-    P : Paging
-    P = paging_of p Words bounds
+one_free : (k s : ℕ) → moving_costs.free k s ≤ 20 + s
+one_free k s = by (nat_eq k 1)
+  where
+    by : (b : Bool) → (if b then 16 else 20) + s ≤ 20 + s
+    by true = omega arith
+    by false = omega arith
 
-    by_page : n ≤ u → object_free_steps moving_costs P u n ≤ 20 + (23 + p.page_words) * parts_of u n + slot_cap p.page_words last
-    by_page short =
-        let e : object_free_steps moving_costs P u n ≡ 20 + slot_for P n = rw (le_yes n u short) refl in
-        let q : parts_of u n ≡ 0 = rw (le_yes n u short) refl in
-        let few = slot_few p bounds n in
-        elim is [ inl a ↦ (let l = a.1 in rw (q, l) (omega (arith, e, few))) | inr b ↦ absurd (b.0 q) ]
+-- an object of n bytes in such a heap, whose pages have w words
+module _ (page_bytes n w : ℕ) (words : 64 ≤ page_bytes / 8 → page_bytes / 8 ≤ 16384 → w ≡ page_bytes / 8) where
+  part_bytes_are : (s : LargeState) → HasPagesOf page_bytes s → part_bytes_in s ≡ part_of w
+  part_bytes_are s has = ap part_of (words_are page_bytes w s has words)
 
-    by_parts : u < n → object_free_steps moving_costs P u n ≤ 20 + (23 + p.page_words) * parts_of u n + slot_cap p.page_words last
-    by_parts long =
-        let e = free_is P u n long in
-        let q : parts_of u n ≡ part_count u n = rw (le_no n u long) refl in
-        let sum = sum_few (λ i. slot_for P (part_length u n i)) p.page_words 0 (part_count u n) (λ i. (let few = slot_few p bounds (part_length u n i) in omega (arith, few))) in
-        let spine = slot_few p bounds (spine_bytes u n) in
-        let t : (23 + p.page_words) * part_count u n ≡ 23 * part_count u n + p.page_words * part_count u n = omega arith in
-        elim is [
-          | inl a ↦ (let z = sym q ∙ a.0 in let l = a.1 in rw q (omega (arith, e, sum, spine, t, z, l)))
-          | inr b ↦ (let l = b.1 in rw q (omega (arith, e, sum, spine, t, l, q)))
-        ]
+  slot_is_few : (s : LargeState) (m : ℕ) → HasPagesOf page_bytes s → slot_for (paging_in s.inner) m ≤ slot_cap w m
+  slot_is_few s m has =
+      subst (λ (k : Kind). slot_for (paging_of s.inner.profile (layout_of k) s.inner.bounds) m ≤ slot_cap w m) (sym has.kind)
+      (subst (λ (k : ℕ). slot_for (paging_of s.inner.profile Words s.inner.bounds) m ≤ slot_cap k m) (words_are page_bytes w s has words)
+      (slot_few s.inner.profile s.inner.bounds m))
 
-pub free_most : (page_bytes n w count last top : ℕ) → (64 ≤ page_bytes / 8 → page_bytes / 8 ≤ 16384 → w ≡ page_bytes / 8) → count ≡ parts_of (part_of w) n
-    → ((count ≡ 0) × (last ≡ n)) ⊎ ((count ≢ 0) × (last ≡ 4 * count)) → top ≡ slot_cap w last → IsMostFree page_bytes n (20 + (23 + w) * count + top)
-free_most page_bytes n w count last top words is branch top_is s h v has found many =
-    let width = words_are page_bytes w s has words in
-    let pages : paging_in s.inner ≡ paging_of s.inner.profile Words s.inner.bounds = ap (λ (k : Kind). paging_of s.inner.profile (layout_of k) s.inner.bounds) has.kind in
-    let steps : large_free_steps moving_costs s h ≡ object_free_steps moving_costs (paging_of s.inner.profile Words s.inner.bounds) (part_bytes_in s) n =
-    rw (found, large_free_steps) (ap (λ (p : Paging). object_free_steps moving_costs p (part_bytes_in s) (length v)) pages
-    ∙ ap (object_free_steps moving_costs (paging_of s.inner.profile Words s.inner.bounds) (part_bytes_in s)) many) in
-    let few = free_few s.inner.profile s.inner.bounds n last (subst (λ (q : ℕ). ((q ≡ 0) × (last ≡ n)) ⊎ ((q ≢ 0) × (last ≡ 4 * q)))
-    (is ∙ ap (λ (k : ℕ). parts_of (part_of k) n) (sym width)) branch) in
-    let at_w = subst (λ (k : ℕ). 20 + (23 + k) * parts_of (part_of k) n + slot_cap k last ≡ 20 + (23 + w) * count + top) (sym width)
-    (ap (λ (q : ℕ). 20 + (23 + w) * q + slot_cap w last) (sym is) ∙ ap (λ (x : ℕ). 20 + (23 + w) * count + x) (sym top_is)) in
-    omega (arith, steps, few, at_w)
+  -- the object of a free
+  freed : (s : LargeState) (h : ℕ) (v : List ℕ) → get s.objects h ≡ Some v → length v ≡ n
+      → large_free_steps moving_costs s h ≡ object_free_steps moving_costs (paging_in s.inner) (part_bytes_in s) n
+  freed s h v found many = rw (found, large_free_steps) (ap (object_free_steps moving_costs (paging_in s.inner) (part_bytes_in s)) many)
+
+  -- it fits a page
+  module _ (short : n ≤ part_of w) where
+    pub malloc_short : IsMostMalloc page_bytes n 17
+    malloc_short s (Err e) has = omega arith
+    malloc_short s (Ok h) has =
+        let u = part_bytes_are s has in
+        rw (le_yes n (part_bytes_in s) (omega (arith, u, short))) (one_malloc (slots_with (paging_in s.inner) n))
+
+    pub free_short : (top : ℕ) → top ≡ slot_cap w n → IsMostFree page_bytes n (20 + top)
+    free_short top top_is s h v has found many =
+        let u = part_bytes_are s has in
+        let is = freed s h v found many in
+        let one : object_free_steps moving_costs (paging_in s.inner) (part_bytes_in s) n ≤ 20 + slot_for (paging_in s.inner) n =
+        rw (le_yes n (part_bytes_in s) (omega (arith, u, short))) (one_free (slots_with (paging_in s.inner) n) (slot_for (paging_in s.inner) n)) in
+        let few = slot_is_few s n has in
+        omega (arith, is, one, few, top_is)
+
+  -- it has `count` parts
+  module _ (count : ℕ) (long : part_of w < n) (is : count ≡ part_count (part_of w) n) where
+    past : (s : LargeState) → HasPagesOf page_bytes s → part_bytes_in s < n
+    past s has = (let u = part_bytes_are s has in omega (arith, u, long))
+
+    counted : (s : LargeState) → HasPagesOf page_bytes s → part_count (part_bytes_in s) n ≡ count
+    counted s has = ap (λ (u : ℕ). part_count u n) (part_bytes_are s has) ∙ sym is
+
+    pub malloc_long : IsMostMalloc page_bytes n (19 + 18 * count)
+    malloc_long s (Err e) has = omega arith
+    malloc_long s (Ok h) has =
+        let steps = malloc_is (paging_in s.inner) (part_bytes_in s) n (past s has) in
+        let few = few_share s has.kept n (past s has) in
+        let q = counted s has in
+        omega (arith, steps, few, q)
+
+    pub free_long : (top : ℕ) → top ≡ slot_cap w (4 * count) → IsMostFree page_bytes n (24 + (19 + w) * count + top)
+    free_long top top_is s h v has found many =
+        let p : Paging = paging_in s.inner in
+        let u : ℕ = part_bytes_in s in
+        let steps = freed s h v found many ∙ free_is p u n (past s has) in
+        let few = few_share s has.kept n (past s has) in
+        let q = counted s has in
+        let sum = subst (λ (k : ℕ). sum_by (λ i. slot_for p (part_length u n i)) (range_with_len 0 (part_count u n)) ≤ w * k) q
+        (sum_few (λ i. slot_for p (part_length u n i)) w 0 (part_count u n) (λ i. (let f = slot_is_few s (part_length u n i) has in omega (arith, f)))) in
+        let spine = subst (λ (k : ℕ). slot_for p (spine_bytes u n) ≤ slot_cap w (4 * k)) q (slot_is_few s (spine_bytes u n) has) in
+        let t : (19 + w) * count ≡ 19 * count + w * count = omega arith in
+        omega (arith, steps, few, q, sum, spine, t, top_is)
 
 -- a read or a write
 access_few : (m n at count : ℕ) → 0 < m → 0 < count

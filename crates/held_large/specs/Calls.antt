@@ -12,7 +12,7 @@ use Rattle.cf_model.specs.Answers.{figures_in, totals_in}
 use Rattle.cf_model.specs.Steps.{IsOpeningOrder, IsOpeningWords, Position, ordered_heap}
 use Rattle.large_objects.specs.Large.{KeepsParts, LargeState}
 use Rattle.large_objects.specs.LargeCosts.{large_access_steps, large_free_steps, large_malloc_steps, moving_costs}
-use Rattle.large_objects.specs.LargeSteps.{IsLargeFree, IsLargeMalloc, IsLargeRead, IsLargeWrite, StaysKept, part_bytes_in}
+use Rattle.large_objects.specs.LargeSteps.{IsLargeFree, IsLargeMalloc, IsLargeRead, IsLargeWrite, StaysKept}
 use Rattle.step_ledger.specs.Counting.{RoseAtMost}
 use Rattle.c_base.specs.Codes.{access_code, malloc_code}
 use Rattle.c_base.specs.HandleRules.{AreFirstHandles}
@@ -40,7 +40,7 @@ pub record IsMallocCall (old : HeldState) (bytes before : ℕ) (code : ℤ) (aft
   pub by_number : after ≡ malloc_number old.handles before answer
   pub step : IsLargeMalloc old.heap bytes answer new.heap
   pub kept : StaysKept old.heap new.heap
-  pub bound : RoseAtMost 0 new.steps (large_malloc_steps moving_costs (part_bytes_in old.heap) bytes answer)
+  pub bound : RoseAtMost 0 new.steps (large_malloc_steps moving_costs old.heap bytes answer)
   pub same : new.handles ≡ old.handles
 
 -- the code of a free with this result

@@ -5,5 +5,4 @@ pub mod HandleRules
 pub mod CallerHeap
 pub mod Needed
 pub mod Large
-pub mod Loan
 pub mod Place

@@ -1,16 +1,14 @@
 -- What a caller in C gets as the most steps of a call before it: a bound in every heap of long objects over a moving heap whose pages have so many bytes, in every
 -- state of the heap.
-use Rattle.std.specs.Prelude.{◌≡◌, ℕ, ◌+◌, ◌-◌, ◌*◌, ◌/◌, ◌≤◌, List, Some, Result, length, max, min, nat_le, if◌then◌else◌}
+use Rattle.std.specs.Prelude.{◌≡◌, ℕ, ◌+◌, ◌-◌, ◌*◌, ◌/◌, ◌≤◌, List, Some, Result, length, max, min}
 use Rattle.std.specs.FinMap.{get}
 use Rattle.cf_base.specs.declared.answers.AccessFault.{AccessFault}
 use Rattle.cf_base.specs.declared.answers.Handle.{Handle}
 use Rattle.cf_base.specs.declared.answers.Refusal.{Refusal}
 use Rattle.cf_base.specs.declared.kind.Kind.TheVariants.{Moving}
 use Rattle.cf_model.specs.Steps.{Position}
-use Rattle.large_objects.specs.InnerObjects.{part_count}
 use Rattle.large_objects.specs.Large.{KeepsParts, LargeState}
 use Rattle.large_objects.specs.LargeCosts.{large_access_steps, large_free_steps, large_malloc_steps, moving_costs}
-use Rattle.large_objects.specs.LargeSteps.{part_bytes_in}
 
 -- the heap is over a moving one, and its pages have `page_bytes` bytes
 pub record HasPagesOf (page_bytes : ℕ) (s : LargeState) : Type 0 where
@@ -21,7 +19,7 @@ pub record HasPagesOf (page_bytes : ℕ) (s : LargeState) : Type 0 where
 -- a malloc of `bytes` bytes takes at most so many steps
 abbrev pub IsMostMalloc : ℕ → ℕ → ℕ → Type 0
 IsMostMalloc page_bytes bytes most =
-    (s : LargeState) (answer : Result Handle Refusal) → HasPagesOf page_bytes s → large_malloc_steps moving_costs (part_bytes_in s) bytes answer ≤ most
+    (s : LargeState) (answer : Result Handle Refusal) → HasPagesOf page_bytes s → large_malloc_steps moving_costs s bytes answer ≤ most
 
 -- a free of an object of `bytes` bytes
 abbrev pub IsMostFree : ℕ → ℕ → ℕ → Type 0
@@ -37,10 +35,6 @@ IsMostAccess page_bytes at count most =
 -- the bytes of a whole part in a page of w words
 abbrev pub part_of : ℕ → ℕ
 part_of w = 8 * (w - 1)
-
--- the parts of an object of n bytes, where a whole one has u; 0 if it fits a page
-abbrev pub parts_of : ℕ → ℕ → ℕ
-parts_of u n = if nat_le n u then 0 else part_count u n
 
 -- what the slot of an object of n bytes has at most, in words, in a page of w words: slot sizes rise by an eighth
 abbrev pub slot_cap : ℕ → ℕ → ℕ

@@ -1,10 +1,10 @@
 -- For `NphHeap` of `large.rt`, the struct that a caller in C has for its heap: the heap that it owns, and the struct when a borrow of that heap ends.
 use Rattle.std.specs.Prelude.{refl, true}
 use Rattle.std.specs.Borrow.{Fml, Lends, MutBor}
+use Rattle.c_base.specs.Borrow.{with_heap}
 use Rattle.c_base.specs.PlainHeap.{PlainHeap, heap_of}
 use Rattle.held_large.specs.HeldState.{HeldState}
 use Rattle.held_large.specs.Large.{open_heap}
-use Rattle.held_large.specs.Loan.{with_heap}
 use Rattle.held_large.specs.declared.large.NphHeap.{NphHeap}
 use Rattle.held_large.specs.contracts.large.NphHeap.{the_row}
 

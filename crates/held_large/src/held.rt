@@ -5,7 +5,7 @@ ghost use Rattle.cf_base.specs.Settings.{profile_of};
 
 use c_base::{DONE, Handles, NphClass, NphHeapTotals, UNKNOWN, of_access, of_refusal};
 use cf_base::{Handle, Settings};
-use cf_model::Manager;
+use cf_model::{Manager, StepBounds};
 use large_objects::LargeHeap;
 use moving_heap::MovingHeap;
 use std::alloc::Global;
@@ -27,6 +27,7 @@ pub struct Held {
 
 impl Model for Held {
     ghost use Rattle.std.specs.Prelude.{IsTrue};
+    ghost use Rattle.large_objects.specs.LargeCosts.{AreInnerCosts, moving_costs};
     ghost use Rattle.held_large.specs.HeldState.{HeldState, held_code};
 
     ghost Value = { HeldState };
@@ -35,7 +36,7 @@ impl Model for Held {
 
     ghost view = { λ h. record { heap = h.heap; steps = h.steps; handles = h.handles } };
 
-    ghost invariant = { λ h. IsTrue h.heap.is_open };
+    ghost invariant = { λ h. IsTrue h.heap.is_open × AreInnerCosts h.heap.inner ⟦<MovingHeap as StepBounds>⟧.most moving_costs };
 }
 
 impl Held {

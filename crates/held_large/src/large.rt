@@ -1,18 +1,13 @@
-//! `NphHeap`: what a caller in C has for its heap of long objects, open or closed; and in it `HeapBlock`, which owns the open heap.
-ghost use Rattle.std.specs.Prelude.{◌≡◌, Option, Some, None, IsSome, is_some};
+//! `NphHeap`: what a caller in C has for its heap of long objects, open or closed.
+ghost use Rattle.std.specs.Prelude.{◌≡◌, is_some};
 ghost use Rattle.std.specs.Borrow.{sem};
-ghost use Rattle.std.specs.Coded.{coded_option};
-ghost use Rattle.c_base.specs.HeapBlock.{place_owns};
-ghost use Rattle.held_large.specs.HeldState.{HeldState, held_code};
-ghost use Rattle.held_large.specs.Large.{open_heap};
 
 use crate::held::Held;
-use c_base::{DONE, Handles, MEMORY, NphNeeded, OPEN, Sealed, Unboxed, of_setting};
+use c_base::{DONE, Handles, HeapBlock, MEMORY, NphNeeded, OPEN, of_setting};
 use cf_base::{BytesNeeded, Settings};
 use large_objects::LargeHeap;
 use moving_heap::MovingHeap;
 use std::alloc::Global;
-use std::marker::Model;
 use std::mem::size_of;
 use std::rt::Memory;
 
@@ -21,89 +16,13 @@ const HELD_BYTES: u64 = 1512;
 
 const _: () = prove!(size_of::<Held>() == 1512);
 
-/// The address of the block of an open heap, which the `HeapBlock` owns; or null, and then it owns nothing.
-/// `held` is the state of the heap, `None` if the address is null.
-#[repr(C)]
-#[derive(Drop)]
-pub struct HeapBlock {
-    at: *mut Sealed,
-    pub(crate) ghost held: { Option HeldState } by { coded_option held_code },
-}
-
-impl Model for HeapBlock {
-    ghost also_owns = { λ p. place_owns open_heap p.at p.held };
-}
-
-unsafe impl Send for HeapBlock {}
-
-impl HeapBlock {
-    ghost use Rattle.held_large.specs.Loan.{LendsPlace};
-
-    /// Returns the `HeapBlock` with the null pointer, for a closed heap.
-    fn nowhere() -> HeapBlock
-        ensures { result.held ≡ None }
-    {
-        HeapBlock {
-            at: std::ptr::null_mut(),
-        }
-    }
-
-    /// Returns a `HeapBlock` that owns the block of this box.
-    fn of(b: Box<Held>) -> HeapBlock
-        ensures { result.held ≡ Some b.value }
-    {
-        place_of(Unboxed::new(b))
-    }
-
-    /// Returns the box of the open heap, with `alloc` as its allocator; dropping the box frees the block.
-    fn into_box(self, alloc: Global) -> Box<Held>
-        requires { IsSome self.held }
-        ensures { self.held ≡ Some result.value }
-    {
-        unboxed_of(self, alloc).boxed()
-    }
-
-    /// Borrows the open heap. When the borrow ends, the heap as it then is belongs to the `HeapBlock` again
-    /// (`writes_back`, a clause on the time after the borrow).
-    fn lend(&mut self) -> &mut Held
-        requires { IsSome self.old.held }
-        ensures* writes_back { sem 𝓛 (LendsPlace self.entry result) }
-        ensures value { self.old.held ≡ Some result.now }
-    {
-        unsafe { &mut *(self.at as *mut Held) }
-    }
-}
-
-/// Returns a `HeapBlock` that owns the block of a heap whose box was taken apart (`Unboxed`).
-fn place_of(u: Unboxed<Held, Global>) -> HeapBlock
-    ensures { result.held ≡ Some u.value }
-{
-    let Unboxed { alloc: _, at } = u;
-    HeapBlock {
-        at: at as *mut Sealed,
-    }
-}
-
-/// Returns the heap of a `HeapBlock` as the parts of a box (`Unboxed`): the block's address, and this allocator,
-/// which may free the block.
-fn unboxed_of(p: HeapBlock, alloc: Global) -> Unboxed<Held, Global>
-    requires { IsSome p.held }
-    ensures { p.held ≡ Some result.value }
-{
-    let HeapBlock { at } = p;
-    Unboxed {
-        alloc,
-        at: at as *mut Held,
-    }
-}
-
 /// A heap of long objects, open or closed, in memory of a caller in C. `shown` says that the flag is true if and only if the
 /// `HeapBlock` has a heap. `last` is the largest handle of the heaps that it had. Call `close` before it is dropped: a drop does not
 /// free the memory of an open heap.
 #[repr(C)]
 #[derive(Drop)]
 pub struct NphHeap {
-    place: HeapBlock,
+    place: HeapBlock<Held>,
     last: u32,
     is_open: bool,
     ghost shown: { is_open ≡ is_some place.held },

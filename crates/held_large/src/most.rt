@@ -1,7 +1,8 @@
 //! The most steps of each call, for a caller in C that plans before the call: bounds in every heap whose pages have `page_bytes`
 //! bytes. For a size that no page has they mean nothing.
 ghost use Rattle.std.specs.Prelude.{◌≡◌, ◌+◌, ◌/◌, ◌^◌, ◌<◌, ◌≤◌};
-ghost use Rattle.held_large.specs.Most.{IsMostAccess, IsMostFree, IsMostMalloc, part_of, parts_of, slot_cap};
+ghost use Rattle.large_objects.specs.InnerObjects.{part_count};
+ghost use Rattle.held_large.specs.Most.{IsMostAccess, IsMostFree, IsMostMalloc, part_of, slot_cap};
 
 /// The words of a page of `page_bytes` bytes; those of the least or the largest page if no page has so few or so many.
 fn page_words(page_bytes: u32) -> u32
@@ -12,18 +13,14 @@ fn page_words(page_bytes: u32) -> u32
     (page_bytes / 8).max(64).min(16384)
 }
 
-/// The number of parts of an object of `bytes` bytes in pages of `words` words; 0 if the object fits a page.
+/// The number of parts of an object of `bytes` bytes, which is longer than a page of `words` words.
 fn parts(words: u32, bytes: u32) -> u32
     requires least { 64 ≤ words }
     requires most { words ≤ 16384 }
-    ensures { result ≡ parts_of (part_of words) bytes }
+    requires long { part_of words < bytes }
+    ensures { result ≡ part_count (part_of words) bytes }
 {
-    let part_bytes = 8 * (words - 1);
-    if bytes <= part_bytes {
-        0
-    } else {
-        bytes.div_ceil(part_bytes)
-    }
+    bytes.div_ceil(8 * (words - 1))
 }
 
 /// The most words of the slot of an object of `bytes` bytes in a page of `words` words.
@@ -42,7 +39,11 @@ fn slot_words(words: u32, bytes: u64) -> u64
 pub fn most_malloc(page_bytes: u32, bytes: u32) -> u64
     ensures { IsMostMalloc page_bytes bytes result }
 {
-    17 + 20 * u64::from(parts(page_words(page_bytes), bytes))
+    let words = page_words(page_bytes);
+    if bytes <= 8 * (words - 1) {
+        return 17;
+    }
+    19 + 18 * u64::from(parts(words, bytes))
 }
 
 /// A free of an object of `bytes` bytes.
@@ -50,14 +51,12 @@ pub fn most_free(page_bytes: u32, bytes: u32) -> u64
     ensures { IsMostFree page_bytes bytes result }
 {
     let words = page_words(page_bytes);
+    if bytes <= 8 * (words - 1) {
+        return 20 + slot_words(words, u64::from(bytes));
+    }
     let count = u64::from(parts(words, bytes));
-    // What is freed last: the spine, or an object that fits a page.
-    let last = if count == 0 {
-        u64::from(bytes)
-    } else {
-        4 * count
-    };
-    20 + (23 + u64::from(words)) * count + slot_words(words, last)
+    // The slot of the spine, which has four bytes for each part, and those of the parts.
+    24 + (19 + u64::from(words)) * count + slot_words(words, 4 * count)
 }
 
 /// A read or a write of `count` bytes from byte `at` of an object on.
