@@ -1,13 +1,18 @@
 //! `NphHeap`: what a caller in C has for its heap of long objects, open or closed.
-ghost use Rattle.std.specs.Prelude.{◌≡◌, is_some};
+ghost use Rattle.std.specs.Prelude.{◌≡◌, Option, is_some};
 ghost use Rattle.std.specs.Borrow.{sem};
+ghost use Rattle.std.specs.Coded.{coded_option};
+ghost use Rattle.c_base.specs.HeapBlock.{place_owns};
+ghost use Rattle.held_large.specs.HeldState.{HeldState, held_code};
+ghost use Rattle.held_large.specs.Large.{open_heap};
 
 use crate::held::Held;
-use c_base::{DONE, Handles, HeapBlock, MEMORY, NphNeeded, OPEN, of_setting};
+use c_base::{DONE, Handles, HeapBlock, MEMORY, NphNeeded, OPEN, Sealed, of_setting};
 use cf_base::{BytesNeeded, Settings};
 use large_objects::LargeHeap;
 use moving_heap::MovingHeap;
 use std::alloc::Global;
+use std::marker::Model;
 use std::mem::size_of;
 use std::rt::Memory;
 
@@ -16,13 +21,39 @@ const HELD_BYTES: u64 = 1512;
 
 const _: () = prove!(size_of::<Held>() == 1512);
 
+/// A `HeapBlock`, in types that C may see.
+#[repr(C)]
+#[derive(Drop)]
+pub struct Place {
+    at: *mut Sealed,
+    pub(crate) ghost held: { Option HeldState } by { coded_option held_code },
+}
+
+impl Model for Place {
+    ghost also_owns = { λ p. place_owns open_heap p.at p.held };
+}
+
+unsafe impl Send for Place {}
+
+impl Place {
+    ghost use Rattle.held_large.specs.Place.{LendsInner, inner_of};
+
+    /// Borrows the `HeapBlock` that this is in memory.
+    fn inner(&mut self) -> &mut HeapBlock<Held>
+        ensures* writes_back { sem 𝓛 (LendsInner self.entry result) }
+        ensures value { result.now ≡ inner_of self.old }
+    {
+        unsafe { &mut *(self as *mut Place as *mut HeapBlock<Held>) }
+    }
+}
+
 /// A heap of long objects, open or closed, in memory of a caller in C. `shown` says that the flag is true if and only if the
 /// `HeapBlock` has a heap. `last` is the largest handle of the heaps that it had. Call `close` before it is dropped: a drop does not
 /// free the memory of an open heap.
 #[repr(C)]
 #[derive(Drop)]
 pub struct NphHeap {
-    place: HeapBlock<Held>,
+    place: Place,
     last: u32,
     is_open: bool,
     ghost shown: { is_open ≡ is_some place.held },
@@ -48,7 +79,7 @@ impl NphHeap {
         ensures* writes_back { sem 𝓛 (LendsHeap self.entry result) }
         ensures value { held_in self.old ≡ Opened result.now }
     {
-        self.place.lend()
+        self.place.inner().lend()
     }
 
     /// Writes into `needed` what `open` with these settings asks for. Returns `DONE`, or the code of the first setting
@@ -84,7 +115,7 @@ impl NphHeap {
             Err(fault) => of_setting(fault),
             Ok(s) => match Held::open(memory, &s, self.last) {
                 Some(heap) => {
-                    self.place = HeapBlock::of(heap);
+                    *self.place.inner() = HeapBlock::of(heap);
                     self.is_open = true;
                     DONE
                 }
@@ -100,9 +131,9 @@ impl NphHeap {
         if !self.is_open {
             return;
         }
-        self.last = self.place.lend().last();
+        self.last = self.place.inner().lend().last();
         self.is_open = false;
-        let place = std::mem::replace(&mut self.place, HeapBlock::nowhere());
+        let place = std::mem::replace(self.place.inner(), HeapBlock::nowhere());
         drop(place.into_box(Global::new(memory)));
     }
 }
