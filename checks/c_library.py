@@ -155,19 +155,21 @@ def header(crate):
     print('#include "norphuen.h"\n#include <stdbool.h>\n#define SAME(test, text) _Static_assert(test, text)')
     print('SAME(sizeof(nph_status) == sizeof(int32_t), "size of a status");')
     exported = exports(crate)
-    order = ['Sealed', 'Place'] + sorted(named(exported))
+    # The field with the address of the heap's block.
+    block = next(name for name in ('Place', 'HeapBlock') if name in all_structs)
+    order = ['Sealed', block] + sorted(named(exported))
     for name in order:
         print(f'struct twin_{name} {{\n' + '\n'.join(twin_field(*field) for field in all_structs.get(name) or fail(f'no struct {name}')) + '\n};')
     for name in sorted(named(exported)):
         c, fields = snake(name), all_structs[name]
         match = re.search(rf'typedef struct {c} \{{(.*?)\}} {c};', text, re.S) or fail(f'the header has no {c}')
         written = re.findall(r'(\w+);', match[1])
-        inner = ['at' if rust == 'Place' else field for field, rust in fields]
+        inner = ['at' if rust == block else field for field, rust in fields]
         compare_fields(crate, f'{c} of the header', name, written, inner)
         print(f'SAME(sizeof({c}) == sizeof(struct twin_{name}) && _Alignof({c}) == _Alignof(struct twin_{name}), "size of {c}");')
         for field, (twin, rust) in zip(inner, fields):
             print(f'SAME(offsetof({c}, {field}) == offsetof(struct twin_{name}, {twin}), "offset of {field} in {c}");')
-            kind = 'void *' if rust == 'Place' else c_type(rust)
+            kind = 'void *' if rust == block else c_type(rust)
             print(f'SAME(_Generic((({c} *)0)->{field}, {kind}: 1, default: 0), "type of {field} in {c}");')
     for name, parameters, result in exported:
         kind = f'{c_type(result)} (*)({", ".join(c_parameters(parameters)) or "void"})'
@@ -290,5 +292,5 @@ def binding_codes(rust_text, ada_text):
 mode, crate = sys.argv[1:]
 if mode == 'names':
     print('\n'.join(sorted(name for name, _, _ in exports(crate))))
-elif (mode, crate) != ('bindings', IMAGES):
+elif mode == 'header' or crate not in (IMAGES, LARGE):
     {'header': header, 'bindings': bindings}[mode](crate)
