@@ -100,16 +100,14 @@ def structs(crate):
     folder, module = (re.search(r'use (held_\w+)::(\w+)::(?:NphHeap|\{[^}]*\bNphHeap\b)', text) or fail(f'{crate}: no NphHeap')).groups()
     found = {}
     aliases = {(file, there): here for here, (file, there) in ELSEWHERE.items()}
-    files = [*sorted(BASE.glob('*.rt')), *sorted(Path('crates', folder, 'src').glob('*.rt')), *{file for file, _ in aliases}]
-    heaps = [file.stem for file in files if re.search(r'pub struct NphHeap\b', file.read_text())]
-    for file in files:
-        if file.stem in heaps and file.stem != (module if module in heaps else 'heap'):
+    for file in [*sorted(BASE.glob('*.rt')), *sorted(Path('crates', folder, 'src').glob('*.rt')), *{file for file, _ in aliases}]:
+        if 'pub struct NphHeap {' in file.read_text() and file.stem != module:
             continue
-        for name, inside in re.findall(r'#\[repr\(C\)\]\n(?:#\[[^\n]*\]\n)*pub struct (\w+)(?:<[^{]*>)? \{\n(.*?)\n\}', file.read_text(), re.S):
+        for name, inside in re.findall(r'#\[repr\(C\)\]\n(?:#\[[^\n]*\]\n)*pub struct (\w+) \{\n(.*?)\n\}', file.read_text(), re.S):
             name = aliases.get((file, name), name)
-            # A `Loan` has no bytes, and the type parameters of a field don't change its size.
-            lines = [line for line in inside.split('\n') if line.strip() and 'ghost ' not in line and '//' not in line and ': Loan<' not in line]
-            fields = re.findall(r'^ +(?:pub(?:\(crate\))? )?(\w+): ([^,{<]+)(?:<[^>]*>)?,$', '\n'.join(lines), re.M)
+            # A `Lent` and a `Nothing` have no bytes.
+            lines = [line for line in inside.split('\n') if line.strip() and not re.search(r'ghost |//|: (Lent|Nothing),$', line)]
+            fields = re.findall(r'^ +(?:pub(?:\(crate\))? )?(\w+): ([^,{]+),$', '\n'.join(lines), re.M)
             if len(fields) != len(lines):
                 fail(f'{file}: cannot read the struct {name}')
             if found.setdefault(name, fields) != fields:
@@ -157,19 +155,19 @@ def header(crate):
     print('#include "norphuen.h"\n#include <stdbool.h>\n#define SAME(test, text) _Static_assert(test, text)')
     print('SAME(sizeof(nph_status) == sizeof(int32_t), "size of a status");')
     exported = exports(crate)
-    order = ['HeapBlock'] + sorted(named(exported))
+    order = ['Sealed', 'Place'] + sorted(named(exported))
     for name in order:
         print(f'struct twin_{name} {{\n' + '\n'.join(twin_field(*field) for field in all_structs.get(name) or fail(f'no struct {name}')) + '\n};')
     for name in sorted(named(exported)):
         c, fields = snake(name), all_structs[name]
         match = re.search(rf'typedef struct {c} \{{(.*?)\}} {c};', text, re.S) or fail(f'the header has no {c}')
         written = re.findall(r'(\w+);', match[1])
-        inner = ['at' if rust == 'HeapBlock' else field for field, rust in fields]
+        inner = ['at' if rust == 'Place' else field for field, rust in fields]
         compare_fields(crate, f'{c} of the header', name, written, inner)
         print(f'SAME(sizeof({c}) == sizeof(struct twin_{name}) && _Alignof({c}) == _Alignof(struct twin_{name}), "size of {c}");')
         for field, (twin, rust) in zip(inner, fields):
             print(f'SAME(offsetof({c}, {field}) == offsetof(struct twin_{name}, {twin}), "offset of {field} in {c}");')
-            kind = 'void *' if rust == 'HeapBlock' else c_type(rust)
+            kind = 'void *' if rust == 'Place' else c_type(rust)
             print(f'SAME(_Generic((({c} *)0)->{field}, {kind}: 1, default: 0), "type of {field} in {c}");')
     for name, parameters, result in exported:
         kind = f'{c_type(result)} (*)({", ".join(c_parameters(parameters)) or "void"})'
@@ -261,14 +259,14 @@ def bindings(crate):
             fail(f'{ada_file}: {name} takes {given}, the export {wanted}')
     all_structs = structs(crate)
     for name in sorted(named(exported)):
-        fields = [('at' if kind == 'HeapBlock' else field, kind) for field, kind in all_structs[name]]
+        fields = [('at' if kind == 'Place' else field, kind) for field, kind in all_structs[name]]
         inside = re.search(rf'#\[repr\(C\)\]\n(?:#\[[^\n]*\]\n)*(?:pub )?struct {RUST[name]} \{{(.*?)\}}', rust_text + rust_types, re.S) or fail(f'{rust_file}: no {RUST[name]}')
         given = re.findall(r'(\w+): ([^,}]+?)\s*(?:,|$)', inside[1].strip())
-        wanted = [(field, '*mut u8' if kind == 'HeapBlock' else kind) for field, kind in fields]
+        wanted = [(field, '*mut u8' if kind == 'Place' else kind) for field, kind in fields]
         compare_fields(crate, f'{rust_file}: {RUST[name]}', name, given, wanted)
         inside = re.search(rf'type {ADA[name]} is (?:limited )?record (.*?) end record with Convention => C;', ada_flat) or fail(f'{ada_file}: no {ADA[name]}')
         given = re.findall(r'(\w+) : (\S+) :=', inside[1])
-        wanted = [('At_Address' if field == 'at' else field.title(), 'System.Address' if kind == 'HeapBlock' else ADA[kind]) for field, kind in fields]
+        wanted = [('At_Address' if field == 'at' else field.title(), 'System.Address' if kind == 'Place' else ADA[kind]) for field, kind in fields]
         compare_fields(crate, f'{ada_file}: {ADA[name]}', name, given, wanted)
     if crate not in OWN:
         binding_codes(rust_text, ada_text)

@@ -1,4 +1,4 @@
--- For `NphHeap::held`: a struct whose heap is open is that with these flags.
+-- For `LendableHeap::held`: a struct whose heap is open is that with these flags.
 use mathlib.Core.Bool.{Bool-set}
 use mathlib.Core.HLevel.{is_prop→PathP}
 use base.Stored.{Coded-set}
@@ -6,11 +6,11 @@ use denote.RawPtr.{coded_ptr}
 use Rattle.std.proofs.Common.{◌≡◌, ℕ, Bool, true, false, refl}
 use Rattle.c_base.specs.Borrow.{with_heap}
 use Rattle.c_base.specs.declared.block.HeapBlock.{HeapBlock}
-use Rattle.c_base.specs.declared.heap.NphHeap.{NphHeap}
+use Rattle.c_base.specs.declared.heap.LendableHeap.{LendableHeap}
 use Rattle.c_base.specs.declared.loan.Loan.{Loan}
 
 pub again : {T S : Type 0} (p : HeapBlock T) (l : Loan T S) (last : ℕ) (h : T) (o n : Bool) (s : o ≡ true) (t : n ≡ false) (u : l.block ≡ l.block)
-    → ◌≡◌ {A = NphHeap T S} (record { place = with_heap p h; loan = l; last = last; is_open = o; is_lent = n; shown = s; lent_shown = t; same = u })
+    → ◌≡◌ {A = LendableHeap T S} (record { place = with_heap p h; loan = l; last = last; is_open = o; is_lent = n; shown = s; lent_shown = t; same = u })
     (record { place = with_heap p h; loan = l; last = last; is_open = true; is_lent = false; shown = refl; lent_shown = refl; same = refl })
 again p l last h o n s t u = λ i. record {
   place = with_heap p h;

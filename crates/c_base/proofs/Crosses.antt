@@ -1,4 +1,4 @@
--- For `Send` of `HeapBlock` and of `Loan`: the memory that they own belongs to no thread, so C may pass them to another thread.
+-- For `Send` of what C has for a heap: the memory that a `HeapBlock` and a `Loan` own belongs to no thread, so C may pass it to another thread.
 use Rattle.std.proofs.Common.{ℕ, ◌+◌, List, [], ◌∷◌, length}
 use base.Shift.{Keyless}
 use denote.Array.{Array}

@@ -1,20 +1,20 @@
--- For `NphHeap`, the struct that a caller in C has for its heap: the heap that it owns, and the struct when a borrow of that heap ends.
+-- For `LendableHeap`, the struct that a caller in C has for its heap: the heap that it owns, and the struct when a borrow of that heap ends.
 use denote.RattleType.{RattleType}
 use Rattle.std.specs.Prelude.{refl, true, false}
 use Rattle.std.specs.Borrow.{Fml, Lends, MutBor}
 use Rattle.c_base.specs.Borrow.{with_heap}
 use Rattle.c_base.specs.CallerHeap.{CallerHeap, heap_of}
-use Rattle.c_base.specs.declared.heap.NphHeap.{NphHeap}
+use Rattle.c_base.specs.declared.heap.LendableHeap.{LendableHeap}
 use Rattle.c_base.specs.declared.loan.Lendable.{Ghosts}
-use Rattle.c_base.specs.contracts.heap.NphHeap.{the_row}
+use Rattle.c_base.specs.contracts.heap.LendableHeap.{the_row}
 
 -- the heap of the struct: closed, open or lent
-abbrev pub held_in : {T S : Type 0} → NphHeap T S → CallerHeap T
+abbrev pub held_in : {T S : Type 0} → LendableHeap T S → CallerHeap T
 held_in n = heap_of n.place.held n.loan.heap n.loan.words n.last
 
 -- s is the borrow of the struct, r that of its heap: when r ends, the struct is open, and has the heap as r leaves it. `Lends` of the standard library states
 -- this: its last argument computes the struct from the state h in which r leaves the heap. `the_row` is the type of the struct.
-abbrev pub LendsHeap : (T S : RattleType) (g : Ghosts T.Denot S.Denot) → MutBor (NphHeap T.Denot S.Denot) → MutBor T.Denot → Fml
+abbrev pub LendsHeap : (T S : RattleType) (g : Ghosts T.Denot S.Denot) → MutBor (LendableHeap T.Denot S.Denot) → MutBor T.Denot → Fml
 LendsHeap T S g s r = Lends (the_row T S g) T s r (λ h. record {
   place = with_heap s.now.place h;
   loan = s.now.loan;

@@ -20,8 +20,6 @@ impl<T> Model for HeapBlock<T> {
     ghost also_owns = { λ p. place_owns T.row p.at p.held };
 }
 
-unsafe impl<T: Send> Send for HeapBlock<T> {}
-
 impl<T> HeapBlock<T> {
     ghost use Rattle.c_base.specs.Borrow.{LendsPlace};
 

@@ -1,4 +1,4 @@
-//! `NphHeap`: what a caller in C has for its heap, open, lent or closed.
+//! `LendableHeap`: what a caller in C has for its heap, open, lent or closed, for each type of heap that can be lent.
 ghost use Rattle.std.specs.Prelude.{◌≡◌};
 ghost use Rattle.std.specs.Borrow.{sem};
 ghost use Rattle.c_base.specs.CallerHeap.{block_in, heap_of, lent_now, opened_now};
@@ -14,7 +14,7 @@ use std::rt::Memory;
 /// the largest handle of the heaps that it had. Call `close` before it is dropped: a drop does not free the memory of a heap.
 #[repr(C)]
 #[derive(Drop)]
-pub struct NphHeap<T: Lendable<S>, S> {
+pub struct LendableHeap<T: Lendable<S>, S> {
     place: HeapBlock<T>,
     loan: Loan<T, S>,
     last: u32,
@@ -25,7 +25,7 @@ pub struct NphHeap<T: Lendable<S>, S> {
     ghost same: { loan.block ≡ block_in (heap_of place.held loan.heap loan.words last) place.at loan.block },
 }
 
-impl<T: Lendable<S>, S> NphHeap<T, S> {
+impl<T: Lendable<S>, S> LendableHeap<T, S> {
     ghost use Rattle.std.specs.Prelude.{IsTrue};
     ghost use Rattle.c_base.specs.AtPlace.{IsLendCall, IsReturnCall};
     ghost use Rattle.c_base.specs.CallerHeap.{Opened, closed_now, refusal_code};
@@ -107,7 +107,7 @@ impl<T: Lendable<S>, S> NphHeap<T, S> {
     }
 }
 
-impl<T: Lendable<S> + Drop, S> NphHeap<T, S> {
+impl<T: Lendable<S> + Drop, S> LendableHeap<T, S> {
     ghost use Rattle.std.specs.Prelude.{IsOk};
     ghost use Rattle.c_base.specs.CallerHeap.{Opened, closed_now, closed_with};
     ghost use Rattle.c_base.specs.Place.{held_in};

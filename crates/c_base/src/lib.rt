@@ -10,6 +10,7 @@ mod heap;
 pub mod laws;
 mod loan;
 mod needed;
+mod place;
 mod unboxed;
 
 pub use answers::{NphClass, NphCounted, NphFreed, NphHeapTotals, NphNeeded, NphResized};
@@ -20,7 +21,8 @@ pub use codes::{
     of_access, of_refusal, of_resize, of_setting,
 };
 pub use handles::Handles;
-pub use heap::NphHeap;
+pub use heap::LendableHeap;
 pub use loan::{Lendable, Loan};
 pub use needed::needed_with;
+pub use place::{Nothing, Sealed};
 pub use unboxed::Unboxed;

@@ -55,8 +55,6 @@ impl<T: Lendable<S>, S> Model for Loan<T, S> {
     ghost also_owns = { λ l. loan_owns S.row T.lending l.block l.words l.heap };
 }
 
-unsafe impl<T: Lendable<S> + Send, S: Send> Send for Loan<T, S> {}
-
 impl<T: Lendable<S>, S> Loan<T, S> {
     /// Returns the `Loan` of nothing.
     pub fn none() -> Loan<T, S>

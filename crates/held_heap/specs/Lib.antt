@@ -21,3 +21,5 @@ pub mod Slots
 pub mod Walk
 pub mod Bound
 pub mod PagesNeeded
+pub mod MovingPlace
+pub mod TlsfPlace

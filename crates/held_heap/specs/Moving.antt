@@ -12,6 +12,7 @@ use Rattle.paged_heap.specs.contracts.page_kind.DirectPageKind.TheImpl as page_k
 use Rattle.virtual_words.specs.contracts.direct.Direct.{the_row}
 use Rattle.virtual_words.specs.contracts.direct.DirectMapping.TheImpl as mapping
 use Rattle.held_heap.specs.contracts.held.Held as held
+use Rattle.held_heap.specs.contracts.loose.LooseHeld as loose
 use Rattle.held_heap.specs.contracts.of_kind.PagedHeapOfKind.TheImpl as of_kind
 
 -- an open heap of the moving manager, `Held`
@@ -21,6 +22,10 @@ open_heap = held.the_row
     (of_kind.ghosts the_row page_kind.ghosts of_kind.no_dict mapping.ghosts of_kind.no_dict)
     (manager.ghosts the_row page_kind.ghosts manager.no_dict mapping.ghosts manager.no_dict)
     (step_bounds.ghosts the_row page_kind.ghosts step_bounds.no_dict mapping.ghosts step_bounds.no_dict)
+
+-- its fields
+abbrev pub loose_heap : RattleType
+loose_heap = loose.the_row
 
 -- the step bounds of the manager
 abbrev pub bounds : Option Bounds

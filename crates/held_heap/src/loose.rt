@@ -1,13 +1,17 @@
 //! `LooseHeld`: an open heap of the moving manager with its step count, as `Held` has it, field by field, but with no
 //! invariant. A `Held` is a `LooseHeld` whose heap is valid, in the same memory; so the words of its region can be
 //! borrowed all at once.
-ghost use Rattle.std.specs.Prelude.{◌≡◌, IsSome, length};
+ghost use Rattle.std.specs.Prelude.{◌≡◌, IsSome, length, refl};
+ghost use Rattle.c_base.specs.Lending.{AreOf, IsFit};
 ghost use Rattle.std.specs.Borrow.{sem};
 ghost use Rattle.paged_heap.specs.PagedState.{region_in};
-ghost use Rattle.held_heap.specs.Loose.{words_of};
+ghost use Rattle.held_heap.specs.Loose.{lending as of_held, words_of};
 ghost use Rattle.held_heap.specs.LooseLoan.{LendsAllOf, LendsAllIn, LendsAllWords};
+ghost use Rattle.held_heap.specs.Restored.{moving_restored};
 
-use c_base::{Handles, NphCounted};
+use crate::held::Held;
+use c_base::{Handles, HeapBlock, Lendable, NphCounted};
+use moving_heap::MovingHeap;
 use paged_heap::OpenHeap;
 use std::alloc::Global;
 use std::marker::PhantomData;
@@ -57,7 +61,7 @@ fn all_in(inner: &mut Option<OpenHeap>, memory: Memory) -> &mut [u64]
 
 /// Borrows all words of the region of a heap that is open. When the borrow ends, the region has the words as they then
 /// are.
-pub(crate) fn all_words(held: &mut LooseHeld) -> &mut [u64]
+fn all_words(held: &mut LooseHeld) -> &mut [u64]
     requires open { IsSome held.old.heap.inner }
     ensures* writes_back { sem 𝓛 (LendsAllWords held.entry result) }
     ensures value { result.now ≡ words_of held.old }
@@ -65,4 +69,40 @@ pub(crate) fn all_words(held: &mut LooseHeld) -> &mut [u64]
     let memory = held.memory;
     let heap = &mut held.heap;
     all_in(&mut heap.inner, memory)
+}
+
+impl Lendable<LooseHeld> for Held<MovingHeap> {
+    ghost lending = { of_held };
+
+    fn loosened(block: HeapBlock<Held<MovingHeap>>) -> HeapBlock<LooseHeld>
+        requires { IsSome block.held }
+        ensures { AreOf of_held result.held block.held }
+    {
+        let HeapBlock { at } = block;
+        HeapBlock {
+            at: at as *mut LooseHeld,
+        }
+    }
+
+    fn tightened(block: HeapBlock<LooseHeld>) -> HeapBlock<Held<MovingHeap>>
+        requires { IsFit of_held block.held }
+        ensures { AreOf of_held block.held result.held }
+    {
+        let HeapBlock { at } = block;
+        HeapBlock {
+            at: at as *mut Held<MovingHeap>,
+        }
+    }
+
+    fn all_words(parts: &mut LooseHeld) -> &mut [u64] {
+        all_words(parts)
+    }
+
+    fn last(&self) -> u32 {
+        self.last_handle()
+    }
+
+    ghost restored = { moving_restored };
+
+    ghost forever = { refl };
 }

@@ -1,12 +1,15 @@
 //! `LooseTlsf`: an open heap of the TLSF manager with its step count, as `Held` has it, field by field, but with no
 //! invariant. A `Held` is a `LooseTlsf` whose heap is valid, in the same memory; so the words of its region can be
 //! borrowed all at once.
-ghost use Rattle.std.specs.Prelude.{◌≡◌, IsSome, length};
+ghost use Rattle.std.specs.Prelude.{◌≡◌, IsSome, length, refl};
+ghost use Rattle.c_base.specs.Lending.{AreOf, IsFit};
 ghost use Rattle.std.specs.Borrow.{sem};
-ghost use Rattle.held_heap.specs.LooseTlsf.{region_in, words_of};
+ghost use Rattle.held_heap.specs.LooseTlsf.{lending as of_held, region_in, words_of};
 ghost use Rattle.held_heap.specs.LooseTlsfLoan.{LendsAllIn, LendsAllOfBlocks, LendsAllOfOpen, LendsAllWords};
+ghost use Rattle.held_heap.specs.Restored.{tlsf_restored};
 
-use c_base::{Handles, NphCounted};
+use crate::held::Held;
+use c_base::{Handles, HeapBlock, Lendable, NphCounted};
 use cf_base::Settings;
 use proxy_table::ProxyTable;
 use region::Region;
@@ -14,7 +17,7 @@ use std::alloc::Global;
 use std::marker::PhantomData;
 use std::rt::Memory;
 use step_ledger::{CellArray, Cells, Meter};
-use tlsf_heap::TlsfBuckets;
+use tlsf_heap::{TlsfBuckets, TlsfHeap};
 
 /// The heads of the free lists, and their bitmaps.
 #[derive(Drop)]
@@ -94,7 +97,7 @@ fn all_in(inner: &mut Option<LooseOpen>, memory: Memory) -> &mut [u64]
 
 /// Borrows all words of the region of a heap that is open. When the borrow ends, the region has the words as they then
 /// are.
-pub(crate) fn all_words(held: &mut LooseTlsf) -> &mut [u64]
+fn all_words(held: &mut LooseTlsf) -> &mut [u64]
     requires open { IsSome held.old.heap.inner }
     ensures* writes_back { sem 𝓛 (LendsAllWords held.entry result) }
     ensures value { result.now ≡ words_of held.old }
@@ -102,4 +105,40 @@ pub(crate) fn all_words(held: &mut LooseTlsf) -> &mut [u64]
     let memory = held.memory;
     let heap = &mut held.heap;
     all_in(&mut heap.inner, memory)
+}
+
+impl Lendable<LooseTlsf> for Held<TlsfHeap> {
+    ghost lending = { of_held };
+
+    fn loosened(block: HeapBlock<Held<TlsfHeap>>) -> HeapBlock<LooseTlsf>
+        requires { IsSome block.held }
+        ensures { AreOf of_held result.held block.held }
+    {
+        let HeapBlock { at } = block;
+        HeapBlock {
+            at: at as *mut LooseTlsf,
+        }
+    }
+
+    fn tightened(block: HeapBlock<LooseTlsf>) -> HeapBlock<Held<TlsfHeap>>
+        requires { IsFit of_held block.held }
+        ensures { AreOf of_held block.held result.held }
+    {
+        let HeapBlock { at } = block;
+        HeapBlock {
+            at: at as *mut Held<TlsfHeap>,
+        }
+    }
+
+    fn all_words(parts: &mut LooseTlsf) -> &mut [u64] {
+        all_words(parts)
+    }
+
+    fn last(&self) -> u32 {
+        self.last_handle()
+    }
+
+    ghost restored = { tlsf_restored };
+
+    ghost forever = { refl };
 }

@@ -1,13 +1,18 @@
 //! `NphHeap` for the non-moving manager: what a caller in C has for its heap, open or closed. Each manager has such a file,
 //! since an export takes no type parameters.
-ghost use Rattle.std.specs.Prelude.{◌≡◌, is_some};
+ghost use Rattle.std.specs.Prelude.{◌≡◌, Option, is_some};
 ghost use Rattle.std.specs.Borrow.{sem};
+ghost use Rattle.std.specs.Coded.{coded_option};
+ghost use Rattle.c_base.specs.HeapBlock.{place_owns};
+ghost use Rattle.held_heap.specs.HeldState.{HeldState, held_code};
+ghost use Rattle.held_heap.specs.NonMoving.{open_heap};
 
 use crate::held::Held;
-use c_base::{DONE, HeapBlock, MEMORY, NphNeeded, OPEN, needed_with, of_setting};
+use c_base::{DONE, HeapBlock, MEMORY, NphNeeded, OPEN, Sealed, needed_with, of_setting};
 use cf_base::Settings;
 use nonmoving_heap::NonMovingHeap;
 use std::alloc::Global;
+use std::marker::Model;
 use std::mem::size_of;
 use std::rt::Memory;
 
@@ -19,13 +24,39 @@ const HELD_BYTES: u64 = 1528;
 
 const _: () = prove!(size_of::<Open>() == 1528);
 
+/// A `HeapBlock`, in types that C may see.
+#[repr(C)]
+#[derive(Drop)]
+pub struct Place {
+    at: *mut Sealed,
+    pub(crate) ghost held: { Option HeldState } by { coded_option held_code },
+}
+
+impl Model for Place {
+    ghost also_owns = { λ p. place_owns open_heap p.at p.held };
+}
+
+unsafe impl Send for Place {}
+
+impl Place {
+    ghost use Rattle.held_heap.specs.NonMovingPlace.{LendsInner, inner_of};
+
+    /// Borrows the `HeapBlock` that this is in memory.
+    fn inner(&mut self) -> &mut HeapBlock<Open>
+        ensures* writes_back { sem 𝓛 (LendsInner self.entry result) }
+        ensures value { result.now ≡ inner_of self.old }
+    {
+        unsafe { &mut *(self as *mut Place as *mut HeapBlock<Open>) }
+    }
+}
+
 /// A heap, open or closed, in memory of a caller in C. `shown` says that the flag is true if and only if the
 /// `HeapBlock` has a heap. `last` is the largest handle
 /// of the heaps that it had. Call `close` before it is dropped: a drop does not free the memory of an open heap.
 #[repr(C)]
 #[derive(Drop)]
 pub struct NphHeap {
-    place: HeapBlock<Open>,
+    place: Place,
     last: u32,
     is_open: bool,
     ghost shown: { is_open ≡ is_some place.held },
@@ -53,7 +84,7 @@ impl NphHeap {
         ensures* writes_back { sem 𝓛 (LendsHeap self.entry result) }
         ensures value { held_in self.old ≡ Opened result.now }
     {
-        self.place.lend()
+        self.place.inner().lend()
     }
 
     /// Writes into `needed` what `open` with these settings asks for. Returns `DONE`, or the code of the first setting
@@ -94,7 +125,7 @@ impl NphHeap {
                 self.last,
             ) {
                 Some(heap) => {
-                    self.place = HeapBlock::of(heap);
+                    *self.place.inner() = HeapBlock::of(heap);
                     self.is_open = true;
                     DONE
                 }
@@ -110,9 +141,9 @@ impl NphHeap {
         if !self.is_open {
             return;
         }
-        self.last = self.place.lend().last_handle();
+        self.last = self.place.inner().lend().last_handle();
         self.is_open = false;
-        let place = std::mem::replace(&mut self.place, HeapBlock::nowhere());
+        let place = std::mem::replace(self.place.inner(), HeapBlock::nowhere());
         drop(place.into_box(Global::new(memory)));
     }
 }

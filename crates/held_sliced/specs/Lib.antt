@@ -11,3 +11,4 @@ pub mod Loose
 pub mod LooseLoan
 pub mod Restored
 pub mod Written
+pub mod Place

@@ -1,13 +1,18 @@
 //! `NphHeap`: what a caller in C has for its heap of sixteen tasks, open or closed.
-ghost use Rattle.std.specs.Prelude.{◌≡◌, is_some};
+ghost use Rattle.std.specs.Prelude.{◌≡◌, Option, is_some};
 ghost use Rattle.std.specs.Borrow.{sem};
+ghost use Rattle.std.specs.Coded.{coded_option};
+ghost use Rattle.c_base.specs.HeapBlock.{place_owns};
+ghost use Rattle.held_tasks.specs.TasksState.{TasksState, tasks_code};
+ghost use Rattle.held_tasks.specs.Tasks.{open_heap};
 
 use crate::handles::TaskHandles;
 use crate::held::HeldTasks;
-use c_base::{DONE, HeapBlock, MEMORY, NphNeeded, OPEN, of_setting};
+use c_base::{DONE, HeapBlock, MEMORY, NphNeeded, OPEN, Sealed, of_setting};
 use cf_base::{BytesNeeded, Settings};
 use quota_heap::QuotaHeap;
 use std::alloc::Global;
+use std::marker::Model;
 use std::mem::size_of;
 use std::rt::Memory;
 
@@ -16,13 +21,39 @@ const HELD_BYTES: u64 = 248;
 
 const _: () = prove!(size_of::<HeldTasks>() == 248);
 
+/// A `HeapBlock`, in types that C may see.
+#[repr(C)]
+#[derive(Drop)]
+pub struct Place {
+    at: *mut Sealed,
+    pub(crate) ghost held: { Option TasksState } by { coded_option tasks_code },
+}
+
+impl Model for Place {
+    ghost also_owns = { λ p. place_owns open_heap p.at p.held };
+}
+
+unsafe impl Send for Place {}
+
+impl Place {
+    ghost use Rattle.held_tasks.specs.Place.{LendsInner, inner_of};
+
+    /// Borrows the `HeapBlock` that this is in memory.
+    fn inner(&mut self) -> &mut HeapBlock<HeldTasks>
+        ensures* writes_back { sem 𝓛 (LendsInner self.entry result) }
+        ensures value { result.now ≡ inner_of self.old }
+    {
+        unsafe { &mut *(self as *mut Place as *mut HeapBlock<HeldTasks>) }
+    }
+}
+
 /// A heap of sixteen tasks, open or closed, in memory of a caller in C. `shown` says that the flag is true if and only if the
 /// `HeapBlock` has a heap. `last` is the largest handle of the heaps that it had. Call `close` before it is dropped: a drop does not
 /// free the memory of an open heap.
 #[repr(C)]
 #[derive(Drop)]
 pub struct NphHeap {
-    place: HeapBlock<HeldTasks>,
+    place: Place,
     last: u32,
     is_open: bool,
     ghost shown: { is_open ≡ is_some place.held },
@@ -48,7 +79,7 @@ impl NphHeap {
         ensures* writes_back { sem 𝓛 (LendsHeap self.entry result) }
         ensures value { held_in self.old ≡ Opened result.now }
     {
-        self.place.lend()
+        self.place.inner().lend()
     }
 
     /// Writes into `needed` what `open` with these settings asks for. Returns `DONE`, or the code of the first setting
@@ -86,7 +117,7 @@ impl NphHeap {
             Err(fault) => of_setting(fault),
             Ok(s) => match HeldTasks::open(memory, &s, self.last) {
                 Some(heap) => {
-                    self.place = HeapBlock::of(heap);
+                    *self.place.inner() = HeapBlock::of(heap);
                     self.is_open = true;
                     DONE
                 }
@@ -102,9 +133,9 @@ impl NphHeap {
         if !self.is_open {
             return;
         }
-        self.last = self.place.lend().last();
+        self.last = self.place.inner().lend().last();
         self.is_open = false;
-        let place = std::mem::replace(&mut self.place, HeapBlock::nowhere());
+        let place = std::mem::replace(self.place.inner(), HeapBlock::nowhere());
         drop(place.into_box(Global::new(memory)));
     }
 }

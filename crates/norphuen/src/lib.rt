@@ -11,7 +11,7 @@ ghost use Rattle.cf_base.specs.declared.kind.Layout.TheVariants.{Words};
 ghost use Rattle.held_heap.specs.Bound.{IsBoundCall};
 ghost use Rattle.held_heap.specs.Calls.{IsCountsCall, IsFiguresCall, IsFreeCall, IsLengthCall, IsMallocCall, IsPlaceCall, IsReadCall, IsResizeCall, IsRoomCall, IsStepsCall, IsTotalsCall, IsWriteCall};
 ghost use Rattle.c_base.specs.AtPlace.{IsCallOnOpen, IsLendCall, IsReturnCall};
-ghost use Rattle.c_base.specs.Place.{held_in};
+ghost use Rattle.held_heap.specs.MovingPlace.{held_in};
 ghost use Rattle.held_heap.specs.AtPlace.{IsOpenCall};
 ghost use Rattle.held_heap.specs.CallerHeap.{closed_by};
 ghost use Rattle.held_heap.specs.Most.{IsMostAccess, IsMostFree, IsMostLength, IsMostMalloc, IsMostResize, IsMostRoom, IsMostTotals, kind_code};
@@ -23,7 +23,7 @@ ghost use Rattle.held_heap.specs.Moving.{bounds};
 ghost use Rattle.c_base.specs.Version.{version};
 
 use cf_base::{Kind, Layout};
-use held_heap::moving::{self, NphHeap};
+use held_heap::moving::NphHeap;
 use held_heap::{
     NphClass, NphCounted, NphFreed, NphHeapTotals, NphNeed, NphNeeded, NphResized, VERSION, most,
     pages_needed,
@@ -31,7 +31,7 @@ use held_heap::{
 use std::rt::Memory;
 
 /// Opens the heap with these settings: `pages` pages of `page_bytes` bytes, at most `k` partly full pages in
-/// each class, and at most `proxies` live objects (`moving::open`). `memory`, here and in `nph_close`, is the
+/// each class, and at most `proxies` live objects (`NphHeap::open`). `memory`, here and in `nph_close`, is the
 /// kit's value for the memory of the process; a caller in C passes none.
 #[unsafe(no_mangle)]
 pub extern "C" fn nph_open(
@@ -44,12 +44,12 @@ pub extern "C" fn nph_open(
 ) -> i32
     ensures { IsOpenCall Moving (held_in heap.old) pages page_bytes k proxies result (held_in heap.new) }
 {
-    moving::open(heap, memory, pages, page_bytes, k, proxies)
+    heap.open(memory, pages, page_bytes, k, proxies)
 }
 
 /// Writes into `needed` what `nph_open` with these settings asks of the functions that take and return memory: how many
 /// blocks, the bytes of all, and those of the largest. The caller's own memory for `heap` isn't counted, nor what the
-/// functions need for a block. Returns 0, or the code of the first setting out of range (`moving::bytes_needed`).
+/// functions need for a block. Returns 0, or the code of the first setting out of range (`NphHeap::bytes_needed`).
 #[unsafe(no_mangle)]
 pub extern "C" fn nph_bytes_needed(
     pages: u32,
@@ -60,7 +60,7 @@ pub extern "C" fn nph_bytes_needed(
 ) -> i32
     ensures { IsNeededCall Moving pages page_bytes k proxies result needed.old needed.new }
 {
-    moving::bytes_needed(pages, page_bytes, k, proxies, needed)
+    NphHeap::bytes_needed(pages, page_bytes, k, proxies, needed)
 }
 
 /// Writes into `pages` the least number of pages of `page_bytes` bytes with which no call of a program is refused for space
@@ -78,12 +78,12 @@ pub extern "C" fn nph_pages_needed(
     pages_needed(Layout::Words, page_bytes, k, needs, pages)
 }
 
-/// Closes the heap and frees its memory, also if it is lent; does nothing if it is closed (`NphHeap::close`).
+/// Closes the heap and frees its memory, also if it is lent; does nothing if it is closed (`LendableHeap::close`).
 #[unsafe(no_mangle)]
 pub extern "C" fn nph_close(heap: &mut NphHeap, memory: Memory)
     ensures { held_in heap.new ≡ closed_by (held_in heap.old) }
 {
-    heap.close(memory);
+    heap.inner().close(memory);
 }
 
 /// Makes an object of `bytes` zeros and writes its handle into `handle` (`Held::malloc`).
@@ -92,6 +92,7 @@ pub extern "C" fn nph_malloc(heap: &mut NphHeap, bytes: u32, handle: &mut u32) -
     ensures { IsCallOnOpen (held_in heap.old) result (held_in heap.new) (handle.new ≡ handle.old)
         (λ h h2. IsMallocCall bounds h bytes handle.old result handle.new h2) }
 {
+    let heap = heap.inner();
     if heap.is_open() {
         heap.held().malloc(bytes, handle)
     } else {
@@ -106,6 +107,7 @@ pub extern "C" fn nph_free(heap: &mut NphHeap, handle: u32, freed: &mut NphFreed
     ensures { IsCallOnOpen (held_in heap.old) result (held_in heap.new) (freed.new ≡ freed.old)
         (λ h h2. IsFreeCall bounds h handle freed.old result freed.new h2) }
 {
+    let heap = heap.inner();
     if heap.is_open() {
         heap.held().free(handle, freed)
     } else {
@@ -125,6 +127,7 @@ pub extern "C" fn nph_resize(
     ensures { IsCallOnOpen (held_in heap.old) result (held_in heap.new) (resized.new ≡ resized.old)
         (λ h h2. IsResizeCall bounds h handle bytes resized.old result resized.new h2) }
 {
+    let heap = heap.inner();
     if heap.is_open() {
         heap.held().resize(handle, bytes, resized)
     } else {
@@ -138,6 +141,7 @@ pub extern "C" fn nph_write(heap: &mut NphHeap, handle: u32, at: u32, bytes: &[u
     ensures { IsCallOnOpen (held_in heap.old) result (held_in heap.new) (Unit {0})
         (λ h h2. IsWriteCall bounds h handle at bytes.now result h2) }
 {
+    let heap = heap.inner();
     if heap.is_open() {
         heap.held().write(handle, at, bytes)
     } else {
@@ -151,6 +155,7 @@ pub extern "C" fn nph_read(heap: &mut NphHeap, handle: u32, at: u32, out: &mut [
     ensures { IsCallOnOpen (held_in heap.old) result (held_in heap.new) (out.new ≡ out.old)
         (λ h h2. IsReadCall bounds h handle at out.old result out.new h2) }
 {
+    let heap = heap.inner();
     if heap.is_open() {
         heap.held().read(handle, at, out)
     } else {
@@ -164,6 +169,7 @@ pub extern "C" fn nph_length(heap: &mut NphHeap, handle: u32, bytes: &mut u32) -
     ensures { IsCallOnOpen (held_in heap.old) result (held_in heap.new) (bytes.new ≡ bytes.old)
         (λ h h2. IsLengthCall Moving h handle bytes.old result bytes.new h2) }
 {
+    let heap = heap.inner();
     if heap.is_open() {
         heap.held().length(handle, bytes)
     } else {
@@ -177,6 +183,7 @@ pub extern "C" fn nph_has_room(heap: &mut NphHeap, bytes: u32) -> i32
     ensures { IsCallOnOpen (held_in heap.old) result (held_in heap.new) (Unit {0})
         (λ h h2. IsRoomCall bounds h bytes result h2) }
 {
+    let heap = heap.inner();
     if heap.is_open() {
         heap.held().has_room(bytes)
     } else {
@@ -190,6 +197,7 @@ pub extern "C" fn nph_slot_words(heap: &mut NphHeap, handle: u32, words: &mut u3
     ensures { IsCallOnOpen (held_in heap.old) result (held_in heap.new) (words.new ≡ words.old)
         (λ h h2. IsSlotWordsCall Moving h handle words.old result words.new h2) }
 {
+    let heap = heap.inner();
     if heap.is_open() {
         heap.held().slot_words(handle, words)
     } else {
@@ -203,6 +211,7 @@ pub extern "C" fn nph_class_of(heap: &mut NphHeap, bytes: u32, class: &mut u32) 
     ensures { IsCallOnOpen (held_in heap.old) result (held_in heap.new) (class.new ≡ class.old)
         (λ h h2. IsClassCall h bytes class.old result class.new h2) }
 {
+    let heap = heap.inner();
     if heap.is_open() {
         heap.held().class_of(bytes, class)
     } else {
@@ -216,6 +225,7 @@ pub extern "C" fn nph_figures(heap: &mut NphHeap, class: u32, figures: &mut NphC
     ensures { IsCallOnOpen (held_in heap.old) result (held_in heap.new) (figures.new ≡ figures.old)
         (λ h h2. IsFiguresCall h class figures.old result figures.new h2) }
 {
+    let heap = heap.inner();
     if heap.is_open() {
         heap.held().figures(class, figures)
     } else {
@@ -229,6 +239,7 @@ pub extern "C" fn nph_totals(heap: &mut NphHeap, totals: &mut NphHeapTotals) -> 
     ensures { IsCallOnOpen (held_in heap.old) result (held_in heap.new) (totals.new ≡ totals.old)
         (λ h h2. IsTotalsCall bounds h result totals.new h2) }
 {
+    let heap = heap.inner();
     if heap.is_open() {
         heap.held().totals(totals)
     } else {
@@ -283,6 +294,7 @@ pub extern "C" fn nph_last_steps(heap: &mut NphHeap, steps: &mut u64) -> i32
     ensures { IsCallOnOpen (held_in heap.old) result (held_in heap.new) (steps.new ≡ steps.old)
         (λ h h2. IsStepsCall h result steps.new h2) }
 {
+    let heap = heap.inner();
     if heap.is_open() {
         heap.held().last_steps(steps)
     } else {
@@ -297,6 +309,7 @@ pub extern "C" fn nph_place(heap: &mut NphHeap, handle: u32, place: &mut u32) ->
     ensures { IsCallOnOpen (held_in heap.old) result (held_in heap.new) (place.new ≡ place.old)
         (λ h h2. IsPlaceCall h handle place.old result place.new h2) }
 {
+    let heap = heap.inner();
     if heap.is_open() {
         heap.held().place(handle, place)
     } else {
@@ -304,21 +317,21 @@ pub extern "C" fn nph_place(heap: &mut NphHeap, handle: u32, place: &mut u32) ->
     }
 }
 
-/// Lends the words of the region to the caller, and writes their address into `words` (`NphHeap::lend`). Until
+/// Lends the words of the region to the caller, and writes their address into `words` (`LendableHeap::lend`). Until
 /// `nph_return` the caller may read them, and write the bytes of live objects.
 #[unsafe(no_mangle)]
 pub extern "C" fn nph_lend(heap: &mut NphHeap, words: &mut *mut u64) -> i32
     ensures { IsLendCall (held_in heap.old) result (held_in heap.new) words.old words.new }
 {
-    heap.lend(words)
+    heap.inner().lend(words)
 }
 
-/// Ends the loan (`NphHeap::end_loan`).
+/// Ends the loan (`LendableHeap::end_loan`).
 #[unsafe(no_mangle)]
 pub extern "C" fn nph_return(heap: &mut NphHeap) -> i32
     ensures { IsReturnCall (held_in heap.old) result (held_in heap.new) }
 {
-    heap.end_loan()
+    heap.inner().end_loan()
 }
 
 /// Returns the version of this library (`VERSION`).

@@ -7,7 +7,7 @@
 
 ghost use Rattle.std.specs.Prelude.{◌≡◌};
 ghost use Rattle.c_base.specs.AtPlace.{IsCallOnOpen, IsReturnCall};
-ghost use Rattle.c_base.specs.Place.{held_in};
+ghost use Rattle.held_sliced.specs.Place.{held_in};
 ghost use Rattle.c_base.specs.Version.{version};
 ghost use Rattle.held_sliced.specs.AtPlace.{IsLendCall, IsOpenCall};
 ghost use Rattle.held_sliced.specs.CallerHeap.{closed_by};
@@ -15,12 +15,12 @@ ghost use Rattle.held_sliced.specs.Calls.{IsClassCall, IsFiguresCall, IsFreeCall
 ghost use Rattle.held_sliced.specs.Most.{most_access, most_free, most_has_room, most_length, most_malloc, most_step};
 ghost use Rattle.held_sliced.specs.Needed.{IsNeededCall};
 
-use held_sliced::sliced::{self, NphHeap};
+use held_sliced::sliced::NphHeap;
 use held_sliced::{NphClass, NphHeapTotals, NphNeeded, VERSION, most};
 use std::rt::Memory;
 
 /// Opens the heap with these settings: `pages` pages of `page_bytes` bytes, at most `proxies` live objects, and slices of at
-/// most `quantum` words (`sliced::open`). `memory`, here and in `nph_sliced_close`, is the kit's value for the memory of
+/// most `quantum` words (`NphHeap::open`). `memory`, here and in `nph_sliced_close`, is the kit's value for the memory of
 /// the process; a caller in C passes none.
 #[unsafe(no_mangle)]
 pub extern "C" fn nph_sliced_open(
@@ -33,11 +33,11 @@ pub extern "C" fn nph_sliced_open(
 ) -> i32
     ensures { IsOpenCall (held_in heap.old) pages page_bytes proxies quantum result (held_in heap.new) }
 {
-    sliced::open(heap, memory, pages, page_bytes, proxies, quantum)
+    heap.open(memory, pages, page_bytes, proxies, quantum)
 }
 
 /// Writes into `needed` what `nph_sliced_open` with these settings asks of the functions that take and return memory: how
-/// many blocks, the bytes of all, and those of the largest (`sliced::bytes_needed`). The quantum makes no difference.
+/// many blocks, the bytes of all, and those of the largest (`NphHeap::bytes_needed`). The quantum makes no difference.
 #[unsafe(no_mangle)]
 pub extern "C" fn nph_sliced_bytes_needed(
     pages: u32,
@@ -47,15 +47,15 @@ pub extern "C" fn nph_sliced_bytes_needed(
 ) -> i32
     ensures { IsNeededCall pages page_bytes proxies result needed.old needed.new }
 {
-    sliced::bytes_needed(pages, page_bytes, proxies, needed)
+    NphHeap::bytes_needed(pages, page_bytes, proxies, needed)
 }
 
-/// Closes the heap and frees its memory; does nothing if it is closed (`NphHeap::close`).
+/// Closes the heap and frees its memory; does nothing if it is closed (`LendableHeap::close`).
 #[unsafe(no_mangle)]
 pub extern "C" fn nph_sliced_close(heap: &mut NphHeap, memory: Memory)
     ensures { held_in heap.new ≡ closed_by (held_in heap.old) }
 {
-    heap.close(memory);
+    heap.inner().close(memory);
 }
 
 /// Makes an object of `bytes` zeros and writes its handle into `handle` (`Held::malloc`).
@@ -64,6 +64,7 @@ pub extern "C" fn nph_sliced_malloc(heap: &mut NphHeap, bytes: u32, handle: &mut
     ensures { IsCallOnOpen (held_in heap.old) result (held_in heap.new) (handle.new ≡ handle.old)
         (λ h h2. IsMallocCall h bytes handle.old result handle.new h2) }
 {
+    let heap = heap.inner();
     if heap.is_open() {
         heap.held().malloc(bytes, handle)
     } else {
@@ -77,6 +78,7 @@ pub extern "C" fn nph_sliced_free(heap: &mut NphHeap, handle: u32) -> i32
     ensures { IsCallOnOpen (held_in heap.old) result (held_in heap.new) (Unit {0})
         (λ h h2. IsFreeCall h handle result h2) }
 {
+    let heap = heap.inner();
     if heap.is_open() {
         heap.held().free(handle)
     } else {
@@ -90,6 +92,7 @@ pub extern "C" fn nph_sliced_step(heap: &mut NphHeap) -> i32
     ensures { IsCallOnOpen (held_in heap.old) result (held_in heap.new) (Unit {0})
         (λ h h2. IsStepCall h result h2) }
 {
+    let heap = heap.inner();
     if heap.is_open() {
         heap.held().step()
     } else {
@@ -103,6 +106,7 @@ pub extern "C" fn nph_sliced_left(heap: &mut NphHeap, words: &mut u32) -> i32
     ensures { IsCallOnOpen (held_in heap.old) result (held_in heap.new) (words.new ≡ words.old)
         (λ h h2. IsLeftCall h result words.new h2) }
 {
+    let heap = heap.inner();
     if heap.is_open() {
         heap.held().left(words)
     } else {
@@ -116,6 +120,7 @@ pub extern "C" fn nph_sliced_moving(heap: &mut NphHeap, handle: &mut u32) -> i32
     ensures { IsCallOnOpen (held_in heap.old) result (held_in heap.new) (handle.new ≡ handle.old)
         (λ h h2. IsMovingCall h result handle.new h2) }
 {
+    let heap = heap.inner();
     if heap.is_open() {
         heap.held().moving(handle)
     } else {
@@ -129,6 +134,7 @@ pub extern "C" fn nph_sliced_write(heap: &mut NphHeap, handle: u32, at: u32, byt
     ensures { IsCallOnOpen (held_in heap.old) result (held_in heap.new) (Unit {0})
         (λ h h2. IsWriteCall h handle at bytes.now result h2) }
 {
+    let heap = heap.inner();
     if heap.is_open() {
         heap.held().write(handle, at, bytes)
     } else {
@@ -142,6 +148,7 @@ pub extern "C" fn nph_sliced_read(heap: &mut NphHeap, handle: u32, at: u32, out:
     ensures { IsCallOnOpen (held_in heap.old) result (held_in heap.new) (out.new ≡ out.old)
         (λ h h2. IsReadCall h handle at out.old result out.new h2) }
 {
+    let heap = heap.inner();
     if heap.is_open() {
         heap.held().read(handle, at, out)
     } else {
@@ -155,6 +162,7 @@ pub extern "C" fn nph_sliced_length(heap: &mut NphHeap, handle: u32, bytes: &mut
     ensures { IsCallOnOpen (held_in heap.old) result (held_in heap.new) (bytes.new ≡ bytes.old)
         (λ h h2. IsLengthCall h handle bytes.old result bytes.new h2) }
 {
+    let heap = heap.inner();
     if heap.is_open() {
         heap.held().length(handle, bytes)
     } else {
@@ -168,6 +176,7 @@ pub extern "C" fn nph_sliced_has_room(heap: &mut NphHeap, bytes: u32) -> i32
     ensures { IsCallOnOpen (held_in heap.old) result (held_in heap.new) (Unit {0})
         (λ h h2. IsRoomCall h bytes result h2) }
 {
+    let heap = heap.inner();
     if heap.is_open() {
         heap.held().has_room(bytes)
     } else {
@@ -181,6 +190,7 @@ pub extern "C" fn nph_sliced_slot_words(heap: &mut NphHeap, handle: u32, words: 
     ensures { IsCallOnOpen (held_in heap.old) result (held_in heap.new) (words.new ≡ words.old)
         (λ h h2. IsSlotWordsCall h handle words.old result words.new h2) }
 {
+    let heap = heap.inner();
     if heap.is_open() {
         heap.held().slot_words(handle, words)
     } else {
@@ -194,6 +204,7 @@ pub extern "C" fn nph_sliced_class_of(heap: &mut NphHeap, bytes: u32, class: &mu
     ensures { IsCallOnOpen (held_in heap.old) result (held_in heap.new) (class.new ≡ class.old)
         (λ h h2. IsClassCall h bytes class.old result class.new h2) }
 {
+    let heap = heap.inner();
     if heap.is_open() {
         heap.held().class_of(bytes, class)
     } else {
@@ -207,6 +218,7 @@ pub extern "C" fn nph_sliced_figures(heap: &mut NphHeap, class: u32, figures: &m
     ensures { IsCallOnOpen (held_in heap.old) result (held_in heap.new) (figures.new ≡ figures.old)
         (λ h h2. IsFiguresCall h class figures.old result figures.new h2) }
 {
+    let heap = heap.inner();
     if heap.is_open() {
         heap.held().figures(class, figures)
     } else {
@@ -220,6 +232,7 @@ pub extern "C" fn nph_sliced_totals(heap: &mut NphHeap, totals: &mut NphHeapTota
     ensures { IsCallOnOpen (held_in heap.old) result (held_in heap.new) (totals.new ≡ totals.old)
         (λ h h2. IsTotalsCall h result totals.new h2) }
 {
+    let heap = heap.inner();
     if heap.is_open() {
         heap.held().totals(totals)
     } else {
@@ -233,6 +246,7 @@ pub extern "C" fn nph_sliced_last_steps(heap: &mut NphHeap, steps: &mut u64) -> 
     ensures { IsCallOnOpen (held_in heap.old) result (held_in heap.new) (steps.new ≡ steps.old)
         (λ h h2. IsStepsCall h result steps.new h2) }
 {
+    let heap = heap.inner();
     if heap.is_open() {
         heap.held().last_steps(steps)
     } else {
@@ -247,6 +261,7 @@ pub extern "C" fn nph_sliced_place(heap: &mut NphHeap, handle: u32, place: &mut 
     ensures { IsCallOnOpen (held_in heap.old) result (held_in heap.new) (place.new ≡ place.old)
         (λ h h2. IsPlaceCall h handle place.old result place.new h2) }
 {
+    let heap = heap.inner();
     if heap.is_open() {
         heap.held().place(handle, place)
     } else {
@@ -255,20 +270,20 @@ pub extern "C" fn nph_sliced_place(heap: &mut NphHeap, handle: u32, place: &mut 
 }
 
 /// Lends the words of the region to the caller if no job is pending, and writes their address into `words`
-/// (`sliced::lend`). Until `nph_sliced_return` the caller may read them, and write the bytes of live objects.
+/// (`NphHeap::lend`). Until `nph_sliced_return` the caller may read them, and write the bytes of live objects.
 #[unsafe(no_mangle)]
 pub extern "C" fn nph_sliced_lend(heap: &mut NphHeap, words: &mut *mut u64) -> i32
     ensures { IsLendCall (held_in heap.old) result (held_in heap.new) words.old words.new }
 {
-    sliced::lend(heap, words)
+    heap.lend(words)
 }
 
-/// Ends the loan (`NphHeap::end_loan`).
+/// Ends the loan (`LendableHeap::end_loan`).
 #[unsafe(no_mangle)]
 pub extern "C" fn nph_sliced_return(heap: &mut NphHeap) -> i32
     ensures { IsReturnCall (held_in heap.old) result (held_in heap.new) }
 {
-    heap.end_loan()
+    heap.inner().end_loan()
 }
 
 /// Returns the version of this library (`VERSION`).

@@ -10,7 +10,7 @@ ghost use Rattle.std.specs.Prelude.{◌≡◌};
 ghost use Rattle.cf_base.specs.declared.kind.Kind.TheVariants.{Tlsf};
 ghost use Rattle.held_heap.specs.Calls.{IsCountsCall, IsFiguresCall, IsFreeCall, IsLengthCall, IsMallocCall, IsPlaceCall, IsReadCall, IsResizeCall, IsRoomCall, IsStepsCall, IsTotalsCall, IsWriteCall};
 ghost use Rattle.c_base.specs.AtPlace.{IsCallOnOpen, IsLendCall, IsReturnCall};
-ghost use Rattle.c_base.specs.Place.{held_in};
+ghost use Rattle.held_heap.specs.TlsfPlace.{held_in};
 ghost use Rattle.held_heap.specs.AtPlace.{IsOpenCall};
 ghost use Rattle.held_heap.specs.CallerHeap.{closed_by};
 ghost use Rattle.held_heap.specs.Most.{IsMostAccess, IsMostFree, IsMostLength, IsMostMalloc, IsMostResize, IsMostRoom, IsMostTotals, kind_code};
@@ -20,14 +20,14 @@ ghost use Rattle.held_heap.specs.Tlsf.{bounds};
 ghost use Rattle.c_base.specs.Version.{version};
 
 use cf_base::Kind;
-use held_heap::tlsf::{self, NphHeap};
+use held_heap::tlsf::NphHeap;
 use held_heap::{
     NphClass, NphCounted, NphFreed, NphHeapTotals, NphNeeded, NphResized, VERSION, most,
 };
 use std::rt::Memory;
 
 /// Opens the heap with these settings: a region of `pages` times `page_bytes` bytes, and at most `proxies` live
-/// objects. `k` must be in its range, 1 to 64, and has no other effect (`tlsf::open`). `memory`, here and in
+/// objects. `k` must be in its range, 1 to 64, and has no other effect (`NphHeap::open`). `memory`, here and in
 /// `nph_tlsf_close`, is the kit's value for the memory of the process; a caller in C passes none.
 #[unsafe(no_mangle)]
 pub extern "C" fn nph_tlsf_open(
@@ -40,12 +40,12 @@ pub extern "C" fn nph_tlsf_open(
 ) -> i32
     ensures { IsOpenCall Tlsf (held_in heap.old) pages page_bytes k proxies result (held_in heap.new) }
 {
-    tlsf::open(heap, memory, pages, page_bytes, k, proxies)
+    heap.open(memory, pages, page_bytes, k, proxies)
 }
 
 /// Writes into `needed` what `nph_tlsf_open` with these settings asks of the functions that take and return memory: how many
 /// blocks, the bytes of all, and those of the largest. The caller's own memory for `heap` isn't counted, nor what the
-/// functions need for a block. Returns 0, or the code of the first setting out of range (`tlsf::bytes_needed`).
+/// functions need for a block. Returns 0, or the code of the first setting out of range (`NphHeap::bytes_needed`).
 #[unsafe(no_mangle)]
 pub extern "C" fn nph_tlsf_bytes_needed(
     pages: u32,
@@ -56,15 +56,15 @@ pub extern "C" fn nph_tlsf_bytes_needed(
 ) -> i32
     ensures { IsNeededCall Tlsf pages page_bytes k proxies result needed.old needed.new }
 {
-    tlsf::bytes_needed(pages, page_bytes, k, proxies, needed)
+    NphHeap::bytes_needed(pages, page_bytes, k, proxies, needed)
 }
 
-/// Closes the heap and frees its memory, also if it is lent; does nothing if it is closed (`NphHeap::close`).
+/// Closes the heap and frees its memory, also if it is lent; does nothing if it is closed (`LendableHeap::close`).
 #[unsafe(no_mangle)]
 pub extern "C" fn nph_tlsf_close(heap: &mut NphHeap, memory: Memory)
     ensures { held_in heap.new ≡ closed_by (held_in heap.old) }
 {
-    heap.close(memory);
+    heap.inner().close(memory);
 }
 
 /// Makes an object of `bytes` zeros and writes its handle into `handle` (`Held::malloc`).
@@ -73,6 +73,7 @@ pub extern "C" fn nph_tlsf_malloc(heap: &mut NphHeap, bytes: u32, handle: &mut u
     ensures { IsCallOnOpen (held_in heap.old) result (held_in heap.new) (handle.new ≡ handle.old)
         (λ h h2. IsMallocCall bounds h bytes handle.old result handle.new h2) }
 {
+    let heap = heap.inner();
     if heap.is_open() {
         heap.held().malloc(bytes, handle)
     } else {
@@ -86,6 +87,7 @@ pub extern "C" fn nph_tlsf_free(heap: &mut NphHeap, handle: u32, freed: &mut Nph
     ensures { IsCallOnOpen (held_in heap.old) result (held_in heap.new) (freed.new ≡ freed.old)
         (λ h h2. IsFreeCall bounds h handle freed.old result freed.new h2) }
 {
+    let heap = heap.inner();
     if heap.is_open() {
         heap.held().free(handle, freed)
     } else {
@@ -104,6 +106,7 @@ pub extern "C" fn nph_tlsf_resize(
     ensures { IsCallOnOpen (held_in heap.old) result (held_in heap.new) (resized.new ≡ resized.old)
         (λ h h2. IsResizeCall bounds h handle bytes resized.old result resized.new h2) }
 {
+    let heap = heap.inner();
     if heap.is_open() {
         heap.held().resize(handle, bytes, resized)
     } else {
@@ -117,6 +120,7 @@ pub extern "C" fn nph_tlsf_write(heap: &mut NphHeap, handle: u32, at: u32, bytes
     ensures { IsCallOnOpen (held_in heap.old) result (held_in heap.new) (Unit {0})
         (λ h h2. IsWriteCall bounds h handle at bytes.now result h2) }
 {
+    let heap = heap.inner();
     if heap.is_open() {
         heap.held().write(handle, at, bytes)
     } else {
@@ -130,6 +134,7 @@ pub extern "C" fn nph_tlsf_read(heap: &mut NphHeap, handle: u32, at: u32, out: &
     ensures { IsCallOnOpen (held_in heap.old) result (held_in heap.new) (out.new ≡ out.old)
         (λ h h2. IsReadCall bounds h handle at out.old result out.new h2) }
 {
+    let heap = heap.inner();
     if heap.is_open() {
         heap.held().read(handle, at, out)
     } else {
@@ -143,6 +148,7 @@ pub extern "C" fn nph_tlsf_length(heap: &mut NphHeap, handle: u32, bytes: &mut u
     ensures { IsCallOnOpen (held_in heap.old) result (held_in heap.new) (bytes.new ≡ bytes.old)
         (λ h h2. IsLengthCall Tlsf h handle bytes.old result bytes.new h2) }
 {
+    let heap = heap.inner();
     if heap.is_open() {
         heap.held().length(handle, bytes)
     } else {
@@ -156,6 +162,7 @@ pub extern "C" fn nph_tlsf_has_room(heap: &mut NphHeap, bytes: u32) -> i32
     ensures { IsCallOnOpen (held_in heap.old) result (held_in heap.new) (Unit {0})
         (λ h h2. IsRoomCall bounds h bytes result h2) }
 {
+    let heap = heap.inner();
     if heap.is_open() {
         heap.held().has_room(bytes)
     } else {
@@ -169,6 +176,7 @@ pub extern "C" fn nph_tlsf_figures(heap: &mut NphHeap, class: u32, figures: &mut
     ensures { IsCallOnOpen (held_in heap.old) result (held_in heap.new) (figures.new ≡ figures.old)
         (λ h h2. IsFiguresCall h class figures.old result figures.new h2) }
 {
+    let heap = heap.inner();
     if heap.is_open() {
         heap.held().figures(class, figures)
     } else {
@@ -182,6 +190,7 @@ pub extern "C" fn nph_tlsf_totals(heap: &mut NphHeap, totals: &mut NphHeapTotals
     ensures { IsCallOnOpen (held_in heap.old) result (held_in heap.new) (totals.new ≡ totals.old)
         (λ h h2. IsTotalsCall bounds h result totals.new h2) }
 {
+    let heap = heap.inner();
     if heap.is_open() {
         heap.held().totals(totals)
     } else {
@@ -222,6 +231,7 @@ pub extern "C" fn nph_tlsf_last_steps(heap: &mut NphHeap, steps: &mut u64) -> i3
     ensures { IsCallOnOpen (held_in heap.old) result (held_in heap.new) (steps.new ≡ steps.old)
         (λ h h2. IsStepsCall h result steps.new h2) }
 {
+    let heap = heap.inner();
     if heap.is_open() {
         heap.held().last_steps(steps)
     } else {
@@ -236,6 +246,7 @@ pub extern "C" fn nph_tlsf_place(heap: &mut NphHeap, handle: u32, place: &mut u3
     ensures { IsCallOnOpen (held_in heap.old) result (held_in heap.new) (place.new ≡ place.old)
         (λ h h2. IsPlaceCall h handle place.old result place.new h2) }
 {
+    let heap = heap.inner();
     if heap.is_open() {
         heap.held().place(handle, place)
     } else {
@@ -243,21 +254,21 @@ pub extern "C" fn nph_tlsf_place(heap: &mut NphHeap, handle: u32, place: &mut u3
     }
 }
 
-/// Lends the words of the region to the caller, and writes their address into `words` (`NphHeap::lend`). Until
+/// Lends the words of the region to the caller, and writes their address into `words` (`LendableHeap::lend`). Until
 /// `nph_tlsf_return` the caller may read them, and write the bytes of live objects.
 #[unsafe(no_mangle)]
 pub extern "C" fn nph_tlsf_lend(heap: &mut NphHeap, words: &mut *mut u64) -> i32
     ensures { IsLendCall (held_in heap.old) result (held_in heap.new) words.old words.new }
 {
-    heap.lend(words)
+    heap.inner().lend(words)
 }
 
-/// Ends the loan (`NphHeap::end_loan`).
+/// Ends the loan (`LendableHeap::end_loan`).
 #[unsafe(no_mangle)]
 pub extern "C" fn nph_tlsf_return(heap: &mut NphHeap) -> i32
     ensures { IsReturnCall (held_in heap.old) result (held_in heap.new) }
 {
-    heap.end_loan()
+    heap.inner().end_loan()
 }
 
 /// Returns the version of this library (`VERSION`).

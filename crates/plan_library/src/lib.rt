@@ -3,7 +3,7 @@
 //! the moving manager, with true those of the non-moving one.
 #![tactic(auto)]
 
-ghost use Rattle.std.specs.Prelude.{ℕ, ◌≡◌, ◌+◌, ◌/◌, ◌<◌, ◌≤◌, ◌↔◌, All, IsTrue, None, length, slice_index};
+ghost use Rattle.std.specs.Prelude.{ℕ, ◌≡◌, ◌+◌, ◌/◌, ◌<◌, ◌≤◌, ◌↔◌, All, IsTrue, None, false, length, slice_index};
 ghost use Rattle.std.specs.FinMap.{empty};
 ghost use Rattle.cf_base.specs.Classes.{sizes};
 ghost use Rattle.cf_base.specs.Settings.{profile_from, setting_fault};
@@ -13,7 +13,9 @@ ghost use Rattle.sizing.specs.Certificates.{AreBudgetLevels, AreForResizes, IsBu
 ghost use Rattle.sizing.specs.Checks.{HasFew, needs_of, with_pages};
 ghost use Rattle.sizing.specs.Demands.{ArePrices, KeepsBudget, KeepsTo, KeepsToOne};
 ghost use Rattle.sizing.specs.Heaps.{IsFresh, ServesHeapMallocs, ServesHeapResizes};
+ghost use Rattle.sizing.specs.Needs.{HasFault};
 ghost use Rattle.sizing.specs.Runs.{CanBeRefused, IsServed, ServesMallocsAcross, ServesResizesAcross};
+ghost use Rattle.sizing.specs.declared.by_numbers.NeedsFault.{NeedsFault};
 ghost use Rattle.plan_library.specs.Slots.{layout_if};
 
 use cf_base::Layout;
@@ -23,8 +25,8 @@ use sizing::{
 };
 
 /// Writes into `pages` the least number of pages with which no call of a program is refused for space while it keeps to its
-/// needs (`pages_needed`). False if there are more than 64 entries, an object is larger than a page, or more objects are
-/// declared than a heap may have.
+/// needs (`pages_needed`). False only if there are more than 64 entries, the bytes of a page are out of range, an object is
+/// larger than a page, or more objects are declared than a heap may have (`fault`).
 #[unsafe(no_mangle)]
 pub extern "C" fn plan_pages_needed(
     page_bytes: u32,
@@ -39,6 +41,7 @@ pub extern "C" fn plan_pages_needed(
     ensures least { IsTrue result → (p : Paging) → IsPaging p
         → p.page_words ≡ page_bytes / 8 → p.sizes ≡ sizes (page_bytes / 8) (layout_if in_blocks)
         → p.pages < pages.new → CanBeRefused p (KeepsTo needs.now) empty }
+    ensures fault { result ≡ false → (e : NeedsFault) × HasFault page_bytes 1 needs.now e }
 {
     match pages_needed(page_bytes, 1, slots_if(in_blocks), needs) {
         Ok(found) => {
