@@ -254,6 +254,7 @@ pub extern "C" fn nph_next(heap: &mut NphHeap, handle: u32, next: &mut u32) -> i
     ensures { IsCallOnOpen (held_in heap.old) result (held_in heap.new) (next.new ≡ next.old)
         (λ h h2. IsNextCall h handle next.old result next.new h2) }
 {
+    let heap = heap.inner();
     if heap.is_open() {
         heap.held().next(handle, next)
     } else {
@@ -267,6 +268,7 @@ pub extern "C" fn nph_counts(heap: &mut NphHeap, counts: &mut NphCounted) -> i32
     ensures { IsCallOnOpen (held_in heap.old) result (held_in heap.new) (counts.new ≡ counts.old)
         (λ h h2. IsCountsCall h result counts.new h2) }
 {
+    let heap = heap.inner();
     if heap.is_open() {
         heap.held().counts(counts)
     } else {
@@ -281,6 +283,7 @@ pub extern "C" fn nph_set_bound(heap: &mut NphHeap, slot_words: u32, k: u32) -> 
     ensures { IsCallOnOpen (held_in heap.old) result (held_in heap.new) (Unit {0})
         (λ h h2. IsBoundCall h slot_words k result h2) }
 {
+    let heap = heap.inner();
     if heap.is_open() {
         heap.held().set_bound(slot_words, k)
     } else {

@@ -205,6 +205,7 @@ pub extern "C" fn nph_tlsf_next(heap: &mut NphHeap, handle: u32, next: &mut u32)
     ensures { IsCallOnOpen (held_in heap.old) result (held_in heap.new) (next.new ≡ next.old)
         (λ h h2. IsNextCall h handle next.old result next.new h2) }
 {
+    let heap = heap.inner();
     if heap.is_open() {
         heap.held().next(handle, next)
     } else {
@@ -218,6 +219,7 @@ pub extern "C" fn nph_tlsf_counts(heap: &mut NphHeap, counts: &mut NphCounted) -
     ensures { IsCallOnOpen (held_in heap.old) result (held_in heap.new) (counts.new ≡ counts.old)
         (λ h h2. IsCountsCall h result counts.new h2) }
 {
+    let heap = heap.inner();
     if heap.is_open() {
         heap.held().counts(counts)
     } else {
