@@ -188,6 +188,8 @@ def lengths(about, kind, done, fields, steps):
 
 def case_of(kind, fields):
     """The case of a call, if it has one."""
+    if kind == "free" and "bytes" in fields:
+        return "long" if fields["bytes"] > 8 * fields["W"] - 8 else "short"
     if kind == "free" and "moved" in fields:
         return "move" if fields["moved"] else "alone"
     if kind == "free":
@@ -472,7 +474,7 @@ STEPS = {
     **{("tasks", call): steps for call, steps in {
         "malloc": "17", "free, alone": "20 + s", "free, move": "20 + s", "read": "2 + w", "write": "2 + w", "length": "2"}.items()},
     **{("large", call): steps for call, steps in {
-        "malloc": "17, 19 + 18l", "free": "20 + s, 24 + 19l + s", "read": "2 + w, 5l + w", "write": "2 + w, 5l + w", "length": "0", "totals": "0"}.items()},
+        "malloc": "17, 19 + 18l", "free, short": "20 + s", "free, long": "24 + 19l + s", "read": "2 + w, 5l + w", "write": "2 + w, 5l + w", "length": "0", "totals": "0"}.items()},
 }
 
 
@@ -505,6 +507,7 @@ HEAD = """`checks/worst_case --write` writes this page, and `checks/worst_case` 
 - "Stack": bytes, with return addresses.
 - `cf` is `libnorphuen.a`, `nm` is `libnorphuen_nonmoving.a`, `tlsf` is `libnorphuen_tlsf.a`, `sliced` is `libnorphuen_sliced.a`, `tasks` is `libnorphuen_tasks.a`, `large` is `libnorphuen_large.a`.
 - A free or resize moves no other object ("alone"), or one ("move"). A resize keeps its slot ("same"), or takes another.
+- A free of long objects is of one that fits a page ("short"), or of one in parts ("long").
 - In slices a free clears a slot ("clear"), or begins to move an object ("move"). A step is the last of its job, after which no job is pending or another one moves an object ("next"); other steps are shorter.
 
 | letter | counts |
