@@ -32,7 +32,7 @@ enum { PAGED = 0 };
 enum { LIVE = 1024 };
 static nph_heap heap = NPH_HEAP;
 static uint32_t handles[LIVE], lengths[LIVE], live, page_words;
-static uint64_t proxies;
+static uint64_t proxies, entries;
 
 static uint64_t last_steps(void) {
     uint64_t steps = 0;
@@ -96,6 +96,7 @@ static void release(uint32_t i) {
     release_handle(handle);
     handles[i] = handles[--live], lengths[i] = lengths[live];
     if (drawn(8)) return;
+    resize_handle(handle + (uint32_t)entries, 8, 8); /* the next handle of its entry, which no object has yet */
     release_handle(handle), resize_handle(handle, 8, 8), ask_handle(handle);
     read_or_write(true, handle, 0, 8), read_or_write(false, handle, 0, 8);
 }
@@ -195,7 +196,7 @@ static void each_class(void) {
         if (live > c.slots) resize(0, page_words * 8 - 8);
         while (live) release(live - 1);
         if (before && make(bytes) == NPH_OK)
-            for (uint32_t i = 0; i < 9; i++) resize(0, before * 8 - 7 + i), resize(0, bytes - i);
+            for (uint32_t i = 0; i < 36; i++) resize(0, before * 8 - 7 + i), resize(0, bytes - i % 9);
         before = c.slot_words;
     }
     while (live) release(live - 1);
@@ -253,6 +254,7 @@ int main(int argc, char **argv) {
     begin(argc, argv, settings);
     page_words = (uint32_t)settings[1] / 8;
     proxies = settings[3];
+    for (entries = 1; entries < proxies;) entries += entries;
     refused(0);
     nph_needed needed;
     call_with(settings[0], "bytes_needed", (void *)nph_bytes_needed, settings[1], settings[2], settings[3], (uint64_t)&needed), printf(" W %" PRIu32 "\n", page_words);

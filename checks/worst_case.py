@@ -55,6 +55,7 @@ UNUSED = {tool.X86: 0, tool.ARM: 8}
 SHALLOW = {("norphuen_nonmoving", tool.X86, "nph_free"), ("norphuen_nonmoving", tool.X86, "nph_resize"), ("norphuen_nonmoving", tool.ARM, "nph_resize"),
            ("norphuen_nonmoving", tool.ARM, "nph_open"),
            ("norphuen_tlsf", tool.X86, "nph_open"), ("norphuen_tlsf", tool.ARM, "nph_open"), ("norphuen_sliced", tool.X86, "nph_free"),
+           ("norphuen_sliced", tool.X86, "nph_open"), ("norphuen_sliced", tool.ARM, "nph_open"),
            ("norphuen_large", tool.X86, "nph_free"), ("norphuen_large", tool.X86, "nph_malloc"), ("norphuen_large", tool.ARM, "nph_malloc")}
 
 
@@ -360,6 +361,13 @@ def mutations(name, library, room, lines, turns):
             if moved != right and not bounds.problems and not any(turns.faults(wrong)):
                 fail(f"{name}, {library.processor}: in place of '{right}' the notes may have '{moved}'")
             count += moved != right
+    # A block that is rare in a call, as one that never runs there.
+    for number, line in notes:
+        if line.kind == "rare" and line.name:
+            wrong, _ = found(number, lambda line: setattr(line, "formula", "0"))
+            if not any(turns.faults(wrong)):
+                fail(f"{name}, {library.processor}: the notes may have '{wrong.lines[number].text}'")
+            count += 1
     loop, call, never = first("loop"), first("call"), first("never")
     place = lambda number: read()[number].columns[column][0]
     try_one("a loop without a note", "has no note", loop, lambda line: line.columns[column].pop(0))
@@ -381,7 +389,7 @@ def lower_notes(name, library, turns):
         text = f"{name}, {library.processor}: {counter.kind} {counter.number} of {counter.function}"
         if counter in reached and not turns.is_found(counter):
             fail(f"{text}: with one less in its note no counted call is above it")
-        if counter not in reached and counter.kind != "inside":
+        if counter not in reached and counter.kind not in ("inside", "within"):
             far.append(f"{text}: {turns.nearest(counter)}")
     return len(reached), far
 

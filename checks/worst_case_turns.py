@@ -23,7 +23,7 @@ class Path(typing.NamedTuple):
 
 class Counter(typing.NamedTuple):
     """What is counted: the runs of the first block of a loop ("loop"), of a block that is rare ("rare"), or of one that never runs
-    in a call ("inside"); or the bytes of a call ("call"). `number` is that of the loop, block or call."""
+    in a call ("inside") or is rare there ("within"); or the bytes of a call ("call"). `number` is that of the loop, block or call."""
 
     kind: str
     function: str
@@ -42,7 +42,7 @@ class Turns:
             self.counters += [Counter("loop", name, loop.number) for loop in function.loops() if loop.head in left and loop.number in note["loop"]]
             self.counters += [Counter("rare", name, number) for number in note["rare"]]
             self.counters += [Counter("call", name, number) for number, (_, callee, _) in note["call"].items() if callee in tool.MOVERS]
-            self.counters += [Counter("inside", other, number) for _, other, number in note["inside"]]
+            self.counters += [Counter(kind, other, number) for kind in ("inside", "within") for _, other, number in note[kind]]
         self.counters = list(dict.fromkeys(self.counters))
         self.exports = {export: self.path_to(export, 0, 0) for export in library.exports if self.is_watched(export)}
         firsts = [(path, self.first_of(path)) for path in range(1, len(self.paths))]
@@ -107,6 +107,8 @@ class Turns:
                             add("after", next_of[one], site)
             loops, blocks = {loop.number: loop for loop in function.loops()}, {block.number: block for block in function.blocks}
             for number, counter in enumerate(self.counters):
+                if counter.kind == "within" and any(counter[1:] == (other, block) for _, other, block in self.notes.functions.get(name, {"within": ()})["within"]):
+                    add("reset", begin, number)
                 if counter.function != name or counter.kind == "call":
                     continue
                 loop = loops[counter.number] if counter.kind == "loop" else None
@@ -115,7 +117,7 @@ class Turns:
                     for block in function.blocks:
                         if loop.head in block.next and block not in loop.blocks:
                             add("reset", block.code[0], number)
-                else:
+                elif counter.kind != "within":
                     add("reset", begin, number)
         for at, found in events.items():
             yield from (f"{order[kind]} {at:x} {number:x}" for kind, number in sorted(set(found)))
@@ -159,11 +161,11 @@ class Turns:
         """By path and counter: what was counted, the most by the notes, and the lengths; of this counter, or of all."""
         for (path, number), found in self.most.items():
             counter = self.counters[number]
-            if counter.kind != "inside" and only in (None, counter):
+            if counter.kind not in ("inside", "within") and only in (None, counter):
                 yield from self.each(path, counter, found, self.bound(path, counter, notes))
         for (path, number), found in self.sums.items():
             counter = self.counters[number]
-            if only in (None, counter):
+            if counter.kind != "within" and only in (None, counter):
                 total = functools.reduce(tool.plus, [self.bound(other, counter, notes, False) for other in self.sharing[path]])
                 yield from self.each(path, counter, found, total)
 
@@ -185,13 +187,19 @@ class Turns:
                 yield f"{counter.kind} {counter.number} of {counter.function} ran in a call that the graph doesn't show"
             elif count > most:
                 yield f"{counter.kind} {counter.number} of {self.text(path)} runs {count} times, by its note at most {most} with {lengths}"
-        for path, number in self.most:
+        for (path, number), found in self.most.items():
             counter = self.counters[number]
-            for name, note in notes.functions.items() if counter.kind == "inside" else ():
-                for call, other, block in note["inside"]:
-                    if counter == Counter("inside", other, block) and any(
-                            self.paths[at].call == call and self.paths[self.paths[at].before].function == name for at in self.chain(path)):
+            for name, note in notes.functions.items() if counter.kind in ("inside", "within") else ():
+                for (call, other, block), (_, what) in note[counter.kind].items():
+                    callers = [self.paths[at].before for at in self.chain(path) if self.paths[at].call == call and self.paths[self.paths[at].before].function == name]
+                    if counter[1:] != (other, block) or not callers:
+                        continue
+                    if counter.kind == "inside":
                         yield f"block {block} of {self.text(path)} ran, but never does by a note of {name}"
+                        continue
+                    for _, _, count, most, lengths in self.each(path, counter, found, tool.replaced(what, self.values(callers[0], notes))):
+                        if count > most:
+                            yield f"block {block} of {self.text(path)} runs {count} times, by a note of {name} at most {most} with {lengths}"
 
     def reached(self):
         """The counters that some call brings to the most of their note."""
