@@ -1,6 +1,6 @@
 /* A heap of each library in one program, all open at once, with the same calls: twelve objects, of which each second one is freed, and
  * a text that is written into another and read back. The calls differ little: those of a heap of tasks name a task, and in a heap
- * with slices the work of a free is done by steps. */
+ * with slices the work of a free is done by steps. The last heap, whose objects have ids, is saved too. */
 #include "norphuen.h"
 #include <inttypes.h>
 #include <stdio.h>
@@ -63,6 +63,24 @@ PLAY(nph_sliced, 112, NO_MORE, SLICES, NO_MORE, NO_MORE, , all_slices(heap))
 PLAY(nph_tasks, 112, NO_MORE, NO_MORE, OF_TASK, AND_NULL, must(nph_tasks_set_quota(heap, TASK, 8)), )
 PLAY(nph_large, 1200, NO_MORE, NO_MORE, NO_MORE, NO_MORE, , )
 
+static void play_images(nph_images_heap *heap) {
+    uint64_t image_bytes, offset;
+    nph_needed needed;
+    char text[6] = "";
+    static unsigned char image[2048];
+    must(nph_images_bytes_needed(PAGES, PAGE_BYTES, 1, PROXIES, &needed));
+    bytes_of_all += needed.total;
+    must(nph_images_open(heap, PAGES, PAGE_BYTES, 1, PROXIES));
+    for (uint32_t id = 0; id < COUNT; id++) must(nph_images_make(heap, id, 112));
+    must(nph_images_write(heap, 1, 106, "hello", 6));
+    for (uint32_t id = 0; id < COUNT; id += 2) must(nph_images_free(heap, id));
+    must(nph_images_save(heap, image, sizeof image, &image_bytes));
+    nph_images_close(heap);
+    must(nph_images_load(heap, image, (size_t)image_bytes, &offset));
+    must(nph_images_read(heap, 1, 106, text, 6));
+    printf("%-12s %d objects of %4d bytes, saved and loaded again, %s\n", "with images", COUNT, 112, text);
+}
+
 int main(void) {
     nph_heap moving = NPH_HEAP;
     nph_nm_heap nonmoving = NPH_NM_HEAP;
@@ -70,12 +88,14 @@ int main(void) {
     nph_sliced_heap sliced = NPH_SLICED_HEAP;
     nph_tasks_heap tasks = NPH_TASKS_HEAP;
     nph_large_heap large = NPH_LARGE_HEAP;
+    nph_images_heap images = NPH_IMAGES_HEAP;
     play_nph(&moving, "moving");
     play_nph_nm(&nonmoving, "non-moving");
     play_nph_tlsf(&tlsf, "TLSF");
     play_nph_sliced(&sliced, "in slices");
     play_nph_tasks(&tasks, "of tasks");
     play_nph_large(&large, "long objects");
+    play_images(&images);
     printf("%" PRIu64 " bytes for all\n", bytes_of_all);
     nph_close(&moving);
     nph_nm_close(&nonmoving);
@@ -83,5 +103,6 @@ int main(void) {
     nph_sliced_close(&sliced);
     nph_tasks_close(&tasks);
     nph_large_close(&large);
+    nph_images_close(&images);
     return 0;
 }
