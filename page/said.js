@@ -131,7 +131,7 @@ const CLAIM = {
   cost: ['A refused malloc, free or, with pages, resize changes only the recorded cost.', ''],
   read: ['A read prints the bytes last written through its id, whatever moved.', 'reads_give_what_was_written'],
   output: ['With pages and every bound 1 the output is a function of the script, unless it asks for addresses, words or costs.', 'one_transcript'],
-  equal: ['If each line has its reply, and the managers are of equal kinds and promise an order, equal arguments and scripts give equal output, with each address, choice, word and cost. This holds in every mode and however the input is cut into chunks. The managers of main promise an order.', 'equal_scripts_get_equal_output'],
+  equal: ['If each line has its reply, and the managers are of equal kinds and promise an order (those of main do), equal arguments and scripts give equal output, in every mode and however chunked: each address, choice, word and cost.', 'equal_scripts_get_equal_output'],
   physical: ["On NonMovingHeap an object keeps its physical blocks until it is freed or resized to another class", 'PagedHeap::free'],
   bad: ['a line within the limit is not in the grammar at its place', ''],
   slice: ['a function of script and quantum, but for the word p prints', 'MeetsSliced'],
