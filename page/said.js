@@ -120,7 +120,7 @@ function otherSaid({ verb, id, ok, reply, tokens: [, , one, two] }) {
 
 // Sentences of README and docs/GUARANTEES.md with the name that carries each; checks/page compares them with the two.
 const CLAIM = {
-  step: ["Each call of a manager does its contract's step and changes nothing else; each refusal has its cause.", 'MovingHeap, NonMovingHeap, TagHeap'],
+  step: ["Each call of a manager makes the change that its contract describes, and no other. Each refusal has its cause.", 'MovingHeap, NonMovingHeap, TagHeap'],
   run: ["fixed, but for a manager's choices: a new object's number, the address of a new or resized object, which object moves, the steps (within the bound)", 'MeetsHeadline'],
   refused: ['In a heap of pages with k = 1, a malloc that fits a page is refused if and only if as many objects are live as the heap was opened for, or with it the classes need more pages (Σ ⌈n/m⌉) than there are.', ''],
   malloc: ['an unused handle, an object of zeros', 'Manager::malloc'],
@@ -131,7 +131,7 @@ const CLAIM = {
   cost: ['A refused malloc, free or, with pages, resize changes only the recorded cost.', ''],
   read: ['A read prints the bytes last written through its id, whatever moved.', 'reads_give_what_was_written'],
   output: ['With pages and every bound 1 the output is a function of the script, unless it asks for addresses, words or costs.', 'one_transcript'],
-  equal: ['If each line is answered, and the managers are of equal kinds and promise an order, as those of main do, equal arguments and scripts give equal output, in every mode and however chunked: each address, choice, word and cost.', 'equal_scripts_get_equal_output'],
+  equal: ['If each line has its reply, and the managers are of equal kinds and promise an order (those of main do), equal arguments and scripts give equal output, in every mode and however chunked: each address, choice, word and cost.', 'equal_scripts_get_equal_output'],
   physical: ["On NonMovingHeap an object keeps its physical blocks until it is freed or resized to another class", 'PagedHeap::free'],
   bad: ['a line within the limit is not in the grammar at its place', ''],
   slice: ['a function of script and quantum, but for the word p prints', 'MeetsSliced'],
@@ -150,7 +150,7 @@ const CLAIM = {
   set: ['all quotas would exceed the pages. Used: the task uses more', 'QuotaHeap::set_quota'],
   admit: ["After yes the task's mallocs reply ok or live while its quota is no less and its live objects, with each new one, are within what it declared", 'an_admitted_task_is_served'],
   parts: ['all spines and parts would need more pages than there are', 'LargeHeap::malloc'],
-  long: ['A malloc or free of a long one takes at most those of one malloc or free for each part and for the spine, and of an access of four bytes for each part.', 'LargeHeap'],
+  long: ['A malloc or free of a long object takes at most the steps of one malloc or free for each part and for the spine, and of an access of four bytes for each part.', 'LargeHeap'],
   counted: ['A step is an access to one table entry or one word.', ''],
   classes: ['a class with n live objects, m to a page, has at most ⌊n/m⌋ + k pages; k, 1 to 64, may be partly full.', ''],
 };
