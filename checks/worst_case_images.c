@@ -131,10 +131,11 @@ static void draw_calls(uint64_t count) {
 }
 
 /* Calls that are made to be long: frees of objects of the largest classes, which move one; reads and writes of the largest
- * object, from each byte of a word; images of few large objects, of small ones of each size, of as many as there can be of a
- * fourth of the proxies, and of as many empty ones as there can be. */
+ * object, from each byte of a word; images of few large objects, of small ones of each length, of as many objects as fit if a
+ * fourth of the proxies share the memory, and of as many empty ones as fit. */
 static void long_calls(const uint64_t *settings) {
-    uint32_t most = page_words * 8 - 8, share = (uint32_t)(4 * settings[0] * settings[1] / settings[3]), sizes[2] = {share < most ? share - 1 : most - 1, 0};
+    uint32_t most = page_words * 8 - 8, share = (uint32_t)(4 * settings[0] * settings[1] / settings[3]);
+    uint32_t sizes[2] = {share < most ? share - 1 : most - 1, 0};
     release_all();
     for (uint32_t part = 1; part < 10; part++) {
         uint32_t bytes = (most + 8) / part / 32 * 32 - 8;
