@@ -66,6 +66,11 @@ OUTSIDE(memcpy) OUTSIDE(memmove) OUTSIDE(memset) OUTSIDE(rattle_alloc) OUTSIDE(r
 
 static void count_bytes(int function, size_t n) {
     copied[function][0]++, copied[function][1] += n;
+    for (uint64_t i = turns[0]; i-- > 0;) {
+        if (turns[1 + 2 * i] != turns[1 + 2 * PAIRS]) continue;
+        if (turns[2 + 2 * i] < n) turns[2 + 2 * i] = n;
+        return;
+    }
     if (turns[0] == PAIRS) exit(1);
     turns[1 + 2 * turns[0]] = turns[1 + 2 * PAIRS], turns[2 + 2 * turns[0]] = n, turns[0]++;
 }

@@ -56,7 +56,8 @@ SHALLOW = {("norphuen_nonmoving", tool.X86, "nph_free"), ("norphuen_nonmoving", 
            ("norphuen_nonmoving", tool.ARM, "nph_open"),
            ("norphuen_tlsf", tool.X86, "nph_open"), ("norphuen_tlsf", tool.ARM, "nph_open"), ("norphuen_sliced", tool.X86, "nph_free"),
            ("norphuen_sliced", tool.X86, "nph_open"), ("norphuen_sliced", tool.ARM, "nph_open"),
-           ("norphuen_large", tool.X86, "nph_free"), ("norphuen_large", tool.X86, "nph_malloc"), ("norphuen_large", tool.ARM, "nph_malloc")}
+           ("norphuen_large", tool.X86, "nph_free"), ("norphuen_large", tool.X86, "nph_malloc"), ("norphuen_large", tool.ARM, "nph_malloc"),
+           ("norphuen_images", tool.ARM, "nph_open"), ("norphuen_images", tool.ARM, "nph_load")}
 
 
 class About(typing.NamedTuple):
@@ -80,9 +81,8 @@ LIBRARIES = {
                              "slot_words class_of figures totals place lend return"),
     "norphuen_tasks": About("tasks", "worst_case_tasks.c", (), (1, 4), "version malloc free length set_quota task unassigned"),
     "norphuen_large": About("large", "worst_case_large.c", (), (1, 4), "most_malloc most_free most_access version length figures totals"),
+    "norphuen_images": About("images", "worst_case_images.c", (), (1, 4), "version make free length image_bytes"),
 }
-# Libraries that have no notes and so no bounds, which docs/BOUNDS.md says.
-NO_NOTES = ["norphuen_images"]
 # The lengths that the notes may use (docs/BOUNDS.md).
 NAMES = "smtcwbfpnqlPWQS"
 failed = []
@@ -168,6 +168,8 @@ def lengths(about, kind, done, fields, steps):
     at["S"] = class_count(about.slots, at["W"]) if about.slots and at["W"] else 0
     if kind in ("pages_needed", "admit", "least_quota"):
         at["n"] = fields["n"]
+    if kind == "load" or kind == "save" and done:
+        at.update({n: fields[n] for n in "nlw"})
     if not done:
         return at
     if kind == "free" and "s" in fields:
@@ -222,6 +224,8 @@ class Seen:
         kind, code, counted, stack, steps, *rest = line.split()
         counted, steps, moved, words = int(counted), int(steps), list(map(int, rest[:6])), list(zip(rest[6::2], map(int, rest[7::2])))
         fields = {"memmoves": moved[2], **{word: number for word, number in words if word[0] != "#"}}
+        if self.about.short == "images":
+            fields["moved"] = moved[2]  # the call doesn't say whether it moved an object
         call, done = f"nph_{kind}", code == "0"
         row = f"{call} {case_of(kind, fields)}"
         row = row if done and row in self.bounds else call
@@ -402,7 +406,7 @@ UNBOUNDED = [
     ("int nph_malloc(int (*f)(void)) { return f(); }", "nph_malloc: a jump or call through a pointer"),
     ("int nph_malloc(int n) { return n < 2 ? n : n * nph_malloc(n - 1) + nph_malloc(n - 2); }", "recursion: nph_malloc calls nph_malloc"),
     ("void take(char *); int nph_malloc(int n) { char a[n]; take(a); return a[0]; }", "nph_malloc: the frame isn't fixed"),
-    ("void *rattle_alloc(long, long); void *nph_malloc(int n) { return rattle_alloc(n, 8); }", "nph_malloc leads to rattle_alloc: only nph_close and nph_open may"),
+    ("void *rattle_alloc(long, long); void *nph_malloc(int n) { return rattle_alloc(n, 8); }", "nph_malloc leads to rattle_alloc: only nph_close and nph_load and nph_open may"),
     ("void take(int); int nph_malloc(int n) { take(n); return n; }", "call 1 of take, which is outside and isn't known"),
     ("int nph_malloc(volatile int *n) { while (*n) ; return 1; }", "loop 1\\.\\w+ has no note: how often"),
     ("int nph_malloc(volatile int *n) { if (*n) for (;;) ; return 1; }", "nph_malloc: an endless loop"),
@@ -505,7 +509,7 @@ HEAD = """`checks/worst_case --write` writes this page, and `checks/worst_case` 
 
 - "Longest": the longest call seen on 16 pages of 16 KiB with k = 1 and 4,096 proxies, and the bound for its lengths if the bound varies.
 - "Stack": bytes, with return addresses.
-- `cf` is `libnorphuen.a`, `nm` is `libnorphuen_nonmoving.a`, `tlsf` is `libnorphuen_tlsf.a`, `sliced` is `libnorphuen_sliced.a`, `tasks` is `libnorphuen_tasks.a`, `large` is `libnorphuen_large.a`.
+- `cf` is `libnorphuen.a`, `nm` is `libnorphuen_nonmoving.a`, `tlsf` is `libnorphuen_tlsf.a`, `sliced` is `libnorphuen_sliced.a`, `tasks` is `libnorphuen_tasks.a`, `large` is `libnorphuen_large.a`, `images` is `libnorphuen_images.a`.
 - A free or resize moves no other object ("alone"), or one ("move"). A resize keeps its slot ("same"), or takes another.
 - A free of long objects is of one that fits a page ("short"), or of one in parts ("long").
 - In slices a free clears a slot ("clear"), or begins to move an object ("move"). A step is the last of its job, after which no job is pending or another one moves an object ("next"); other steps are shorter.
@@ -520,9 +524,9 @@ HEAD = """`checks/worst_case --write` writes this page, and `checks/worst_case` 
 | w | words that contain one of the bytes |
 | b | blocks of four words that contain the r or w words |
 | f | free blocks |
-| n | needs that the call is passed |
+| n | needs that the call is passed, or objects of an image |
 | q | words of the quantum |
-| l | parts of a long object, or those that contain one of the bytes: s then counts all their words, and w in instructions those of one |
+| l | parts of a long object, or those that contain one of the bytes: s then counts all their words, and w in instructions those of one; or the chunks of at most 4,096 bytes in which the objects of an image are copied: w then counts the words of the longest chunk |
 | P, W, S | pages, words and size classes of a page |
 | Q, p | proxies, of each task if there are tasks, rounded up to a power of two |
 
@@ -556,8 +560,7 @@ def document(cells, codes, writes):
     """Compares docs/BOUNDS.md, or writes it."""
     path = Path("docs/BOUNDS.md")
     sums = [" | ".join([f"| `lib{name}.a`", *(codes[name, processor] for processor in tool.PROCESSORS)]) + " |\n" for name in LIBRARIES]
-    lacking = [f"\nNo bounds are computed of `lib{name}.a`.\n" for name in NO_NOTES]
-    whole = "".join([HEAD, *(row for name in LIBRARIES for row in rows_of(name, cells)), *lacking, SUMS, *sums])
+    whole = "".join([HEAD, *(row for name in LIBRARIES for row in rows_of(name, cells)), SUMS, *sums])
     if writes:
         path.write_text(whole, encoding="utf-8")
         subprocess.run(["tools/index", "--write"], check=True)  # docs/CALLS.md has the steps too
@@ -580,7 +583,7 @@ def checked(name, processor, count, archives, room):
     for text in found.problems:
         fail(f"{name}, {processor}: {text}")
     allocator = {export for export, row in table.items() if row["allocator"]}
-    if allocator != tool.MAY_ALLOCATE:
+    if allocator != tool.MAY_ALLOCATE & set(library.exports):
         fail(f"{name}, {processor}: a path leads to the allocator from {sorted(allocator)}")
     for call in LIBRARIES[name].no_loop.split():
         if table.get(f"nph_{call}", {"running loops": 1})["running loops"]:
@@ -602,8 +605,8 @@ def alone(room, work, *words):
 def main():
     room, count, archives, *rest = sys.argv[1:]
     known = re.findall(r"^(norphuen\w*) staticlib:", Path("crates.txt").read_text(encoding="utf-8"), re.M)
-    for name in sorted(set(known) ^ {*LIBRARIES, *NO_NOTES}):
-        fail(f"{name} is a library of crates.txt, or of LIBRARIES or NO_NOTES, but not of both")
+    for name in sorted(set(known) ^ {*LIBRARIES}):
+        fail(f"{name} is a library of crates.txt, or of LIBRARIES, but not of both")
     with concurrent.futures.ProcessPoolExecutor(4) as pool:
         jobs = {(name, processor): pool.submit(alone, room, checked, name, processor, int(count), archives)
                 for name in LIBRARIES for processor in tool.PROCESSORS}
