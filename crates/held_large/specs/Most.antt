@@ -1,5 +1,5 @@
--- What a caller in C gets as the most steps of a call before it: a bound in every heap of long objects over a moving heap whose pages have so many bytes, in every
--- state of the heap.
+-- The most steps of a call, which a caller in C can ask for before the call: bounds for every heap of long objects over a moving heap, in every state. `page_bytes`
+-- is the bytes of its pages.
 use Rattle.std.specs.Prelude.{◌≡◌, ℕ, ◌+◌, ◌-◌, ◌*◌, ◌/◌, ◌≤◌, List, Some, Result, length, max, min}
 use Rattle.std.specs.FinMap.{get}
 use Rattle.cf_base.specs.declared.answers.AccessFault.{AccessFault}
@@ -16,7 +16,7 @@ pub record HasPagesOf (page_bytes : ℕ) (s : LargeState) : Type 0 where
   pub kind : s.inner.kind ≡ Moving
   pub words : s.inner.profile.page_words ≡ page_bytes / 8
 
--- a malloc of `bytes` bytes takes at most so many steps
+-- a malloc of `bytes` bytes takes at most `most` steps
 abbrev pub IsMostMalloc : ℕ → ℕ → ℕ → Type 0
 IsMostMalloc page_bytes bytes most =
     (s : LargeState) (answer : Result Handle Refusal) → HasPagesOf page_bytes s → large_malloc_steps moving_costs s bytes answer ≤ most

@@ -4,7 +4,7 @@ ghost use Rattle.std.specs.Prelude.{◌≡◌, ◌+◌, ◌/◌, ◌^◌, ◌<�
 ghost use Rattle.large_objects.specs.InnerObjects.{part_count};
 ghost use Rattle.held_large.specs.Most.{IsMostAccess, IsMostFree, IsMostMalloc, part_of, slot_cap};
 
-/// The words of a page of `page_bytes` bytes; those of the least or the largest page if no page has so few or so many.
+/// The words of a page of `page_bytes` bytes. For bytes that no page has, the words of the least or of the largest page.
 fn page_words(page_bytes: u32) -> u32
     ensures value { 64 ≤ page_bytes / 8 → page_bytes / 8 ≤ 16384 → result ≡ page_bytes / 8 }
     ensures least { 64 ≤ result }
