@@ -18,11 +18,11 @@ RUST = {'NphHeap': 'RawHeap', 'NphNeeded': 'Needed', 'NphNeed': 'Need', 'NphFree
 ADA = {'u8': 'Unsigned_8', 'u32': 'Unsigned_32', 'u64': 'Unsigned_64', 'bool': 'Unsigned_8', '*mut u64': 'System.Address',
        '[u8]': 'Bytes', '[NphNeed]': 'Needs', 'NphHeap': 'Heap', 'NphNeeded': 'Needed', 'NphNeed': 'Need', 'NphFreed': 'Freed', 'NphResized': 'Resized', 'NphClass': 'Class', 'NphHeapTotals': 'Heap_Totals', 'NphCounted': 'Counted', 'NphTask': 'Task_Figures'}
 # The names of each library begin with this; its heap is named so too.
-PREFIXES = {'norphuen': 'nph_', 'norphuen_nonmoving': 'nph_nm_', 'norphuen_tlsf': 'nph_tlsf_', SLICED: 'nph_sliced_', TASKS: 'nph_tasks_', IMAGES: 'nph_images_', LARGE: 'nph_large_'}
+PREFIXES = {'norphuen': 'nph_', 'norphuen_nonmoving': 'nph_nm_', 'norphuen_tlsf': 'nph_tlsf_', 'norphuen_half': 'nph_half_', SLICED: 'nph_sliced_', TASKS: 'nph_tasks_', IMAGES: 'nph_images_', LARGE: 'nph_large_'}
 # The exports that a library may lack, if an object's words are not side by side there.
 LOAN = {'place', 'lend', 'return'}
 # The exports of a library with pages.
-PAGED = {'slot_words', 'class_of', 'pages_needed', 'set_bound'}
+PAGED = {'class_of', 'pages_needed', 'set_bound'}
 # Structs of other crates: the file that has them, their name there.
 ELSEWHERE = {'NphNeed': (Path('crates/quota_model/src/answers.rt'), 'Need')}
 # Parameters with another name in C: `class` is a word of C++.
@@ -200,8 +200,9 @@ def header(crate):
     print(f'SAME(NPH_NONE == {none}u, "NPH_NONE");')
     version = re.search(r'pub const VERSION: u32 = (\d+);', (BASE / 'codes.rt').read_text())[1]
     print(f'SAME(NPH_VERSION == {version}, "NPH_VERSION");')
-    for name, value in re.findall(r'Kind::(Moving|NonMoving|Tlsf) => (\d),', (HELD / 'most.rt').read_text().split('pub fn kind(')[1].split('\n}')[0]):
-        print(f'SAME(NPH_{name.upper()} == {value}, "NPH_{name.upper()}");')
+    for name, value in re.findall(r'Kind::(\w+) => (\d),', (HELD / 'most.rt').read_text().split('pub fn kind(')[1].split('\n}')[0]):
+        kind = 'NPH_' + name.removesuffix('Fit').upper()
+        print(f'SAME({kind} == {value}, "{kind}");')
     print('nph_block (*const takes)(size_t, size_t) = rattle_alloc;')
 
 

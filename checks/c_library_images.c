@@ -1,6 +1,7 @@
 /* Drawn calls through the library of images do what a plain model does: c_library_images CALLS SEED. The model has the bytes under each
- * id, makes the image of them itself, and reads damaged images by the format's rules. Memory is refused too, at each block of an open or
- * a load; no other call takes any. */
+ * id, makes the image of them itself, and reads damaged images by the format's rules. With k above 1 a make may be refused for space
+ * though the pages would do, but only if the classes may have k partly full pages each. Memory is refused too, at each block of an open
+ * or a load; no other call takes any. */
 #include "norphuen.h"
 #include <stdio.h>
 #include <stdlib.h>
@@ -13,6 +14,8 @@ typedef struct object { int live; uint32_t id, length; uint8_t bytes[MOST_BYTES]
 static nph_images_heap heap = NPH_IMAGES_HEAP;
 static object objects[IDS]; /* by rising id */
 static uint32_t pages, page_bytes, k, live, call;
+/* Whether the heap was loaded, and how often such a one had no space, though with k = 1 it would have. */
+static uint32_t is_loaded, scattered;
 static uint8_t image[MOST_IMAGE + 64], given[MOST_IMAGE + 64];
 static uint64_t state;
 /* What was asked for since the heap was last closed, the blocks that were not returned, and the number of blocks until one is refused. */
@@ -85,6 +88,15 @@ static uint32_t pages_for(const counts *all) {
         if (all->objects[c]) n += (all->objects[c] + all->slots[c] - 1) / all->slots[c];
     return n;
 }
+/* The most pages that they may take with k partly full pages in each class. */
+static uint32_t most_pages_for(const counts *all) {
+    uint32_t n = 0;
+    for (uint32_t c = 0; c < 128; c++) {
+        uint32_t most = all->objects[c] ? all->objects[c] / all->slots[c] + k : 0;
+        n += most < all->objects[c] ? most : all->objects[c];
+    }
+    return n;
+}
 
 static void put(uint8_t *at, uint32_t n, int bytes) {
     for (int i = 0; i < bytes; i++) at[i] = (uint8_t)(n >> (8 * i));
@@ -140,7 +152,7 @@ static long broken(size_t count) {
 }
 
 static void open_heap(void) {
-    pages = 4 + drawn(20), page_bytes = 512u << drawn(2), k = drawn(2) ? 1 : 1 + drawn(4), live = 0;
+    pages = 4 + drawn(20), page_bytes = 512u << drawn(2), k = drawn(2) ? 1 : 1 + drawn(4), live = 0, is_loaded = 0;
     for (int i = 0; i < IDS; i++) objects[i].live = 0, objects[i].id = i == 0 ? 0 : i == IDS - 1 ? 65535 : (uint32_t)i * 700 + drawn(700);
     for (uint32_t blocks = drawn(2) ? 99 : 0;; blocks++) {
         left = blocks;
@@ -180,7 +192,11 @@ static void make(void) {
     }
     if (bytes > MOST_BYTES && wanted == NPH_OK) return;
     nph_status status = nph_images_make(&heap, id, bytes);
-    if (k > 1 && status == NPH_SPACE && wanted == NPH_OK) return; /* partly full pages of other classes */
+    if (k > 1 && status == NPH_SPACE && wanted == NPH_OK) { /* partly full pages of other classes */
+        if (most_pages_for(&all) <= pages) fail("a refusal for space with enough pages", (long)most_pages_for(&all), pages);
+        scattered += is_loaded;
+        return;
+    }
     same("make", status, wanted);
     if (wanted != NPH_OK) return;
     objects[at].live = 1, objects[at].length = bytes, live++;
@@ -236,9 +252,10 @@ static size_t save(void) {
 static void load(void) {
     size_t bytes = save(), count = bytes;
     uint64_t offset = 7;
-    same("load over it", nph_images_load(&heap, given, bytes, &offset), NPH_OPEN);
+    same("load over it", nph_images_load(&heap, given, bytes, k, &offset), NPH_OPEN);
     close_heap();
     left = UINT32_MAX;
+    k = drawn(2) ? 1 : 1 + drawn(4);
     if (drawn(4)) {
         switch (drawn(4)) {
         case 0: count = drawn((uint32_t)bytes); break;
@@ -247,7 +264,9 @@ static void load(void) {
         default: given[drawn((uint32_t)bytes)] ^= (uint8_t)(1u << drawn(8)); break;
         }
         long at = broken(count);
-        same("load of a damaged image", nph_images_load(&heap, given, count, &offset), at < 0 ? NPH_OK : NPH_IMAGE);
+        same("load with a wrong k", nph_images_load(&heap, given, count, drawn(2) ? 0 : 65 + drawn(99), &offset), NPH_BOUND);
+        same("the offset", (long)offset, 7);
+        same("load of a damaged image", nph_images_load(&heap, given, count, k, &offset), at < 0 ? NPH_OK : NPH_IMAGE);
         same("the offset", (long)offset, at < 0 ? 7 : at);
         if (at >= 0) same("closed then", nph_images_free(&heap, 0), NPH_CLOSED);
         close_heap();
@@ -255,13 +274,14 @@ static void load(void) {
     }
     for (uint32_t blocks = drawn(8) ? 99 : 0;; blocks++) {
         left = blocks;
-        nph_status status = nph_images_load(&heap, image, bytes, &offset);
+        nph_status status = nph_images_load(&heap, image, bytes, k, &offset);
         same("the offset", (long)offset, 7);
         if (status == NPH_OK) break;
         same("load without memory", status, NPH_MEMORY);
         close_heap();
     }
-    needed_now(k = 1);
+    needed_now(k);
+    is_loaded = 1;
     (void)save();
 }
 
@@ -287,6 +307,7 @@ int main(int words_given, char **words) {
         }
     }
     close_heap();
+    if (calls >= 100000 && scattered == 0) fail("loaded heaps that k above 1 leaves without space", 0, 1);
     printf("%u calls\n", calls);
     return 0;
 }

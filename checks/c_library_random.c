@@ -1,20 +1,27 @@
 /* Drawn calls beside a plain model: each object's handle, bytes and place. Bytes are written and read by copies and in place,
  * two objects at once. Handles of objects that were freed of late are refused, drawn numbers unless a live object has them;
- * a lent heap refuses each call, and no call that fails writes anything. No call takes more steps than its bound, and the
- * words of a slot are known before its free. A walk finds each live object once; the heap counts what the model counts; and no
- * class has more partly full pages than the bound that was set. Ends with 1 at the first difference. Arguments: the
- * number of calls, and the seed. */
+ * a lent heap refuses each call, and no call that fails writes anything. No call takes more steps than its bound. The words of a
+ * slot or block are known before its free, are enough for the object, and stay the same; no two slots or blocks overlap, and together
+ * they have the bytes taken. A walk finds each live object once; the heap counts what the model counts; and no class has more partly
+ * full pages than the bound that was set. Ends with 1 at the first difference. Arguments: the number of calls, and the seed. */
 #include "norphuen.h"
 #include <stdio.h>
 #include <stdlib.h>
 #include <string.h>
 
 enum { MOST = 200, NUMBERS = 256, PAGES = 32, PAGE = 2048, STALE = 64, LONG = 100000, CLASSES = 67 };
+#if defined NPH_USE_TLSF || defined NPH_USE_HALF
+#define WITH_BLOCKS
+enum { BLOCKS = 1, HEADERS = 2, ASK_WORDS = 2 };
+#else
+enum { BLOCKS = 0, HEADERS = 1, ASK_WORDS = 3 };
+#endif
 
 typedef struct object {
     uint32_t handle;
     uint32_t length;
     uint32_t place;
+    uint32_t words; /* of its slot or block */
     uint8_t bytes[PAGE];
 } object;
 
@@ -52,6 +59,20 @@ static object *with(uint32_t handle) {
 /* The place of an object that was made or moved. */
 static void find_place(object *o) { CHECK(nph_place(&heap, o->handle, &o->place) == NPH_OK); }
 
+/* The words of the slot or block of an object. */
+static uint32_t slot_words(object *o) {
+    uint32_t words = 0;
+    CHECK(nph_slot_words(&heap, o->handle, &words) == NPH_OK);
+    CHECK(taken() == ASK_WORDS && words >= HEADERS + (o->length + 7) / 8);
+#ifndef WITH_BLOCKS
+    uint32_t c = 77;
+    nph_class figures;
+    CHECK(nph_class_of(&heap, o->length, &c) == NPH_OK);
+    CHECK(nph_figures(&heap, c, &figures) == NPH_OK && figures.slot_words == words);
+#endif
+    return words;
+}
+
 /* Notes that an object moved, if one did. */
 static void note_move(uint32_t handle) {
     if (handle == NPH_NONE) return;
@@ -66,7 +87,7 @@ static void note_move(uint32_t handle) {
 static void note_peaks(void) {
     nph_heap_totals t;
     CHECK(nph_totals(&heap, &t) == NPH_OK);
-    uint64_t left = nph_kind() == NPH_TLSF ? t.held - t.taken : t.free;
+    uint64_t left = BLOCKS ? t.held - t.taken : t.free;
     if (asked > counted.most_asked) counted.most_asked = asked;
     if (left < counted.least_free) counted.least_free = left;
 }
@@ -85,6 +106,7 @@ static void make(void) {
     o->length = length;
     memset(o->bytes, 0, PAGE);
     find_place(o);
+    o->words = slot_words(o);
     asked += length;
     live++;
     note_peaks();
@@ -102,7 +124,7 @@ static void ask_too_much(object *o) {
     CHECK(handle == 77);
     if (live == 0) return;
     nph_status status = nph_resize(&heap, o->handle, LONG, NULL);
-    CHECK(status == (nph_kind() == NPH_TLSF ? NPH_KIND : NPH_SIZE));
+    CHECK(status == (BLOCKS ? NPH_KIND : NPH_SIZE));
     if (status == NPH_SIZE) counted.size++;
 }
 
@@ -134,26 +156,25 @@ static void compare(void) {
     }
 }
 
-/* The words of the slot of an object; 0 with TLSF. */
-static uint32_t slot_words(object *o) {
-    uint32_t words = 0;
-#ifndef NPH_USE_TLSF
-    uint32_t c = 77;
-    nph_class figures;
-    CHECK(nph_slot_words(&heap, o->handle, &words) == NPH_OK && nph_class_of(&heap, o->length, &c) == NPH_OK);
-    CHECK(nph_figures(&heap, c, &figures) == NPH_OK && figures.slot_words == words);
-#else
-    (void)o;
-#endif
-    return words;
+/* The slots or blocks are where the places say, none overlaps another, and the whole heap has the figures of them all. */
+static void compare_all(void) {
+    static uint8_t used[PAGES * PAGE / 8];
+    nph_heap_totals t;
+    uint64_t words = 0;
+    memset(used, 0, sizeof used);
+    for (uint32_t i = 0; i < live; i++) {
+        CHECK(slot_words(&objects[i]) == objects[i].words && objects[i].place + objects[i].words <= sizeof used);
+        for (uint32_t w = 0; w < objects[i].words; w++) CHECK(used[objects[i].place + w]++ == 0);
+        words += objects[i].words;
+    }
+    CHECK(nph_totals(&heap, &t) == NPH_OK && t.live == live && t.asked == asked && t.taken == 8 * words);
 }
 
 static void release(object *o) {
     nph_freed f = {0, NPH_NONE};
     uint32_t words = slot_words(o);
-    CHECK(nph_free(&heap, o->handle, draw(2) ? &f : NULL) == NPH_OK);
-    CHECK(words == 0 || taken() <= nph_most_free(words));
-    CHECK(words == 0 || f.slot_words == 0 || f.slot_words == words);
+    CHECK(words == o->words && nph_free(&heap, o->handle, draw(2) ? &f : NULL) == NPH_OK);
+    CHECK(taken() <= nph_most_free(words) && (f.slot_words == 0 || f.slot_words == words));
     stale[freed++ % STALE] = o->handle;
     asked -= o->length;
     uint32_t moved = f.moved;
@@ -176,6 +197,9 @@ static void resize(object *o) {
     asked = asked - o->length + length;
     o->length = length;
     find_place(o);
+    CHECK(r.old_slot_words == o->words);
+    o->words = slot_words(o);
+    CHECK(r.slot_words == o->words);
     note_move(r.moved);
     note_peaks();
 }
@@ -210,7 +234,8 @@ static void all_refused(nph_status code, uint32_t handle) {
     CHECK(nph_lend(&heap, &words) == code && nph_next(&heap, NPH_NONE, &number) == code);
     nph_counted counts = {77, 77, 77, 77, 77, 77, 77};
     CHECK(nph_counts(&heap, &counts) == code && counts.most_asked == 77 && counts.space == 77);
-#ifndef NPH_USE_TLSF
+    CHECK(nph_slot_words(&heap, handle, &number) == code);
+#ifndef WITH_BLOCKS
     CHECK(nph_set_bound(&heap, 3, 1) == code);
 #endif
     CHECK(number == 77 && steps == 77 && words == NULL && byte == 77 && f.slot_words == 77 && f.moved == 77);
@@ -248,7 +273,8 @@ static void refuse(uint32_t handle) {
     CHECK(nph_resize(&heap, handle, 1, NULL) == NPH_UNKNOWN || nph_resize(&heap, handle, 1, NULL) == NPH_KIND);
     CHECK(nph_read(&heap, handle, 0, &byte, 1) == NPH_UNKNOWN && nph_write(&heap, handle, 0, &byte, 1) == NPH_UNKNOWN);
     CHECK(nph_length(&heap, handle, &number) == NPH_UNKNOWN && nph_place(&heap, handle, &number) == NPH_UNKNOWN);
-    CHECK(nph_next(&heap, handle, &number) == NPH_UNKNOWN);
+    CHECK(nph_next(&heap, handle, &number) == NPH_UNKNOWN && nph_slot_words(&heap, handle, &number) == NPH_UNKNOWN);
+    CHECK(taken() == 1);
     counted.unknown += 3;
     CHECK(number == 77 && byte == 77 && f.slot_words == 77 && f.moved == 77);
     refused++;
@@ -257,7 +283,7 @@ static void refuse(uint32_t handle) {
 /* Sets drawn bounds of the classes of a heap without objects. */
 static void set_bounds(void) {
     for (uint32_t i = 0; i < CLASSES; i++) bounds[i] = 1;
-#ifndef NPH_USE_TLSF
+#ifndef WITH_BLOCKS
     nph_class f;
     uint32_t handle;
     CHECK(nph_set_bound(&heap, 3, 0) == NPH_BOUND && nph_set_bound(&heap, 3, 65) == NPH_BOUND && nph_set_bound(&heap, 0, 1) == NPH_UNKNOWN);
@@ -285,14 +311,14 @@ static void reopen(void) {
     CHECK(nph_return(&heap) == NPH_CLOSED);
     CHECK(nph_open(&heap, PAGES, PAGE, 1, MOST) == NPH_OK && nph_open(&heap, 1, 512, 1, 1) == NPH_OPEN);
     memset(&counted, 0, sizeof counted);
-    counted.least_free = nph_kind() == NPH_TLSF ? PAGES * PAGE : PAGES;
+    counted.least_free = BLOCKS ? PAGES * PAGE : PAGES;
     set_bounds();
 }
 
 int main(int argc, char **argv) {
     long calls = argc > 1 ? atol(argv[1]) : 100000;
-    nph_heap_totals t;
     state = argc > 2 ? strtoull(argv[2], NULL, 10) : 1;
+    CHECK(BLOCKS == (nph_kind() >= NPH_TLSF));
     reopen();
     for (long i = 0; i < calls; i++) {
         object *o = &objects[live > 0 ? draw(live) : 0];
@@ -312,9 +338,9 @@ int main(int argc, char **argv) {
         }
         if (i % 50000 == 49999) reopen();
         if (i % 64 == 0) { walk(); compare(); }
-        if (i % 1024 == 0) CHECK(nph_totals(&heap, &t) == NPH_OK && t.live == live && t.asked == asked);
+        if (i % 1024 == 0) compare_all();
     }
-    CHECK(nph_kind() == NPH_TLSF || calls < 10000 || most_not_full > 1);
+    CHECK(BLOCKS || calls < 10000 || most_not_full > 1);
     printf("%ld calls: %lu moves, %lu loans, %lu handles refused, %lu times no room, %lu walks\n", calls, (unsigned long)moves,
            (unsigned long)loans, (unsigned long)refused, (unsigned long)full, (unsigned long)walks);
     nph_close(&heap);

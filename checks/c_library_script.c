@@ -84,7 +84,7 @@ static void read_hex(uint32_t id, uint32_t at, uint32_t n) {
     putchar('\n');
 }
 
-/* Whether the library has size classes: TLSF has none. */
+/* Whether the library has size classes: one with blocks has none. */
 static bool has_classes(void) {
     nph_class c;
     return nph_figures(&heap, 0, &c) == NPH_OK;

@@ -1,8 +1,12 @@
 # shellcheck shell=bash disable=SC2034,SC2154
 # Sourced by the checks of the C libraries, which set `room`.
-libraries=(norphuen norphuen_nonmoving norphuen_tlsf)
-# Those whose calls have other parameters.
-own_libraries=(norphuen_sliced norphuen_tasks norphuen_images norphuen_large)
+# The libraries of crates.txt: those over held_heap have the calls of the short names, the others calls of their own.
+mapfile -t libraries < <(sed -nE 's/^(norphuen\w*) staticlib:.* held_heap$/\1/p' crates.txt)
+mapfile -t own_libraries < <(sed -nE '/ held_heap$/!s/^(norphuen\w*) staticlib:.*/\1/p' crates.txt)
+# What puts a library under the short names, or chooses its part of release/tests/each.c; the moving one needs nothing.
+declare -A uses=()
+for name in "${libraries[@]:1}"; do uses[$name]=-DNPH_USE_$(tr a-z A-Z <<<"${name#norphuen_}"); done
+for name in "${own_libraries[@]}"; do uses[$name]=-DEACH_$(tr a-z A-Z <<<"${name#norphuen_}"); done
 arm=(--target aarch64-unknown-linux-gnu)
 
 # build_library NAME TO FLAG..: tools/build.py proves crates/NAME and builds its library, which is copied to TO. It is built

@@ -19,11 +19,9 @@ enum { LENDS = 0 };
 enum { PAGED = 1 };
 #else
 enum { PAGED = 0 };
-#undef nph_slot_words
 #undef nph_class_of
 #undef nph_pages_needed
 #undef nph_set_bound
-#define nph_slot_words NULL
 #define nph_class_of NULL
 #define nph_pages_needed NULL
 #define nph_set_bound NULL
@@ -85,7 +83,7 @@ static void read_or_write(bool writes, uint32_t handle, uint32_t at, uint32_t n)
 static void ask_handle(uint32_t handle) {
     uint32_t number;
     call("length", (void *)nph_length, handle, (uint64_t)&number, 0, 0), puts("");
-    if (PAGED) call("slot_words", (void *)nph_slot_words, handle, (uint64_t)&number, 0, 0), puts("");
+    call("slot_words", (void *)nph_slot_words, handle, (uint64_t)&number, 0, 0), puts("");
     call("next", (void *)nph_next, handle, (uint64_t)&number, 0, 0), printf(" Q %" PRIu64 "\n", proxies);
     if (LENDS) call("place", (void *)nph_place, handle, (uint64_t)&number, 0, 0), puts("");
 }

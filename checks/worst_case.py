@@ -71,11 +71,12 @@ class About(typing.NamedTuple):
     no_loop: str
 
 
-MOST = "most_malloc most_free most_resize most_access most_has_room most_totals most_length kind version counts"
+MOST = "most_malloc most_free most_resize most_access most_has_room most_totals most_length kind version counts slot_words"
 LIBRARIES = {
-    "norphuen": About("cf", "worst_case.c", (), (1, 4), f"{MOST} slot_words class_of malloc free length has_room place lend return"),
-    "norphuen_nonmoving": About("nm", "worst_case.c", ("-DNPH_USE_NONMOVING",), (4, 1), f"{MOST} slot_words class_of malloc length has_room"),
-    "norphuen_tlsf": About("tlsf", "worst_case.c", ("-DNPH_USE_TLSF",), (), f"{MOST} malloc free length has_room bytes_needed place lend return"),
+    "norphuen": About("cf", "worst_case.c", (), (1, 4), f"{MOST} class_of malloc free length has_room place lend return"),
+    "norphuen_nonmoving": About("nm", "worst_case.c", ("-DNPH_USE_NONMOVING",), (4, 1), f"{MOST} class_of malloc length has_room"),
+    **{f"norphuen_{short}": About(short, "worst_case.c", (f"-DNPH_USE_{short.upper()}",), (), f"{MOST} malloc free length has_room bytes_needed place lend return")
+       for short in ("tlsf", "half")},
     "norphuen_sliced": About("sliced", "worst_case_sliced.c", (), (1, 4),
                              "most_malloc most_free most_step most_access most_has_room most_length version malloc free step left moving length has_room "
                              "slot_words class_of figures totals place lend return"),
@@ -469,9 +470,9 @@ STEPS = {
         "malloc": "18", "free, alone": "22 + s + s/2", "free, move": "22 + s + s/2", "read": "3 + w + b", "write": "3 + w + b", "length": "3",
         "has_room": "1", "slot_words": "4", "totals": "0", "resize, same": "9 + r + b", "resize, alone": "38 + 3(s + t)/2",
         "resize, move": "38 + 3(s + t)/2"}.items()},
-    **{("tlsf", call): steps for call, steps in {
+    **{(short, call): steps for short in ("tlsf", "half") for call, steps in {
         "malloc": "25", "free": "41 + s", "resize": "1", "read": "2 + w", "write": "2 + w", "length": "2", "has_room": "4",
-        "totals": "3 + 2f"}.items()},
+        "slot_words": "2", "totals": "3 + 2f"}.items()},
     **{("sliced", call): steps for call, steps in {
         "malloc": "17", "free, clear": "23 + q", "free, move": "23 + q", "step, last": "15 + q", "step, next": "15 + q", "left": "0", "moving": "0", "read": "2 + w", "write": "2 + w", "length": "2",
         "has_room": "1", "slot_words": "3", "totals": "0"}.items()},
@@ -509,7 +510,7 @@ HEAD = """`checks/worst_case --write` writes this page, and `checks/worst_case` 
 
 - "Longest": the longest call seen on 16 pages of 16 KiB with k = 1 and 4,096 proxies, and the bound for its lengths if the bound varies.
 - "Stack": bytes, with return addresses.
-- `cf` is `libnorphuen.a`, `nm` is `libnorphuen_nonmoving.a`, `tlsf` is `libnorphuen_tlsf.a`, `sliced` is `libnorphuen_sliced.a`, `tasks` is `libnorphuen_tasks.a`, `large` is `libnorphuen_large.a`, `images` is `libnorphuen_images.a`.
+- `cf` is `libnorphuen.a`, `nm` is `libnorphuen_nonmoving.a`, `tlsf` is `libnorphuen_tlsf.a`, `half` is `libnorphuen_half.a`, `sliced` is `libnorphuen_sliced.a`, `tasks` is `libnorphuen_tasks.a`, `large` is `libnorphuen_large.a`, `images` is `libnorphuen_images.a`.
 - A free or resize moves no other object ("alone"), or one ("move"). A resize keeps its slot ("same"), or takes another.
 - A free of long objects is of one that fits a page ("short"), or of one in parts ("long").
 - In slices a free clears a slot ("clear"), or begins to move an object ("move"). A step is the last of its job, after which no job is pending or another one moves an object ("next"); other steps are shorter.

@@ -5,7 +5,7 @@
 enum { LIVE = 64, IDS = 1 << 16, HEAD = 20, CHUNK = 4096, IMAGE = 1 << 23 };
 static uint32_t ids[LIVE], lengths[IDS], live, page_words;
 static uint8_t image[IMAGE];
-static uint64_t image_settings[3];
+static uint64_t image_settings[3]; /* pages, k and proxies */
 static nph_images_heap heap = NPH_IMAGES_HEAP;
 #define ON_HEAP(name, ...) CALL(#name, nph_images_##name, (uint64_t)&heap, __VA_ARGS__)
 #define ASK(name, ...) PLAIN(#name, nph_images_##name, __VA_ARGS__)
@@ -82,13 +82,15 @@ static uint64_t save(uint64_t room) {
     return written;
 }
 
-static int32_t load(uint64_t count) {
+static int32_t load_with(uint64_t k, uint64_t count) {
     uint64_t offset;
-    int32_t code = ON_HEAP(load, (uint64_t)image, count, (uint64_t)&offset);
+    int32_t code = ON_HEAP(load, (uint64_t)image, count, k, (uint64_t)&offset);
     print_lengths();
     printf(" P %" PRIu64 " W %" PRIu32 " Q %" PRIu64 "\n", image_settings[0], page_words, image_settings[2]);
     return code;
 }
+
+static int32_t load(uint64_t count) { return load_with(image_settings[1], count); }
 
 static int32_t open_or_close(bool opens, const uint64_t *settings) {
     int32_t code = opens ? ON_HEAP(open, settings[0], settings[1], settings[2], settings[3])
@@ -97,17 +99,17 @@ static int32_t open_or_close(bool opens, const uint64_t *settings) {
     return code;
 }
 
-/* Saves the heap, with too little room too, and loads the image: with little memory, cut, with a byte too many, and whole. */
+/* Saves the heap, with too little room too, and loads the image: with little memory, cut, with a byte too many, with a wrong k, and whole. */
 static void save_and_load(const uint64_t *settings) {
     uint64_t count;
     save(0);
     count = save(IMAGE);
-    image_settings[0] = settings[0], image_settings[2] = settings[3];
+    image_settings[0] = settings[0], image_settings[1] = settings[2], image_settings[2] = settings[3];
     load(count);
     open_or_close(false, settings);
     for (uint32_t cut = 1; cut < 16 && cut < count; cut++) load(count - cut);
     for (uint32_t few = 0; few < HEAD + 16 && few < count; few++) load(few);
-    load(count + 1);
+    load(count + 1), load_with(65, count);
     image[0] ^= 1, load(count), image[0] ^= 1;
     OPEN_WITH_LITTLE(load(count));
 }

@@ -4,21 +4,23 @@
  * A heap has one region of words of 8 bytes, cut into equal pages. A page in use has slots of one size, a size class; an object
  * takes the smallest slot that holds it and its header of a word. nph_open takes all memory, so that later calls take none. Each
  * call on an open heap takes a bounded number of steps (docs/CALLS.md), accesses to a word or to an entry of a table;
- * nph_last_steps returns the steps of the last one. There are six libraries, and a program may link several:
+ * nph_last_steps returns the steps of the last one. There are eight libraries, and a program may link several:
  *
  *   libnorphuen.a            Compact-fit, moving: a free may move one object, whose handle stays the same
  *   libnorphuen_nonmoving.a  Compact-fit, non-moving: a free may exchange entries of a block table. Lends nothing, since
  *                            an object's words are not side by side
  *   libnorphuen_tlsf.a       TLSF, for comparison: blocks in place of pages. No object moves or changes its length
+ *   libnorphuen_half.a       Half-Fit, for comparison: the same, but a free list for each power of two
  *   libnorphuen_sliced.a     Compact-fit, moving, with frees in slices of a set length: "Frees in slices" below
  *   libnorphuen_tasks.a      Compact-fit, moving, shared by sixteen tasks with quotas: "Heaps of tasks" below. Lends nothing
  *   libnorphuen_images.a     Compact-fit, moving, with objects under ids, saved and loaded as an image: "Images" below. Lends nothing
  *   libnorphuen_large.a      Compact-fit, moving, with objects that may be longer than a page: "Long objects" below. Lends nothing
  *
  * Each has names and a type of heap of its own: nph_open and nph_heap, nph_nm_open and nph_nm_heap, nph_tlsf_open and
- * nph_tlsf_heap, nph_sliced_open and nph_sliced_heap, nph_tasks_open and nph_tasks_heap, nph_images_open and nph_images_heap,
- * nph_large_open and nph_large_heap, and so on. The comments below speak of the short names, those of the moving library. With the
- * macro NPH_USE_NONMOVING or NPH_USE_TLSF, defined before the header is included, the short names mean that library instead.
+ * nph_tlsf_heap, nph_half_open and nph_half_heap, nph_sliced_open and nph_sliced_heap, nph_tasks_open and nph_tasks_heap,
+ * nph_images_open and nph_images_heap, nph_large_open and nph_large_heap, and so on. The comments below speak of the short names,
+ * those of the moving library. With the macro NPH_USE_NONMOVING, NPH_USE_TLSF or NPH_USE_HALF, defined before the header is
+ * included, the short names mean that library instead. "With blocks" means with TLSF and Half-Fit, "with pages" with the others.
  *
  * The program defines the three functions rattle_alloc, rattle_realloc and rattle_dealloc, by which the library takes
  * and returns memory: examples/c/malloc.c does so over malloc, src/norphuen_arena.c over a static array.
@@ -65,9 +67,10 @@ extern "C" {
 typedef struct nph_heap { void *at; uint32_t last; bool is_open; bool is_lent; } nph_heap;
 typedef struct nph_nm_heap { void *at; uint32_t last; bool is_open; bool is_lent; } nph_nm_heap;
 typedef struct nph_tlsf_heap { void *at; uint32_t last; bool is_open; bool is_lent; } nph_tlsf_heap;
+typedef struct nph_half_heap { void *at; uint32_t last; bool is_open; bool is_lent; } nph_half_heap;
 typedef struct nph_sliced_heap { void *at; uint32_t last; bool is_open; bool is_lent; } nph_sliced_heap;
 typedef struct nph_tasks_heap { void *at; uint32_t last; bool is_open; } nph_tasks_heap;
-typedef struct nph_images_heap { void *at; bool is_open; } nph_images_heap;
+typedef struct nph_images_heap { void *at; uint32_t last; bool is_open; } nph_images_heap;
 typedef struct nph_large_heap { void *at; uint32_t last; bool is_open; } nph_large_heap;
 
 /* A closed heap, to initialize or to assign. A static heap is closed without it; with it gcc -pedantic warns. */
@@ -75,6 +78,7 @@ typedef struct nph_large_heap { void *at; uint32_t last; bool is_open; } nph_lar
 #define NPH_HEAP nph_heap{}
 #define NPH_NM_HEAP nph_nm_heap{}
 #define NPH_TLSF_HEAP nph_tlsf_heap{}
+#define NPH_HALF_HEAP nph_half_heap{}
 #define NPH_SLICED_HEAP nph_sliced_heap{}
 #define NPH_TASKS_HEAP nph_tasks_heap{}
 #define NPH_IMAGES_HEAP nph_images_heap{}
@@ -83,9 +87,10 @@ typedef struct nph_large_heap { void *at; uint32_t last; bool is_open; } nph_lar
 #define NPH_HEAP (nph_heap){ NULL, 0, false, false }
 #define NPH_NM_HEAP (nph_nm_heap){ NULL, 0, false, false }
 #define NPH_TLSF_HEAP (nph_tlsf_heap){ NULL, 0, false, false }
+#define NPH_HALF_HEAP (nph_half_heap){ NULL, 0, false, false }
 #define NPH_SLICED_HEAP (nph_sliced_heap){ NULL, 0, false, false }
 #define NPH_TASKS_HEAP (nph_tasks_heap){ NULL, 0, false }
-#define NPH_IMAGES_HEAP (nph_images_heap){ NULL, false }
+#define NPH_IMAGES_HEAP (nph_images_heap){ NULL, 0, false }
 #define NPH_LARGE_HEAP (nph_large_heap){ NULL, 0, false }
 #endif
 
@@ -94,10 +99,10 @@ typedef enum nph_status {
     NPH_OK = 0,
     NPH_SIZE = 1,    /* the object with its header needs more words than a page has */
     NPH_PROXY = 2,   /* every proxy is in use */
-    NPH_SPACE = 3,   /* no free slot of the class and no free page; with TLSF no free block that serves */
-    NPH_UNKNOWN = 4, /* the handle is not live; there is no such class (TLSF has none) or task */
+    NPH_SPACE = 3,   /* no free slot of the class and no free page; with blocks no free block that serves */
+    NPH_UNKNOWN = 4, /* the handle is not live; there is no such class (with blocks there is none) or task */
     NPH_RANGE = 5,   /* the range passes the end of the object */
-    NPH_KIND = 6,    /* nph_resize: TLSF does not resize */
+    NPH_KIND = 6,    /* nph_resize: with blocks there is no resize */
     NPH_CLOSED = 7,  /* the heap is not open */
     NPH_OPEN = 8,    /* nph_open: the heap is open already */
     NPH_LENT = 9,    /* the heap is lent: only nph_return and nph_close are allowed */
@@ -125,7 +130,7 @@ static inline const char *nph_text(nph_status status) {
     case NPH_SPACE: return "no space";
     case NPH_UNKNOWN: return "no such object or class";
     case NPH_RANGE: return "past the end of the object";
-    case NPH_KIND: return "TLSF does not resize";
+    case NPH_KIND: return "no resize with blocks";
     case NPH_CLOSED: return "the heap is not open";
     case NPH_OPEN: return "the heap is open already";
     case NPH_LENT: return "the heap is lent";
@@ -185,7 +190,7 @@ typedef struct nph_class {
 } nph_class;
 
 /* The whole heap. Bytes: those asked for the live objects, those of their slots or blocks, and those of the pages in use,
- * with TLSF those of the region. Then the numbers of live objects, of pages or blocks in use, and of free ones; and the
+ * with blocks those of the region. Then the numbers of live objects, of pages or blocks in use, and of free ones; and the
  * words of the largest free one, 0 if none is free. */
 typedef struct nph_heap_totals {
     uint64_t asked;
@@ -198,7 +203,7 @@ typedef struct nph_heap_totals {
 } nph_heap_totals;
 
 /* What a heap counted since it was opened. `most_asked` is the most bytes that its live objects asked for after an nph_malloc or
- * nph_resize, and `least_free` the fewest free pages after one, with TLSF the fewest bytes outside its used blocks: so at most
+ * nph_resize, and `least_free` the fewest free pages after one, with blocks the fewest bytes outside the used ones: so at most
  * pages - least_free were in use. `moves` counts the objects named as `moved`. The others count each nph_malloc, nph_free and
  * nph_resize that failed with NPH_UNKNOWN, NPH_SIZE, NPH_PROXY or NPH_SPACE. A count stops at UINT64_MAX. */
 typedef struct nph_counted {
@@ -212,7 +217,7 @@ typedef struct nph_counted {
 } nph_counted;
 
 /* Opens a heap without objects, of `pages` pages of `page_bytes` bytes. At most `proxies` objects are live at a time, and each
- * size class has at most `k` partly full pages. With TLSF the pages are one region without classes, and k means nothing.
+ * size class has at most `k` partly full pages. With blocks the pages are one region without classes, and k means nothing.
  * Fails with NPH_LENT, NPH_OPEN, NPH_PAGES, NPH_PAGE_BYTES, NPH_BOUND, NPH_PROXIES, NPH_REGION or NPH_MEMORY. */
 NPH_CALL nph_status nph_open(nph_heap *heap, uint32_t pages, uint32_t page_bytes, uint32_t k, uint32_t proxies);
 
@@ -224,7 +229,7 @@ NPH_CALL nph_status nph_bytes_needed(uint32_t pages, uint32_t page_bytes, uint32
  * NPH_SPACE, whatever their order, while the live objects are within the `count` needs. With fewer some such call fails so.
  * Needs of the same length add up. The number is the same for every k, and may be more than nph_open takes. Fails with
  * NPH_SIZE, NPH_PAGE_BYTES, NPH_BOUND, NPH_ENTRIES, or with NPH_PROXIES if the needs are more objects than a heap may have.
- * The TLSF library lacks this call. */
+ * A library with blocks lacks this call. */
 NPH_CALL nph_status nph_pages_needed(uint32_t page_bytes, uint32_t k, const nph_need *needs, size_t count, uint32_t *pages);
 
 /* Returns the memory, of a lent heap too. The heap is closed afterwards, and may be opened again. May be called twice. */
@@ -253,17 +258,18 @@ NPH_CALL nph_status nph_length(nph_heap *heap, uint32_t handle, uint32_t *bytes)
 /* Returns what nph_malloc of `bytes` bytes would return now. Makes no object. */
 NPH_CALL nph_status nph_has_room(nph_heap *heap, uint32_t bytes);
 
-/* Writes the words of the slot of an object: what nph_free of it would write. Fails with NPH_UNKNOWN. */
+/* Writes the words of the slot or block of an object, its headers among them: what nph_free of it would write, and what
+ * nph_most_free takes. Fails with NPH_UNKNOWN. */
 NPH_CALL nph_status nph_slot_words(nph_heap *heap, uint32_t handle, uint32_t *words);
 
-/* Writes the size class of an object of `bytes` bytes, for nph_figures. Fails with NPH_SIZE. TLSF has neither this call nor
- * the one above. */
+/* Writes the size class of an object of `bytes` bytes, for nph_figures. Fails with NPH_SIZE. A library with blocks lacks this
+ * call. */
 NPH_CALL nph_status nph_class_of(nph_heap *heap, uint32_t bytes, uint32_t *size_class);
 
 /* Writes the figures of a size class; the classes are numbered from 0. Fails with NPH_UNKNOWN if there is no such class. */
 NPH_CALL nph_status nph_figures(nph_heap *heap, uint32_t size_class, nph_class *figures);
 
-/* Writes the figures of the whole heap. With TLSF this visits each free block. */
+/* Writes the figures of the whole heap. With blocks this visits each free one. */
 NPH_CALL nph_status nph_totals(nph_heap *heap, nph_heap_totals *totals);
 
 /* Writes the handle of the live object after `handle` into `next`, in a fixed order: the first one if `handle` is NPH_NONE, and
@@ -276,7 +282,8 @@ NPH_CALL nph_status nph_next(nph_heap *heap, uint32_t handle, uint32_t *next);
 NPH_CALL nph_status nph_counts(nph_heap *heap, nph_counted *counts);
 
 /* Sets to `k`, 1 to 64, how many pages of the size class with slots of `slot_words` words may be partly full. Fails with NPH_BOUND,
- * with NPH_LIVE if an object is live, or with NPH_UNKNOWN if no class has such slots. TLSF lacks this call. */
+ * with NPH_LIVE if an object is live, or with NPH_UNKNOWN if no class has such slots. A library with blocks lacks this
+ * call. */
 NPH_CALL nph_status nph_set_bound(nph_heap *heap, uint32_t slot_words, uint32_t k);
 
 /* Writes the steps of the last call on the heap. nph_figures, nph_counts, nph_set_bound, nph_lend, nph_return and this call
@@ -289,9 +296,9 @@ uint32_t nph_version(void);
 /* Bounds for a plan: the most steps of a call, before it is made. They are proved, and need no heap. A refused call takes at most
  * as many. nph_place takes one step. */
 
-/* Returns the kind of the library's heaps: NPH_MOVING, NPH_NONMOVING or NPH_TLSF. */
+/* Returns the kind of the library's heaps: NPH_MOVING, NPH_NONMOVING, NPH_TLSF or NPH_HALF. */
 uint32_t nph_kind(void);
-enum { NPH_MOVING = 0, NPH_NONMOVING = 1, NPH_TLSF = 2 };
+enum { NPH_MOVING = 0, NPH_NONMOVING = 1, NPH_TLSF = 2, NPH_HALF = 3 };
 
 /* Returns the most steps of nph_malloc. */
 uint64_t nph_most_malloc(void);
@@ -328,9 +335,10 @@ NPH_CALL nph_status nph_lend(nph_heap *heap, uint64_t **words);
 /* Ends the loan: the heap is open again, and its objects have the bytes that the program wrote. Fails with NPH_NOT_LENT. */
 NPH_CALL nph_status nph_return(nph_heap *heap);
 
-/* The address of the bytes of an object. With TLSF its block has two words in front of them. */
+/* The address of the bytes of an object. With blocks two words are in front of them. */
 static inline void *nph_bytes(uint64_t *words, uint32_t place) { return words + place + 1; }
 static inline void *nph_tlsf_bytes(uint64_t *words, uint32_t place) { return words + place + 2; }
+static inline void *nph_half_bytes(uint64_t *words, uint32_t place) { return words + place + 2; }
 
 /* The calls of the other libraries. Each is as the one above with the short name. */
 #define NPH_CALLS_OF(nph) \
@@ -344,6 +352,7 @@ static inline void *nph_tlsf_bytes(uint64_t *words, uint32_t place) { return wor
     NPH_CALL nph_status nph##_read(nph##_heap *heap, uint32_t handle, uint32_t at, void *bytes, size_t count); \
     NPH_CALL nph_status nph##_length(nph##_heap *heap, uint32_t handle, uint32_t *bytes); \
     NPH_CALL nph_status nph##_has_room(nph##_heap *heap, uint32_t bytes); \
+    NPH_CALL nph_status nph##_slot_words(nph##_heap *heap, uint32_t handle, uint32_t *words); \
     NPH_CALL nph_status nph##_figures(nph##_heap *heap, uint32_t size_class, nph_class *figures); \
     NPH_CALL nph_status nph##_totals(nph##_heap *heap, nph_heap_totals *totals); \
     NPH_CALL nph_status nph##_next(nph##_heap *heap, uint32_t handle, uint32_t *next); \
@@ -360,13 +369,16 @@ static inline void *nph_tlsf_bytes(uint64_t *words, uint32_t place) { return wor
     uint64_t nph##_most_length(void);
 NPH_CALLS_OF(nph_nm)
 NPH_CALLS_OF(nph_tlsf)
+NPH_CALLS_OF(nph_half)
 NPH_CALL nph_status nph_nm_pages_needed(uint32_t page_bytes, uint32_t k, const nph_need *needs, size_t count, uint32_t *pages);
-NPH_CALL nph_status nph_nm_slot_words(nph_nm_heap *heap, uint32_t handle, uint32_t *words);
 NPH_CALL nph_status nph_nm_class_of(nph_nm_heap *heap, uint32_t bytes, uint32_t *size_class);
 NPH_CALL nph_status nph_nm_set_bound(nph_nm_heap *heap, uint32_t slot_words, uint32_t k);
 NPH_CALL nph_status nph_tlsf_place(nph_tlsf_heap *heap, uint32_t handle, uint32_t *place);
 NPH_CALL nph_status nph_tlsf_lend(nph_tlsf_heap *heap, uint64_t **words);
 NPH_CALL nph_status nph_tlsf_return(nph_tlsf_heap *heap);
+NPH_CALL nph_status nph_half_place(nph_half_heap *heap, uint32_t handle, uint32_t *place);
+NPH_CALL nph_status nph_half_lend(nph_half_heap *heap, uint64_t **words);
+NPH_CALL nph_status nph_half_return(nph_half_heap *heap);
 
 /* Frees in slices: libnorphuen_sliced.a. A free leaves its long work, to clear a slot or to move another object into it, as a
  * job. The free and each nph_sliced_step do a slice of it: at most as many words as the quantum. Each class has at most one
@@ -477,6 +489,7 @@ uint64_t nph_sliced_most_length(void);
 NPH_OR_NULL_OF(nph)
 NPH_OR_NULL_OF(nph_nm)
 NPH_OR_NULL_OF(nph_tlsf)
+NPH_OR_NULL_OF(nph_half)
 #undef NPH_CALLS_OF
 #undef NPH_OR_NULL_OF
 
@@ -484,14 +497,18 @@ NPH_OR_NULL_OF(nph_tlsf)
 #define nph_nm_resize(heap, handle, bytes, resized) nph_nm_resize_or_null(heap, handle, bytes, resized)
 #define nph_tlsf_free(heap, handle, freed) nph_tlsf_free_or_null(heap, handle, freed)
 #define nph_tlsf_resize(heap, handle, bytes, resized) nph_tlsf_resize_or_null(heap, handle, bytes, resized)
+#define nph_half_free(heap, handle, freed) nph_half_free_or_null(heap, handle, freed)
+#define nph_half_resize(heap, handle, bytes, resized) nph_half_resize_or_null(heap, handle, bytes, resized)
 
 /* What the short names mean. */
-#if defined NPH_USE_NONMOVING && defined NPH_USE_TLSF
+#if defined NPH_USE_NONMOVING + defined NPH_USE_TLSF + defined NPH_USE_HALF > 1
 #error "the short names are those of one library"
 #elif defined NPH_USE_NONMOVING
 #define NPH_NAME(name) nph_nm_##name
 #elif defined NPH_USE_TLSF
 #define NPH_NAME(name) nph_tlsf_##name
+#elif defined NPH_USE_HALF
+#define NPH_NAME(name) nph_half_##name
 #else
 #define nph_free(heap, handle, freed) nph_free_or_null(heap, handle, freed)
 #define nph_resize(heap, handle, bytes, resized) nph_resize_or_null(heap, handle, bytes, resized)
@@ -618,10 +635,10 @@ NPH_CALL nph_status nph_images_open(nph_images_heap *heap, uint32_t pages, uint3
 /* As nph_bytes_needed, for nph_images_open, and for nph_images_load of an image with these settings. */
 NPH_CALL nph_status nph_images_bytes_needed(uint32_t pages, uint32_t page_bytes, uint32_t k, uint32_t proxies, nph_needed *needed);
 
-/* Opens a heap with the settings and the objects of an image of `count` bytes; its k is 1, since an image has none. Fails with
- * NPH_OPEN, NPH_MEMORY or NPH_IMAGE, and then the heap is closed as before. With NPH_IMAGE it writes into `offset` where the bytes
- * stop being an image: the first byte of the field that breaks a rule or is cut by the end, or of what follows the image. */
-NPH_CALL nph_status nph_images_load(nph_images_heap *heap, const void *bytes, size_t count, uint64_t *offset);
+/* Opens a heap with the settings and the objects of an image of `count` bytes, and with this k, since an image has none. Fails
+ * with NPH_OPEN, NPH_BOUND, NPH_MEMORY or NPH_IMAGE; a closed heap then stays closed. With NPH_IMAGE it writes into `offset` where
+ * the bytes stop being an image: the first byte of the field that breaks a rule or is cut by the end, or of what follows the image. */
+NPH_CALL nph_status nph_images_load(nph_images_heap *heap, const void *bytes, size_t count, uint32_t k, uint64_t *offset);
 
 /* As nph_close. */
 NPH_NONNULL void nph_images_close(nph_images_heap *heap);

@@ -71,7 +71,7 @@ static void release(uint32_t id) {
     if (on_heap((void *)(nph_free), objects[id], (uint64_t)&freed, 0, 0) != NPH_OK) _exit(4);
 }
 
-/* TLSF has no resize: a malloc, a copy and a free. */
+/* With blocks there is no resize: a malloc, a copy and a free. */
 static void resize(uint32_t id, uint32_t bytes) {
     static char buffer[1 << 17];
     nph_resized resized;

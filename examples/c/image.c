@@ -18,7 +18,7 @@ static uint64_t save(nph_images_heap *heap, unsigned char *to) {
 static void refuse(const char *what, uint64_t count) {
     nph_images_heap heap = NPH_IMAGES_HEAP;
     uint64_t offset = 0;
-    nph_status status = nph_images_load(&heap, image, (size_t)count, &offset);
+    nph_status status = nph_images_load(&heap, image, (size_t)count, 2, &offset);
     printf("%s: %s at byte %llu; then: %s\n", what, nph_text(status), (unsigned long long)offset, nph_text(nph_images_make(&heap, 1, 8)));
 }
 
@@ -42,7 +42,8 @@ int main(void) {
     printf("into a byte less: %d\n", (int)nph_images_save(&first, again, (size_t)written - 1, &offset));
     nph_images_close(&first);
 
-    printf("load: %s\n", nph_text(nph_images_load(&second, image, (size_t)written, &offset)));
+    printf("load with k = 65: %s\n", nph_text(nph_images_load(&second, image, (size_t)written, 65, &offset)));
+    printf("load: %s\n", nph_text(nph_images_load(&second, image, (size_t)written, 2, &offset)));
     printf("length: %s", nph_text(nph_images_length(&second, 60006, &length)));
     printf(", %u; read: %s", length, nph_text(nph_images_read(&second, 60006, 3, text, 12)));
     printf(", %s; the freed one: %s\n", text, nph_text(nph_images_length(&second, 60000, &length)));

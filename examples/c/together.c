@@ -59,6 +59,7 @@ static void all_slices(nph_sliced_heap *heap) {
 PLAY(nph, 112, BOUND_1, NO_MORE, NO_MORE, AND_NULL, , )
 PLAY(nph_nm, 112, BOUND_1, NO_MORE, NO_MORE, AND_NULL, , )
 PLAY(nph_tlsf, 112, BOUND_1, NO_MORE, NO_MORE, AND_NULL, , )
+PLAY(nph_half, 112, BOUND_1, NO_MORE, NO_MORE, AND_NULL, , )
 PLAY(nph_sliced, 112, NO_MORE, SLICES, NO_MORE, NO_MORE, , all_slices(heap))
 PLAY(nph_tasks, 112, NO_MORE, NO_MORE, OF_TASK, AND_NULL, must(nph_tasks_set_quota(heap, TASK, 8)), )
 PLAY(nph_large, 1200, NO_MORE, NO_MORE, NO_MORE, NO_MORE, , )
@@ -76,7 +77,7 @@ static void play_images(nph_images_heap *heap) {
     for (uint32_t id = 0; id < COUNT; id += 2) must(nph_images_free(heap, id));
     must(nph_images_save(heap, image, sizeof image, &image_bytes));
     nph_images_close(heap);
-    must(nph_images_load(heap, image, (size_t)image_bytes, &offset));
+    must(nph_images_load(heap, image, (size_t)image_bytes, 1, &offset));
     must(nph_images_read(heap, 1, 106, text, 6));
     printf("%-12s %d objects of %4d bytes, saved and loaded again, %s\n", "with images", COUNT, 112, text);
 }
@@ -85,6 +86,7 @@ int main(void) {
     nph_heap moving = NPH_HEAP;
     nph_nm_heap nonmoving = NPH_NM_HEAP;
     nph_tlsf_heap tlsf = NPH_TLSF_HEAP;
+    nph_half_heap half = NPH_HALF_HEAP;
     nph_sliced_heap sliced = NPH_SLICED_HEAP;
     nph_tasks_heap tasks = NPH_TASKS_HEAP;
     nph_large_heap large = NPH_LARGE_HEAP;
@@ -92,6 +94,7 @@ int main(void) {
     play_nph(&moving, "moving");
     play_nph_nm(&nonmoving, "non-moving");
     play_nph_tlsf(&tlsf, "TLSF");
+    play_nph_half(&half, "Half-Fit");
     play_nph_sliced(&sliced, "in slices");
     play_nph_tasks(&tasks, "of tasks");
     play_nph_large(&large, "long objects");
@@ -100,6 +103,7 @@ int main(void) {
     nph_close(&moving);
     nph_nm_close(&nonmoving);
     nph_tlsf_close(&tlsf);
+    nph_half_close(&half);
     nph_sliced_close(&sliced);
     nph_tasks_close(&tasks);
     nph_large_close(&large);

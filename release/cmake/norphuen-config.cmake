@@ -1,9 +1,8 @@
-# Link norphuen::norphuen, norphuen::norphuen_nonmoving, norphuen::norphuen_tlsf, norphuen::norphuen_sliced,
-# norphuen::norphuen_tasks, norphuen::norphuen_images or norphuen::norphuen_large, or several. The
-# memory functions are in norphuen::malloc and norphuen::arena, which compile a file of C in the program that links them.
-# norphuen::arena needs the definition NPH_ARENA_BYTES.
+# Link one or several of these libraries, each as norphuen::NAME. The memory functions are in norphuen::malloc and norphuen::arena,
+# which compile a file of C in the program that links them. norphuen::arena needs the definition NPH_ARENA_BYTES.
+set(norphuen_libraries @LIBRARIES@)
 get_filename_component(norphuen_prefix "${CMAKE_CURRENT_LIST_DIR}/../../.." ABSOLUTE)
-foreach(library norphuen norphuen_nonmoving norphuen_tlsf norphuen_sliced norphuen_tasks norphuen_images norphuen_large)
+foreach(library IN LISTS norphuen_libraries)
   if(NOT TARGET norphuen::${library})
     add_library(norphuen::${library} STATIC IMPORTED)
     set_target_properties(norphuen::${library} PROPERTIES

@@ -95,8 +95,8 @@ int main(void) {
     MUST(nph_images_save(&heap, image, 239, &bytes) == NPH_RANGE && nph_images_save(&heap, image, 300, &bytes) == NPH_OK && bytes == 240);
     MUST(nph_images_free(&heap, 3) == NPH_OK && nph_images_free(&heap, 3) == NPH_UNKNOWN);
     nph_images_close(&heap);
-    MUST(nph_images_load(&heap, image, 239, &offset) == NPH_IMAGE && offset == 40);
-    MUST(nph_images_load(&heap, image, 240, &offset) == NPH_OK && nph_images_read(&heap, 7, 194, back, 6) == NPH_OK);
+    MUST(nph_images_load(&heap, image, 239, 1, &offset) == NPH_IMAGE && offset == 40 && nph_images_load(&heap, image, 240, 65, &offset) == NPH_BOUND);
+    MUST(nph_images_load(&heap, image, 240, 2, &offset) == NPH_OK && nph_images_read(&heap, 7, 194, back, 6) == NPH_OK);
     MUST(strcmp(back, "hello") == 0 && nph_images_length(&heap, 3, &number) == NPH_OK && number == 8);
     nph_images_close(&heap);
     MUST(nph_images_image_bytes(&heap, &bytes) == NPH_CLOSED);
@@ -139,7 +139,7 @@ int main(void) {
     nph_heap heap = NPH_HEAP;
     nph_freed freed;
     nph_heap_totals totals;
-    uint32_t object, other, bytes;
+    uint32_t object, other, bytes, words;
     uint64_t steps;
     char back[6] = "";
     MUST(nph_version() == NPH_VERSION);
@@ -155,9 +155,10 @@ int main(void) {
     for (int i = 0; i < 194; i++) MUST(all[i] == 0);
     MUST(nph_length(&heap, object, &bytes) == NPH_OK && bytes == 200);
     MUST(nph_totals(&heap, &totals) == NPH_OK && totals.live == 2 && totals.asked == 208);
-    MUST(nph_free(&heap, object, &freed) == NPH_OK && freed.slot_words > 25 && freed.moved == NPH_NONE);
+    MUST(nph_slot_words(&heap, object, &words) == NPH_OK && words > 25);
+    MUST(nph_free(&heap, object, &freed) == NPH_OK && freed.slot_words == words && freed.moved == NPH_NONE);
     MUST(nph_last_steps(&heap, &steps) == NPH_OK && steps > 0 && steps <= nph_most_free(freed.slot_words));
-    MUST(nph_kind() <= NPH_TLSF && nph_most_malloc() < 64 && nph_most_resize(8, 4, 4) > 0 && nph_most_access(3, 2) > 2);
+    MUST(nph_kind() <= NPH_HALF && nph_most_malloc() < 64 && nph_most_resize(8, 4, 4) > 0 && nph_most_access(3, 2) > 2);
     MUST(nph_most_has_room() > 0 && nph_most_totals(9) < 99 && nph_most_length() > 1);
     MUST(nph_free(&heap, object, NULL) == NPH_UNKNOWN && nph_resize(&heap, object, 9, NULL) == NPH_UNKNOWN);
     nph_close(&heap);
