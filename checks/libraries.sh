@@ -5,8 +5,9 @@ mapfile -t libraries < <(sed -nE 's/^(norphuen\w*) staticlib:.* held_heap$/\1/p'
 mapfile -t own_libraries < <(sed -nE '/ held_heap$/!s/^(norphuen\w*) staticlib:.*/\1/p' crates.txt)
 # What puts a library under the short names, or chooses its part of release/tests/each.c; the moving one needs nothing.
 declare -A uses=()
-for name in "${libraries[@]:1}"; do uses[$name]=-DNPH_USE_$(tr a-z A-Z <<<"${name#norphuen_}"); done
-for name in "${own_libraries[@]}"; do uses[$name]=-DEACH_$(tr a-z A-Z <<<"${name#norphuen_}"); done
+for name in "${libraries[@]:1}"; do uses[$name]=-DNPH_USE_${name#norphuen_}; done
+for name in "${own_libraries[@]}"; do uses[$name]=-DEACH_${name#norphuen_}; done
+for name in "${!uses[@]}"; do uses[$name]=${uses[$name]^^}; done
 arm=(--target aarch64-unknown-linux-gnu)
 
 # build_library NAME TO FLAG..: tools/build.py proves crates/NAME and builds its library, which is copied to TO. It is built
