@@ -18,3 +18,4 @@ pub use Rattle.page_slots.proofs.Owner.{other_object, other_found, other_at, oth
 pub use Rattle.page_slots.proofs.Owner.{slots_apart, live_still}
 pub use Rattle.page_slots.proofs.Owner.{words_in, count_few, bytes_read}
 pub use Rattle.page_slots.proofs.Rewritten.{rewrites}
+pub use Rattle.page_slots.proofs.Leaving.{may_leave, other_moved}

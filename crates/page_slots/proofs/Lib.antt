@@ -13,5 +13,6 @@ pub mod Start
 pub mod NextSlots
 pub mod AfterCalls
 pub mod Owner
+pub mod Leaving
 pub mod Rewritten
 pub mod CallerLemmas

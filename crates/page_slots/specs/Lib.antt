@@ -2,6 +2,7 @@ pub mod Tables
 pub mod PageTables
 pub mod Take
 pub mod Release
+pub mod Leaving
 pub mod Occupying
 pub mod Owner
 pub mod Orders

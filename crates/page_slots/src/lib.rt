@@ -1,9 +1,10 @@
 //! The tables that every heap with pages uses: a map of the used slots of each page, lists of the
 //! pages of each class, and a pool of free pages. Slots are taken and freed by the rules of
-//! Compact-fit (2008). The code knows slots and pages, but no objects.
+//! Compact-fit (2008). Only `leave_slot` knows of objects, since it moves one into the slot.
 #![tactic(auto)]
 
 mod following;
+mod leave;
 mod page_tables;
 mod place;
 mod release;
@@ -13,4 +14,5 @@ pub use following::{
     a_freed_slot_follows_the_order, steps_follow_the_order, the_filler_is_next_to_move,
     the_next_slot_is_taken, the_order_is_of_the_arrangement,
 };
-pub use page_tables::PageTables;
+pub use leave::LeftSlot;
+pub use page_tables::{CLASSES, PageTables};

@@ -7,6 +7,9 @@ use size_classes::Classes;
 use slot_bitmap::SlotMaps;
 use std::alloc::Global;
 
+/// The length of an array with an entry for each size class. No heap has more classes.
+pub const CLASSES: usize = 128;
+
 /// What all owners of a region's pages share: the size classes, the maps of the slots of all pages,
 /// and the pool of free pages. An owner is a heap, or a task of the heap of tasks; it lists the
 /// pages that it uses, by class, in a `ClassLists`.

@@ -26,7 +26,8 @@ use Rattle.step_ledger.specs.Counting.{RoseBy}
 use Rattle.virtual_words.specs.Words.{run_steps, slot_steps, wipe_steps}
 use Rattle.virtual_words.proofs.CallerLemmas.{whole_run}
 use Rattle.cf_model.specs.ExactCosts.{free_cost, leaving_cost, malloc_cost}
-use Rattle.paged_heap.specs.Free.{Leaves, leaving_steps}
+use Rattle.page_slots.specs.Leaving.{Leaves, Parts, leaving_steps}
+use Rattle.paged_heap.proofs.LeftSlot.{parts_of, slot as left_slot}
 use Rattle.paged_heap.specs.Heap.{Heap}
 use Rattle.paged_heap.specs.Layout.{IsValid, held_in, order_in, paging_at, state_of, tables_in, owner_in}
 use Rattle.paged_heap.proofs.FreedObject.{taken_out}
@@ -73,7 +74,7 @@ module _ {h : Heap} (k : IsValid h) {q a size c : ℕ} (o : IsObjectAt (owner_in
       → steps_to_drop (tables_in g) (page_at h.classes a) ≡ steps_to_drop (tables_in h) (page_at h.classes a)
       → steps_to_fill (tables_in g) c ≡ steps_to_fill (tables_in h) c → (r : Option Handle)
       → (IsSome r → (page : ℕ) × (slice_get (pages_in h.lists c NotFull) 0 ≡ Some page))
-      → leaving_steps g a c r ≡ leaving_cost (state_of h) (order_in h) (it (owns k) o) r
+      → leaving_steps g.kind (parts_of g) (left_slot c a) r ≡ leaving_cost (state_of h) (order_in h) (it (owns k) o) r
   leaving_is g kind classes drop fill None front =
       let w = whole_slot h k q (it (owns k) o) (it_found (owns k) o) in
       let slot = slot_for (paging_at h) (length (it (owns k) o).bytes) in
@@ -91,14 +92,14 @@ module _ {h : Heap} (k : IsValid h) {q a size c : ℕ} (o : IsObjectAt (owner_in
       ∙ ap (λ (t : ClassTable). steps_to_fill (tables_in g) c + word_steps h.kind + (slot_steps h.kind (get_or t.sizes c 0) + 1)) classes ∙ (omega arith)
 
   -- the steps of releasing the number and leaving the slot
-  pub leaves_sum : {g : Heap} → g ≡ taken_out h q size c → (n : Heap) (r : Option Handle) → Leaves g a c r n → (s t u : ℕ) → RoseBy s t 2
-      → RoseBy t u (leaving_steps g a c r) → RoseBy s u (2 + leaving_cost (state_of h) (order_in h) (it (owns k) o) r)
+  pub leaves_sum : {g : Heap} → g ≡ taken_out h q size c → (n : Parts) (r : Option Handle) → Leaves (parts_of g) (left_slot c a) r n → (s t u : ℕ) → RoseBy s t 2
+      → RoseBy t u (leaving_steps g.kind (parts_of g) (left_slot c a) r) → RoseBy s u (2 + leaving_cost (state_of h) (order_in h) (it (owns k) o) r)
   leaves_sum {g} counted n r left s t u r1 r2 =
-      let is = subst (λ (x : Heap). leaving_steps x a c r ≡ leaving_cost (state_of h) (order_in h) (it (owns k) o) r) (sym counted)
+      let is = subst (λ (x : Heap). leaving_steps x.kind (parts_of x) (left_slot c a) r ≡ leaving_cost (state_of h) (order_in h) (it (owns k) o) r) (sym counted)
       (leaving_is (taken_out h q size c) refl refl refl refl r (front r left)) in
       rose_by s u _ _ (ap (λ n. 2 + n) is) (rose_both s t u _ _ r1 r2)
     where
-      front : (r : Option Handle) → Leaves g a c r n → IsSome r → (page : ℕ) × (slice_get (pages_in h.lists c NotFull) 0 ≡ Some page)
+      front : (r : Option Handle) → Leaves (parts_of g) (left_slot c a) r n → IsSome r → (page : ℕ) × (slice_get (pages_in h.lists c NotFull) 0 ≡ Some page)
       front None left none = absurd (false≢true none)
       front (Some y) left some = (left.filled.page, subst (λ (x : Heap). slice_get (pages_in x.lists c NotFull) 0 ≡ Some left.filled.page) counted left.filled.front)
 

@@ -15,21 +15,21 @@ use Rattle.page_slots.proofs.CallerLemmas.{vacated_occupied, vacated_order, vaca
 use Rattle.page_slots.specs.Orders.{order_of}
 use Rattle.paged_heap.specs.Heap.{Heap}
 use Rattle.paged_heap.specs.Layout.{IsFramed, IsValid, held_in, order_in, paging_at, tables_in, owner_in}
-use Rattle.paged_heap.specs.Free.{LeavesAlone}
 use Rattle.paged_heap.proofs.LayoutFacts.{paging_ok, table_is, owns}
 use Rattle.paged_heap.proofs.Preserved.{Becomes, rest_from}
 use Rattle.paged_heap.proofs.FreedObject.{follows_from, goes, rest_held, taken_out}
+use Rattle.paged_heap.proofs.LeftSlot.{Left, alone_rest}
 use Rattle.page_slots.specs.Owner.{IsObjectAt, MustMoveInto}
 
 module _ {h : Heap} (k : IsValid h) {q a size c : ℕ} (o : IsObjectAt (owner_in h) q a size c) (still : MustMoveInto (owner_in h) a c → ⊥) {g n : Heap}
-    (counted : g ≡ taken_out h q size c) (left : LeavesAlone g a c n) (tables : AreTables g.classes (tables_in n)) (framed : IsFramed h.kind n)
+    (counted : g ≡ taken_out h q size c) (left : Left g c a None n) (tables : AreTables g.classes (tables_in n)) (framed : IsFramed h.kind n)
     (handles : AreBelowLimit n.proxies) where
   -- all parts of the heap but the tables and the words, in terms of the heap before
   whole : n ≡ record (taken_out h q size c) { maps = n.maps; lists = n.lists; pool = n.pool; words = n.words }
-  whole = left.rest ∙ ap (λ (x : Heap). record x { maps = n.maps; lists = n.lists; pool = n.pool; words = n.words }) counted
+  whole = alone_rest left ∙ ap (λ (x : Heap). record x { maps = n.maps; lists = n.lists; pool = n.pool; words = n.words }) counted
 
   vacates : Vacates (tables_in h) c (page_at h.classes a) (slot_at h.classes c a) (tables_in n)
-  vacates = subst (λ (x : Heap). Vacates (tables_in x) c (page_at x.classes a) (slot_at x.classes c a) (tables_in n)) counted left.freed
+  vacates = subst (λ (x : Heap). Vacates (tables_in x) c (page_at x.classes a) (slot_at x.classes c a) (tables_in n)) counted left.done.freed
 
   kept_tables : AreTables (class_table (paging_at h)) (tables_in n)
   kept_tables = subst (λ t. AreTables t (tables_in n)) (sym (table_is h k)) (subst (λ (x : Heap). AreTables x.classes (tables_in n)) counted tables)
@@ -40,7 +40,7 @@ module _ {h : Heap} (k : IsValid h) {q a size c : ℕ} (o : IsObjectAt (owner_in
   clears : Clears h.words n.words (record { from = a; count = slot_for (paging_at h) (length (bytes_at h.words a)) })
   clears =
       subst (λ s. Clears h.words n.words (record { from = a; count = s })) (it_slot (owns k) o)
-      (subst (λ (x : Heap). Clears x.words n.words (record { from = a; count = get_or x.classes.sizes c 0 })) counted left.words)
+      (subst (λ (x : Heap). Clears x.words n.words (record { from = a; count = get_or x.classes.sizes c 0 })) counted left.done.words)
 
   pub frames_same : n.frames ≡ h.frames
   frames_same = ap (λ (x : Heap). x.frames) whole
@@ -72,7 +72,7 @@ module _ {h : Heap} (k : IsValid h) {q a size c : ℕ} (o : IsObjectAt (owner_in
       (ap (λ (x : Heap). x.classes) whole)
       (ap (λ (x : Heap). x.bounds) whole))
       (ap (λ (x : Proxies). x.places) proxies_are ∙ ap (λ m. remove m q) (places_are (owner_in h)) ∙ sym (still_places (held_in h) q a))
-      (left.long ∙ ap (λ (x : Heap). length x.words) counted)
+      (left.done.long ∙ ap (λ (x : Heap). length x.words) counted)
       (image_after_free (paging_at h) (paging_ok h k) (held_in h) k.sound h.words k.image q (it (owns k) o) (it_found (owns k) o) n.words clears)
       framed
       (vacated_serve (paging_ok h k) k.serve.part k.occupied kept_tables k.sound q (it_found (owns k) o) vacates

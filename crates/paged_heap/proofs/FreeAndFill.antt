@@ -22,12 +22,14 @@ use Rattle.page_slots.specs.Orders.{order_of}
 use Rattle.virtual_words.specs.Words.{IsWhole}
 use Rattle.paged_heap.specs.Heap.{Heap}
 use Rattle.paged_heap.specs.Layout.{IsFramed, IsValid, held_in, order_in, paging_at, state_of, tables_in, owner_in}
-use Rattle.paged_heap.specs.Free.{LeavesFilled, MovesSlot}
+use Rattle.page_slots.specs.Leaving.{MovesSlot}
+use Rattle.cf_base.specs.declared.answers.Handle.{Handle}
 use Rattle.paged_heap.proofs.ByKind.{frames_change}
 use Rattle.paged_heap.proofs.WholeBlocks.{whole_slot}
 use Rattle.paged_heap.proofs.LayoutFacts.{number_small, paging_ok, owns, table_is}
 use Rattle.paged_heap.proofs.Preserved.{Becomes, rest_from}
 use Rattle.paged_heap.proofs.FreedObject.{follows_from, goes, rest_held, taken_out}
+use Rattle.paged_heap.proofs.LeftSlot.{Left, filled_rest, number_in, parts_of}
 use Rattle.page_slots.specs.Owner.{IsObjectAt, MustMoveInto}
 
 module _ {h : Heap} (k : IsValid h) {q a size c b : ℕ} {new : Tables} (f : Fills (owner_in h) q a size c b new) where
@@ -79,7 +81,7 @@ module _ {h : Heap} (k : IsValid h) {q a size c b : ℕ} {new : Tables} (f : Fil
         words = n.words;
         frames = n.frames;
       })
-      (moved : MovesSlot h n b a words) (framed : IsFramed h.kind n) (on : tables_in n ≡ new) (handles : AreBelowLimit n.proxies) where
+      (moved : MovesSlot (parts_of h) (parts_of n) b a words) (framed : IsFramed h.kind n) (on : tables_in n ≡ new) (handles : AreBelowLimit n.proxies) where
     pub refilled : Becomes h n (rest_held k o n (Some r) (mover f))
     refilled = goes k o n (Some r) (mover f)
         (record { live = ap (λ (x : Heap). x.live) whole; asked = ap (λ (x : Heap). x.asked) whole; taken = ap (λ (x : Heap). x.taken) whole })
@@ -129,19 +131,19 @@ module _ {h : Heap} (k : IsValid h) {q a size c b : ℕ} {new : Tables} (f : Fil
         ∙ sym (frames_change h.kind h k.framed (rest_held k o n (Some r) (mover f)) r y (record { place = a; bytes = y.bytes }) (other_found f) e)
 
 -- The heap n after `leave_slot`, which begins at the heap g: there the number is released, and the object is taken out of the counts. Object i moves.
-module _ {h : Heap} (k : IsValid h) {q a size c : ℕ} (o : IsObjectAt (owner_in h) q a size c) (due : MustMoveInto (owner_in h) a c) {g n : Heap} {i : ℕ}
-    (counted : g ≡ taken_out h q size c) (left : LeavesFilled g a c i n) (tables : AreTables g.classes (tables_in n)) where
-  abbrev pub filling : Fills (owner_in h) q a size c left.from (tables_in n)
+module _ {h : Heap} (k : IsValid h) {q a size c : ℕ} (o : IsObjectAt (owner_in h) q a size c) (due : MustMoveInto (owner_in h) a c) {g n : Heap} {i : Handle}
+    (counted : g ≡ taken_out h q size c) (left : Left g c a (Some i) n) (tables : AreTables g.classes (tables_in n)) where
+  abbrev pub filling : Fills (owner_in h) q a size c left.done.from (tables_in n)
   filling = record {
     valid = owns k;
     object = o;
     moves = due;
-    filled = subst (λ (x : Heap). FillsFrom x.classes (tables_in x) c left.from (tables_in n)) counted left.filled;
+    filled = subst (λ (x : Heap). FillsFrom x.classes (tables_in x) c left.done.from (tables_in n)) counted left.done.filled;
     tables = subst (λ (x : Heap). AreTables x.classes (tables_in n)) counted tables;
   }
 
-  pub is : i ≡ other filling
-  is = left.number ∙ ap (λ (x : Heap). get_or x.words left.from 0 % 2 ^ 32) counted ∙ number_shown k filling
+  pub is : i.0 ≡ other filling
+  is = number_in left ∙ ap (λ (x : Heap). get_or x.words left.done.from 0 % 2 ^ 32) counted ∙ number_shown k filling
 
   pub whole : n ≡ record (taken_out h q size c) {
     maps = n.maps;
@@ -160,13 +162,13 @@ module _ {h : Heap} (k : IsValid h) {q a size c : ℕ} (o : IsObjectAt (owner_in
         words = n.words;
         frames = n.frames;
       } in
-      left.rest ∙ ap (λ x. after x i) counted ∙ ap (after (taken_out h q size c)) is
+      filled_rest left ∙ ap (λ x. after x i.0) counted ∙ ap (after (taken_out h q size c)) is
 
-  pub moved_is : MovesSlot h n left.from a (get_or h.classes.sizes c 0)
+  pub moved_is : MovesSlot (parts_of h) (parts_of n) left.done.from a (get_or h.classes.sizes c 0)
   moved_is =
-      let m = subst (λ (x : Heap). MovesSlot x n left.from a (get_or x.classes.sizes c 0)) counted left.moves in
+      let m = subst (λ (x : Heap). MovesSlot (parts_of x) (parts_of n) left.done.from a (get_or x.classes.sizes c 0)) counted left.done.moves in
       record { long = m.long; words = m.words; frames = m.frames }
 
   -- the released number is the next one
   pub free_is : n.proxies.free ≡ q ∷ h.proxies.free
-  free_is = left.free ∙ ap (λ (x : Heap). x.proxies.free) counted
+  free_is = left.done.free ∙ ap (λ (x : Heap). x.proxies.free) counted

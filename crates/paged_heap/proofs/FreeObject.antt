@@ -1,5 +1,5 @@
 -- For `free_object`: its object's slot can be left (`MayLeave`); and the heap after it, with a move or without one.
-use Rattle.std.proofs.Common.{◌≡◌, ℕ, get_or, Bool, Option, Some, None, refl, sym, ◌∙◌, ap, subst}
+use Rattle.std.proofs.Common.{◌≡◌, ℕ, get_or, Bool, Option, Some, None, arith, refl, sym, ◌∙◌, ap, subst}
 use Rattle.std.specs.Prelude.{◌↔◌, IsTrue, is_some}
 use Rattle.std.proofs.lemmas.Bool.{false≢true}
 use Rattle.std.specs.FinMap.{get, remove}
@@ -12,7 +12,7 @@ use Rattle.page_slots.specs.Tables.{AreTables}
 use Rattle.proxy_table.specs.Proxies.{AreBelowLimit}
 use Rattle.virtual_words.specs.Words.{IsWhole}
 use Rattle.paged_heap.specs.Choices.{FreeChooses}
-use Rattle.paged_heap.specs.Free.{Leaves, MayLeave}
+use Rattle.page_slots.specs.Leaving.{MayLeave}
 use Rattle.paged_heap.specs.Heap.{Heap}
 use Rattle.paged_heap.specs.Layout.{IsFramed, IsValid, held_in, order_in, paging_at, state_of, tables_in, owner_in}
 use Rattle.paged_heap.proofs.ByKind.{frames_stay}
@@ -20,10 +20,10 @@ use Rattle.paged_heap.proofs.FreeAlone.{alone, alone_follows, frames_same}
 use Rattle.paged_heap.proofs.FreeAndFill.{fill_follows, filling, frames_are, free_is, is, moved_is, number_shown, refilled}
 use Rattle.paged_heap.proofs.FreeAndFill.{whole, whole_source}
 use Rattle.paged_heap.proofs.FreedObject.{goes_freed, goes_kept, rest_held, taken_out}
-use Rattle.paged_heap.proofs.LayoutFacts.{paged_kind, tables_ok, owns}
+use Rattle.paged_heap.proofs.LayoutFacts.{paged_kind, owns}
+use Rattle.paged_heap.proofs.LeftSlot.{Left, parts_of, slot}
 use Rattle.paged_heap.proofs.WholeBlocks.{whole_slot}
-use Rattle.page_slots.proofs.CallerLemmas.{it, it_found, it_slot, it_inside, class_listed, it_used, moving, some_not_full, Fills, mover, source_in}
-use Rattle.page_slots.proofs.CallerLemmas.{header_in, other, slots_apart, live_still}
+use Rattle.page_slots.proofs.CallerLemmas.{it, it_found, it_slot, may_leave as can_leave, moving, mover, other}
 use Rattle.page_slots.specs.Owner.{IsObjectAt, MustMoveInto}
 
 -- a free of object q in the heap h
@@ -35,29 +35,14 @@ pub record FreesBy (h : Heap) (q : ℕ) (freed : Freed) (n : Heap) : Type 0 wher
 module _ {h : Heap} (k : IsValid h) {q a size c : ℕ} (o : IsObjectAt (owner_in h) q a size c) (moves : Bool)
     (due : IsTrue moves ↔ MustMoveInto (owner_in h) a c) {g : Heap}
     (counted : g ≡ taken_out h q size c) where
-  pub may_leave : AreBelowLimit g.proxies → MayLeave g a c moves
-  may_leave handles = subst (λ (x : Heap). MayLeave x a c moves) (sym counted) (record {
-    tables = tables_ok h k;
-    used = it_used (owns k) o;
-    class = class_listed (owns k) o;
-    inside = it_inside (owns k) o;
-    handles = subst (λ (x : Heap). AreBelowLimit x.proxies) counted handles;
-    whole = (whole_slot h k q (it (owns k) o) (it_found (owns k) o)).0;
-    whole_words = subst (IsWhole h.kind) (sym (it_slot (owns k) o)) (whole_slot h k q (it (owns k) o) (it_found (owns k) o)).1;
-    some = λ t. some_not_full (owns k) o (due.0 t);
-    mover = λ t from new filled tables. (
-        let f : Fills (owner_in h) q a size c from new = record { valid = owns k; object = o; moves = due.0 t; filled = filled; tables = tables } in
-        record {
-          header = header_in f;
-          source = source_in f;
-          apart = slots_apart f;
-          whole = whole_source k f;
-          live = ap (λ j. is_some (get (remove h.proxies.places q) j)) (number_shown k f) ∙ ap is_some (live_still f);
-        });
-  })
+  pub may_leave : AreBelowLimit g.proxies → MayLeave h.kind (parts_of g) (slot c a) moves
+  may_leave handles = subst (λ (x : Heap). MayLeave h.kind (parts_of x) (slot c a) moves) (sym counted)
+      (can_leave (owns k) o 0 (λ b new f. (let e = number_shown k f in omega arith)) h.kind moves due refl
+      (subst (λ (x : Heap). AreBelowLimit x.proxies) counted handles) (whole_slot h k q (it (owns k) o) (it_found (owns k) o)).0
+      (subst (IsWhole h.kind) (sym (it_slot (owns k) o)) (whole_slot h k q (it (owns k) o) (it_found (owns k) o)).1) (λ b new f. whole_source k f))
 
   pub freed_by : {n : Heap} → AreTables g.classes (tables_in n) → IsFramed h.kind n → AreBelowLimit n.proxies → (moved : Option Handle)
-      → is_some moved ≡ moves → Leaves g a c moved n → (freed : Freed) → freed.slot_words ≡ get_or h.classes.sizes c 0 → freed.moved ≡ moved → FreesBy h q freed n
+      → is_some moved ≡ moves → Left g c a moved n → (freed : Freed) → freed.slot_words ≡ get_or h.classes.sizes c 0 → freed.moved ≡ moved → FreesBy h q freed n
   freed_by {n} tables framed handles None none left freed words is_moved =
       let still : MustMoveInto (owner_in h) a c → ⊥ = λ m. absurd (false≢true (none ∙ due.1 m)) in
       let b = alone k o still counted left tables framed handles in

@@ -1,5 +1,5 @@
--- For `change_class`: once the object has entered its new class, its old slot can be left (`MayLeave`); and the heap after that, with a move or without one.
-use Rattle.std.proofs.Common.{◌≡◌, ℕ, ◌+◌, ◌≤◌, Bool, length, get_or, Option, Some, None, arith, refl, sym, ◌∙◌, ap, subst}
+-- For `resize_to_class`: once the object has entered its new class, its old slot can be left (`MayLeave`); and the heap after that, with a move or without one.
+use Rattle.std.proofs.Common.{◌≡◌, ℕ, ◌+◌, ◌-◌, ◌%◌, ◌^◌, ◌≤◌, Bool, length, get_or, Option, Some, None, arith, refl, sym, ◌∙◌, ap, subst}
 use Rattle.std.specs.Prelude.{◌↔◌, ◌⊎◌, IsSome, IsTrue, is_some}
 use Rattle.std.proofs.lemmas.Bool.{false≢true}
 use Rattle.std.specs.FinMap.{get}
@@ -11,7 +11,8 @@ use Rattle.page_slots.specs.Tables.{AreTables}
 use Rattle.size_classes.specs.Table.{ClassTable}
 use Rattle.virtual_words.specs.Words.{IsWhole}
 use Rattle.paged_heap.specs.Choices.{ResizeChooses}
-use Rattle.paged_heap.specs.Free.{Leaves, MayLeave}
+use Rattle.page_slots.specs.Leaving.{MayLeave}
+use Rattle.paged_heap.proofs.LeftSlot.{Left, parts_of, slot}
 use Rattle.paged_heap.specs.Heap.{Heap}
 use Rattle.paged_heap.specs.Layout.{IsFramed, IsValid, state_of, tables_in, owner_in}
 use Rattle.paged_heap.specs.ResizeClass.{EntersAt, IsChange, old_words}
@@ -36,31 +37,33 @@ module _ {h : Heap} (k : IsValid h) {x : Change} (is : IsChange h x) {b : ℕ} {
   size_is : get_or n.classes.sizes x.class 0 ≡ old_words h x
   size_is = ap (λ (t : ClassTable). get_or t.sizes x.class 0) en.classes
 
-  pub may_leave : MayLeave n x.place x.class moves
+  pub may_leave : MayLeave h.kind (parts_of n) (slot x.class x.place) moves
   may_leave = record {
     tables = subst (λ (t : ClassTable). AreTables t (tables_in n)) (sym en.classes) en.tables;
     used = old_used k is en;
     class = (let l = class_listed (owns k) is.object in let e = ap (λ (t : ClassTable). length t.sizes) en.classes in omega arith);
     inside = (let i = it_inside (owns k) is.object in let l = entered_long k is en in let e = size_is in omega arith);
     handles = en.handles;
-    whole = subst (λ kind. IsWhole kind x.place) (sym en.kind) (whole_slot h k x.handle.0 (object k is en) (found k is en)).0;
-    whole_words = subst (λ kind. IsWhole kind (get_or n.classes.sizes x.class 0)) (sym en.kind)
-        (subst (IsWhole h.kind) (sym (size_is ∙ it_slot (owns k) is.object)) (whole_slot h k x.handle.0 (object k is en) (found k is en)).1);
+    whole = (whole_slot h k x.handle.0 (object k is en) (found k is en)).0;
+    whole_words = subst (IsWhole h.kind) (sym (size_is ∙ it_slot (owns k) is.object)) (whole_slot h k x.handle.0 (object k is en) (found k is en)).1;
     some = λ t. filled.some_fills k is en (due.0 t);
     mover = λ t from new fills tables. (
         let f : filled.Refills h x b n from new =
         record { valid = k; change = is; enters = en; moves = due.0 t; filled = fills; tables = tables } in
+        let shown = filled.number_shown f in
+        let number : filled.r f ≡ get_or n.words from 0 % 2 ^ 32 - 0 = omega arith in
         record {
           header = filled.place_in f;
           source = (let s = filled.source_in f in let e = size_is in omega arith);
           apart = subst (λ w. (from + w ≤ x.place) ⊎ (x.place + w ≤ from)) (sym size_is) (filled.slots_apart f);
-          whole = subst (λ kind. IsWhole kind from) (sym en.kind) (filled.whole_source f);
-          live = subst (λ j. IsSome (get n.proxies.places j)) (sym (filled.number_shown f)) (filled.live_still f);
+          whole = filled.whole_source f;
+          first = omega arith;
+          live = subst (λ j. IsSome (get n.proxies.places j)) number (filled.live_still f);
         });
   }
 
   pub changed_by : {m : Heap} → AreTables n.classes (tables_in m) → IsFramed h.kind m → AreBelowLimit m.proxies → (moved : Option Handle)
-      → is_some moved ≡ moves → Leaves n x.place x.class moved m → (done : Resized) → done.old_slot_words ≡ get_or h.classes.sizes x.class 0
+      → is_some moved ≡ moves → Left n x.class x.place moved m → (done : Resized) → done.old_slot_words ≡ get_or h.classes.sizes x.class 0
       → done.slot_words ≡ get_or h.classes.sizes x.to 0 → done.moved ≡ moved → ChangesBy h (record { number = x.handle.0; length = x.bytes }) done m
   changed_by {m} tables framed handles None none left done was words is_moved =
       let still : MustMoveInto (owner_in h) x.place x.class → ⊥ = λ m. absurd (false≢true (none ∙ due.1 m)) in
@@ -77,10 +80,10 @@ module _ {h : Heap} (k : IsValid h) {x : Change} (is : IsChange h x) {b : ℕ} {
       let f = filled.refills k is en d left tables in
       let w = filled.whole_is k is en d left tables in let s = filled.shift_is k is en d left tables in
       let e : number_of done.moved ≡ Some (filled.r f) = ap number_of is_moved ∙ ap Some (filled.number_is k is en d left tables) in
-      let ke = filled.keeps f w left.free s framed refl handles in let be = filled.changed_filled f w left.free s framed refl handles in
+      let ke = filled.keeps f w left.done.free s framed refl handles in let be = filled.changed_filled f w left.done.free s framed refl handles in
       record {
-        step = change_resized k is en (Some (filled.r f)) (filled.mover f) m ke be (filled.frames_are f w left.free s framed refl handles) done was words e;
+        step = change_resized k is en (Some (filled.r f)) (filled.mover f) m ke be (filled.frames_are f w left.done.free s framed refl handles) done was words e;
         kept = change_kept k is en (Some (filled.r f)) (filled.mover f) m ke be;
-        choice = change_chosen k is en (Some (filled.r f)) (filled.mover f) m ke be (filled.fill_follows f w left.free s framed refl handles)
-            (filled.free_same f w left.free s framed refl handles) _ e;
+        choice = change_chosen k is en (Some (filled.r f)) (filled.mover f) m ke be (filled.fill_follows f w left.done.free s framed refl handles)
+            (filled.free_same f w left.done.free s framed refl handles) _ e;
       }

@@ -1,4 +1,4 @@
--- For `change_class`, a resize to another class that moves no other object: the object's old slot becomes free as the order requires, and the heap keeps
+-- For `resize_to_class`, a resize to another class that moves no other object: the object's old slot becomes free as the order requires, and the heap keeps
 -- its invariant.
 use Rattle.std.proofs.Common.{◌≡◌, ℕ, length, get_or, None, sym, ◌∙◌, ap, subst}
 use Rattle.std.specs.FinMap.{insert, remove}
@@ -22,7 +22,7 @@ use Rattle.page_slots.proofs.CallerLemmas.{renumbered_occupied, vacated_occupied
 use Rattle.paged_heap.specs.Heap.{Heap}
 use Rattle.paged_heap.specs.declared.resize_class.Change.{Change}
 use Rattle.paged_heap.specs.ResizeClass.{EntersAt, IsChange, old_words}
-use Rattle.paged_heap.specs.Free.{LeavesAlone}
+use Rattle.paged_heap.proofs.LeftSlot.{Left, alone_rest}
 use Rattle.paged_heap.specs.Layout.{IsFramed, IsValid, held_in, paging_at, state_of, tables_in, owner_in}
 use Rattle.cf_model.specs.Steps.{frames_left}
 use Rattle.paged_heap.proofs.ByKind.{frames_stay}
@@ -36,33 +36,33 @@ use Rattle.page_slots.specs.Owner.{MustMoveInto}
 
 module _ {h : Heap} (k : IsValid h) {x : Change} (is : IsChange h x) {b : ℕ} {n : Heap} (en : EntersAt h x b n)
     (stays : MustMoveInto (owner_in h) x.place x.class → ⊥)
-    {m : Heap} (left : LeavesAlone n x.place x.class m) (tables : AreTables n.classes (tables_in m)) (framed : IsFramed h.kind m) where
+    {m : Heap} (left : Left n x.class x.place None m) (tables : AreTables n.classes (tables_in m)) (framed : IsFramed h.kind m) where
   long : length m.words ≡ length h.words
-  long = left.long ∙ entered_long k is en
+  long = left.done.long ∙ entered_long k is en
 
   gone : Clears n.words m.words (record { from = x.place; count = old_words h x })
-  gone = subst (λ (t : ClassTable). Clears n.words m.words (record { from = x.place; count = get_or t.sizes x.class 0 })) en.classes left.words
+  gone = subst (λ (t : ClassTable). Clears n.words m.words (record { from = x.place; count = get_or t.sizes x.class 0 })) en.classes left.done.words
 
   pub never : MustMove (paging_at h) (both k is en) (object k is en) → ⊥
   never must = stays (moving (owns k) is.object (must_before k is en must))
 
   pub keeps : Keeps k is en None never m
   keeps = record {
-    kind = ap (λ (o : Heap). o.kind) left.rest;
-    settings = ap (λ (o : Heap). o.settings) left.rest;
-    classes = ap (λ (o : Heap). o.classes) left.rest;
-    bounds = ap (λ (o : Heap). o.bounds) left.rest;
-    live = ap (λ (o : Heap). o.live) left.rest;
-    asked = ap (λ (o : Heap). o.asked) left.rest;
-    taken = ap (λ (o : Heap). o.taken) left.rest;
-    limit = ap (λ (o : Heap). o.proxies.limit) left.rest;
+    kind = ap (λ (o : Heap). o.kind) (alone_rest left);
+    settings = ap (λ (o : Heap). o.settings) (alone_rest left);
+    classes = ap (λ (o : Heap). o.classes) (alone_rest left);
+    bounds = ap (λ (o : Heap). o.bounds) (alone_rest left);
+    live = ap (λ (o : Heap). o.live) (alone_rest left);
+    asked = ap (λ (o : Heap). o.asked) (alone_rest left);
+    taken = ap (λ (o : Heap). o.taken) (alone_rest left);
+    limit = ap (λ (o : Heap). o.proxies.limit) (alone_rest left);
   }
 
   kept_tables : AreTables (class_table (paging_at h)) (tables_in m)
   kept_tables = subst (λ t. AreTables t (tables_in m)) (en.classes ∙ sym (table_is h k)) tables
 
   vacates : Vacates (tables_in n) x.class (page_at h.classes x.place) (slot_at h.classes x.class x.place) (tables_in m)
-  vacates = subst (λ (t : ClassTable). Vacates (tables_in n) x.class (page_at t x.place) (slot_at t x.class x.place) (tables_in m)) en.classes left.freed
+  vacates = subst (λ (t : ClassTable). Vacates (tables_in n) x.class (page_at t x.place) (slot_at t x.class x.place) (tables_in m)) en.classes left.done.freed
 
   less : Occupies (paging_at h) (remove (both k is en) x.handle.0) (tables_in m)
   less = vacated_occupied (paging_ok h k) (both_serve k is en).part (both_occupied k is en) kept_tables (both_sound k is en) x.handle.0
@@ -105,18 +105,18 @@ module _ {h : Heap} (k : IsValid h) {x : Change} (is : IsChange h x) {b : ℕ} {
       (sym (as_many (paging_at h) (table_is h k))) freed_order
 
   pub free_same : m.proxies.free ≡ h.proxies.free
-  free_same = ap (λ (o : Heap). o.proxies.free) left.rest ∙ en.free
+  free_same = ap (λ (o : Heap). o.proxies.free) (alone_rest left) ∙ en.free
 
   pub frames_are : m.frames ≡ frames_left h.kind (state_of h) (record { held = after k is en None never; moved = None })
-  frames_are = ap (λ (o : Heap). o.frames) left.rest ∙ en.frames ∙ sym (frames_stay h.kind (paged_kind h k) (state_of h) (after k is en None never))
+  frames_are = ap (λ (o : Heap). o.frames) (alone_rest left) ∙ en.frames ∙ sym (frames_stay h.kind (paged_kind h k) (state_of h) (after k is en None never))
 
   pub changed_alone : Becomes h m (after k is en None never)
   changed_alone = changes k is en None never m keeps
       framed
-      (ap (λ (o : Heap). o.proxies.places) left.rest ∙ ap (λ (o : Proxies). o.places) en.proxies ∙ sym after_places)
+      (ap (λ (o : Heap). o.proxies.places) (alone_rest left) ∙ ap (λ (o : Proxies). o.places) en.proxies ∙ sym after_places)
       long
       image
       (vacated_serve (paging_ok h k) (both_serve k is en).part (both_occupied k is en) kept_tables (both_sound k is en) x.handle.0 (found_still k is en) vacates
       (it_class (owns k) is.object) (page_same (owns k) is.object) (slot_same (owns k) is.object) (both_serve k is en).whole)
       occupied
-      (subst AreBelowLimit (sym (ap (λ (o : Heap). o.proxies) left.rest)) en.handles)
+      (subst AreBelowLimit (sym (ap (λ (o : Heap). o.proxies) (alone_rest left))) en.handles)

@@ -1,4 +1,4 @@
--- For `change_class`, a resize to another class that moves another object (the filler) to the old slot: the filler is the next one of the order, and
+-- For `resize_to_class`, a resize to another class that moves another object (the filler) to the old slot: the filler is the next one of the order, and
 -- the heap keeps its invariant.
 use Rattle.std.proofs.Common.{◌≡◌, ◌≢◌, ℕ, ◌+◌, ◌/◌, ◌%◌, ◌^◌, ◌<◌, ◌≤◌, List, length, get_or, Some, None, arith, sym, ◌∙◌, ap, subst, inl, inr}
 use Rattle.std.specs.Prelude.{◌⊎◌, IsSome, is_some}
@@ -33,7 +33,9 @@ use Rattle.class_lists.specs.declared.Which.TheVariants.{NotFull}
 use Rattle.paged_heap.specs.Heap.{Heap}
 use Rattle.paged_heap.specs.declared.resize_class.Change.{Change}
 use Rattle.paged_heap.specs.ResizeClass.{EntersAt, IsChange, old_words}
-use Rattle.paged_heap.specs.Free.{LeavesFilled, MovesSlot}
+use Rattle.page_slots.specs.Leaving.{MovesSlot}
+use Rattle.cf_base.specs.declared.answers.Handle.{Handle}
+use Rattle.paged_heap.proofs.LeftSlot.{Left, filled_rest, number_in, parts_of}
 use Rattle.paged_heap.specs.Layout.{IsFramed, IsValid, held_in, paging_at, state_of, tables_in, owner_in}
 use Rattle.paged_heap.proofs.ByKind.{frames_change}
 use Rattle.paged_heap.proofs.WholeBlocks.{whole_slot}
@@ -267,7 +269,7 @@ module _ {h : Heap} {x : Change} {b : ℕ} {n : Heap} {f : ℕ} {t : Tables} (fs
   -- the heap m after the move, by its fields: those of n but for the tables, the words and the filler's address
   module _ {m : Heap}
       (whole : m ≡ record n { maps = m.maps; lists = m.lists; pool = m.pool; proxies = with_place n.proxies r x.place; words = m.words; frames = m.frames })
-      (free : m.proxies.free ≡ n.proxies.free) (shift : MovesSlot n m f x.place words) (framed : IsFramed h.kind m) (on : tables_in m ≡ t)
+      (free : m.proxies.free ≡ n.proxies.free) (shift : MovesSlot (parts_of n) (parts_of m) f x.place words) (framed : IsFramed h.kind m) (on : tables_in m ≡ t)
       (handles : AreBelowLimit m.proxies) where
     pub keeps : Keeps k is en (Some r) mover m
     keeps = record {
@@ -334,12 +336,12 @@ module _ {h : Heap} {x : Change} {b : ℕ} {n : Heap} {f : ℕ} {t : Tables} (fs
 
 -- The heap m after `leave_slot`, which begins at the heap n. Object i moves.
 module _ {h : Heap} (k : IsValid h) {x : Change} (is : IsChange h x) {b : ℕ} {n : Heap} (en : EntersAt h x b n) (due : MustMoveInto (owner_in h) x.place x.class)
-    {m : Heap} {i : ℕ} (left : LeavesFilled n x.place x.class i m) (tables : AreTables n.classes (tables_in m)) where
-  abbrev pub refills : Refills h x b n left.from (tables_in m)
-  refills = record { valid = k; change = is; enters = en; moves = due; filled = left.filled; tables = tables }
+    {m : Heap} {i : Handle} (left : Left n x.class x.place (Some i) m) (tables : AreTables n.classes (tables_in m)) where
+  abbrev pub refills : Refills h x b n left.done.from (tables_in m)
+  refills = record { valid = k; change = is; enters = en; moves = due; filled = left.done.filled; tables = tables }
 
-  pub number_is : i ≡ r refills
-  number_is = left.number ∙ number_shown refills
+  pub number_is : i.0 ≡ r refills
+  number_is = number_in left ∙ number_shown refills
 
   pub whole_is : m ≡ record n {
     maps = m.maps;
@@ -349,7 +351,7 @@ module _ {h : Heap} (k : IsValid h) {x : Change} (is : IsChange h x) {b : ℕ} {
     words = m.words;
     frames = m.frames;
   }
-  whole_is = left.rest ∙ ap (λ j. record n {
+  whole_is = filled_rest left ∙ ap (λ j. record n {
     maps = m.maps;
     lists = m.lists;
     pool = m.pool;
@@ -358,5 +360,5 @@ module _ {h : Heap} (k : IsValid h) {x : Change} (is : IsChange h x) {b : ℕ} {
     frames = m.frames;
   }) number_is
 
-  pub shift_is : MovesSlot n m left.from x.place (old_words h x)
-  shift_is = subst (λ (t : ClassTable). MovesSlot n m left.from x.place (get_or t.sizes x.class 0)) en.classes left.moves
+  pub shift_is : MovesSlot (parts_of n) (parts_of m) left.done.from x.place (old_words h x)
+  shift_is = subst (λ (t : ClassTable). MovesSlot (parts_of n) (parts_of m) left.done.from x.place (get_or t.sizes x.class 0)) en.classes left.done.moves

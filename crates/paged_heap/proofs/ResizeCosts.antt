@@ -24,7 +24,8 @@ use Rattle.step_ledger.proofs.CallerLemmas.{rose_both, rose_by}
 use Rattle.step_ledger.specs.Counting.{RoseBy}
 use Rattle.virtual_words.specs.Words.{IsWhole, copy_steps}
 use Rattle.cf_model.specs.ExactCosts.{carrying_cost, leaving_cost, resize_cost, resized_cost, tail_steps}
-use Rattle.paged_heap.specs.Free.{Leaves, leaving_steps}
+use Rattle.page_slots.specs.Leaving.{Leaves, Parts, leaving_steps}
+use Rattle.paged_heap.proofs.LeftSlot.{parts_of, slot}
 use Rattle.paged_heap.specs.Heap.{Heap}
 use Rattle.paged_heap.specs.Layout.{IsValid, held_in, order_in, paging_at, state_of, tables_in, owner_in}
 use Rattle.paged_heap.specs.ResizeClass.{EntersAt, IsChange, changing_cost, entering_cost, kept_words}
@@ -62,15 +63,15 @@ module _ {h : Heap} (k : IsValid h) {x : Change} (is : IsChange h x) where
     used_of = (it_used (owns k) is.object).of
 
     -- the steps if then the old slot is left (`leave_slot`)
-    pub left_sum : (m : Heap) (r : Option Handle) → Leaves n x.place x.class r m → (s t u : ℕ) → RoseBy s t (entering_cost h x)
-        → RoseBy t u (leaving_steps n x.place x.class r) → RoseBy s u (entering_cost h x + leaving_cost (state_of h) (order_in h) (it (owns k) is.object) r)
+    pub left_sum : (m : Parts) (r : Option Handle) → Leaves (parts_of n) (slot x.class x.place) r m → (s t u : ℕ) → RoseBy s t (entering_cost h x)
+        → RoseBy t u (leaving_steps n.kind (parts_of n) (slot x.class x.place) r) → RoseBy s u (entering_cost h x + leaving_cost (state_of h) (order_in h) (it (owns k) is.object) r)
     left_sum m r left s t u r1 r2 =
         let drop = drop_keeps h.classes (tables_in h) (tables_in n) (tables_ok h k) en.tables x.to b in_to en.taken x.class differ (page_at h.classes x.place) used_of in
         let fill = fill_keeps h.classes (tables_in h) (tables_in n) (tables_ok h k) en.tables x.to b in_to en.taken x.class differ in
         let same = leaving_is k is.object n en.kind en.classes drop fill r (front r left) in
         rose_by s u _ _ (ap (λ n. entering_cost h x + n) same) (rose_both s t u _ _ r1 r2)
       where
-        front : (r : Option Handle) → Leaves n x.place x.class r m → IsSome r → (page : ℕ) × (slice_get (pages_in h.lists x.class NotFull) 0 ≡ Some page)
+        front : (r : Option Handle) → Leaves (parts_of n) (slot x.class x.place) r m → IsSome r → (page : ℕ) × (slice_get (pages_in h.lists x.class NotFull) 0 ≡ Some page)
         front None left none = absurd (false≢true none)
         front (Some y) left some = (
           left.filled.page,

@@ -1,26 +1,21 @@
 //! `free` of an open heap: it clears the freed object's slot, or moves another object into that slot.
 ghost use Rattle.std.specs.Prelude.{◌≡◌, ◌+◌, ◌-◌, ◌*◌, ◌/◌, ◌^◌, ◌<◌, ◌≤◌, ◌↔◌, IfOk, IsSome, IsTrue, is_some, length, slice_index, slice_set};
-ghost use Rattle.std.specs.FinMap as map;
 ghost use Rattle.step_ledger.specs.Counting.{RoseAtMost, RoseBy};
-ghost use Rattle.page_model.specs.Image.{IsDisjoint};
 ghost use Rattle.page_model.specs.Order.{word_steps};
 ghost use Rattle.cf_model.specs.Costs.{free_bound};
 ghost use Rattle.cf_model.specs.Steps.{FreesObject, IsFreeStep};
-ghost use Rattle.page_slots.specs.Tables.{AreTables};
-ghost use Rattle.proxy_table.specs.Proxies.{AreBelowLimit, with_place};
-ghost use Rattle.virtual_words.specs.Words.{FitTable, IsWhole, slot_steps};
+ghost use Rattle.virtual_words.specs.Words.{slot_steps};
 ghost use Rattle.page_slots.specs.Owner.{IsObjectAt, MustMoveInto, placed_at};
 ghost use Rattle.paged_heap.specs.Costs.{free_steps};
 ghost use Rattle.cf_model.specs.ExactCosts.{free_cost, leaving_cost};
 ghost use Rattle.cf_model.specs.Ordered.{IsOrderedFree};
 ghost use Rattle.paged_heap.specs.Choices.{FreeChooses};
-ghost use Rattle.paged_heap.specs.Free.{Leaves, MayLeave, MovesSlot, leaving_steps};
 ghost use Rattle.paged_heap.specs.Heap.{seen};
-ghost use Rattle.paged_heap.specs.Layout.{Holds, order_in, owner_in, state_at, tables_in};
+ghost use Rattle.paged_heap.specs.Layout.{Holds, order_in, owner_in, state_at};
 
 use crate::open_heap::OpenHeap;
 use cf_base::{Freed, Handle, NotLive};
-use region::Header;
+use page_slots::LeftSlot;
 use step_ledger::Steps;
 use virtual_words::Mapping;
 
@@ -92,83 +87,21 @@ impl OpenHeap {
         let slot_words = self.tables.classes.slot_words(c);
         self.proxies.release(h, steps);
         self.count_out(c, slot_words, length);
-        let moved = self.leave_slot::<A>(c, place, slot_words, moves, steps);
-        Freed { slot_words, moved }
-    }
-
-    /// Leaves the used slot of class c, of `slot_words` words, at the address `place`, whose object is freed or has moved
-    /// away. If `moves`, the object of the class that the tables choose moves there, and its own slot
-    /// becomes free; returns its handle. Else the slot is cleared and becomes free.
-    #[inline(always)]
-    pub(crate) fn leave_slot<A: Mapping>(
-        &mut self,
-        c: u32,
-        place: u32,
-        slot_words: u32,
-        moves: bool,
-        steps: &mut Steps,
-    ) -> Option<Handle>
-        requires words { slot_words ≡ slice_index self.old.tables.classes.sizes c }
-        requires laid { FitTable A.kind self.old.blocks self.old.region }
-        requires may { MayLeave (seen A.kind self.old) place c moves }
-        ensures moved { is_some result ≡ moves }
-        ensures left { Leaves (seen A.kind self.old) place c result (seen A.kind self.new) }
-        ensures tables { AreTables self.old.tables.classes (tables_in (seen A.kind self.new)) }
-        ensures laid { FitTable A.kind self.new.blocks self.new.region }
-        ensures handles { AreBelowLimit self.new.proxies }
-        ensures most { RoseAtMost steps.old steps.new (13 + word_steps A.kind + slot_steps A.kind (slice_index self.old.tables.classes.sizes c)) }
-        ensures steps { RoseBy steps.old steps.new (leaving_steps (seen A.kind self.old) place c result) }
-    {
-        if moves {
-            let from = self.tables.fill_slot(&mut self.lists, c, steps);
-            let other = Header::unpack(A::read(&self.region, &self.blocks, from, steps)).handle;
-            self.move_to::<A>(other, from, place, slot_words, steps);
-            Some(other)
-        } else {
-            A::clear(&mut self.region, &self.blocks, place, slot_words, steps);
-            self.tables.drop_slot(&mut self.lists, c, place, steps);
-            None
-        }
-    }
-
-    /// Moves the object h from the slot at `from` to the slot at `to`, both of `slot_words` words,
-    /// and changes its address in its proxy. The words of its old slot become zeros.
-    fn move_to<A: Mapping>(
-        &mut self,
-        h: Handle,
-        from: u32,
-        to: u32,
-        slot_words: u32,
-        steps: &mut Steps,
-    )
-        requires laid { FitTable A.kind self.old.blocks self.old.region }
-        requires live { IsSome (map.get self.old.proxies.places h.0) }
-        requires source { from + slot_words ≤ length self.old.region }
-        requires target { to + slot_words ≤ length self.old.region }
-        requires apart { IsDisjoint from slot_words to slot_words }
-        requires whole_source { IsWhole A.kind from }
-        requires whole_target { IsWhole A.kind to }
-        requires whole { IsWhole A.kind slot_words }
-        ensures rest { self.new ≡ record self.old {
-          proxies = with_place self.old.proxies h.0 to;
-          region = self.new.region;
-          blocks = self.new.blocks;
-        } }
-        ensures free { self.new.proxies.free ≡ self.old.proxies.free }
-        ensures moves { MovesSlot (seen A.kind self.old) (seen A.kind self.new) from to slot_words }
-        ensures laid { FitTable A.kind self.new.blocks self.new.region }
-        ensures handles { AreBelowLimit self.new.proxies }
-        ensures steps { RoseBy steps.old steps.new (slot_steps A.kind slot_words + 1) }
-    {
-        A::move_slot(
+        let slot = LeftSlot {
+            class: c,
+            place,
+            first: 0,
+        };
+        let moved = self.tables.leave_slot::<A>(
+            &mut self.lists,
+            &mut self.proxies,
             &mut self.region,
             &mut self.blocks,
-            from,
-            to,
-            slot_words,
+            slot,
+            moves,
             steps,
         );
-        self.proxies.rebind(h, to, steps);
+        Freed { slot_words, moved }
     }
 
     /// Takes an object of `bytes` bytes out of the counts: the live objects of class c, the bytes

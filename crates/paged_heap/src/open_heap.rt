@@ -14,14 +14,11 @@ ghost use Rattle.paged_heap.specs.Needed.{open_bytes};
 use block_table::BlockTable;
 use cf_base::{BytesNeeded, Layout, OutOfMemory, Settings, class_count};
 use class_lists::ClassLists;
-use page_slots::PageTables;
+use page_slots::{CLASSES, PageTables};
 use proxy_table::ProxyTable;
 use region::Region;
 use std::alloc::Global;
 use virtual_words::Mapping;
-
-/// The length of the arrays that have an entry for each size class. No heap has more classes.
-pub const CLASSES: usize = 128;
 
 /// An open heap. By class, `bounds` is how many pages may be partly full, and `live` the number of
 /// live objects. `asked` and `taken` are the bytes of all objects and of their slots. `cost` is the

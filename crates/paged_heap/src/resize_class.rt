@@ -1,6 +1,6 @@
 //! The resize of an object to a length of another class: it is copied to a slot of that class, and
 //! its old slot is cleared, or another object moves into it.
-ghost use Rattle.std.specs.Prelude.{◌≡◌, ◌+◌, ◌-◌, ◌*◌, ◌/◌, ◌^◌, ◌<◌, ◌≤◌, ◌↔◌, IfErr, IfOk, IsNone, IsSome, IsTrue, length};
+ghost use Rattle.std.specs.Prelude.{◌≡◌, ◌+◌, ◌-◌, ◌*◌, ◌/◌, ◌^◌, ◌<◌, ◌≤◌, IfErr, IfOk, IsNone, IsSome, length};
 ghost use Rattle.std.specs.FinMap as map;
 ghost use Rattle.step_ledger.specs.Counting.{RoseAtMost, RoseBy};
 ghost use Rattle.page_model.specs.Image.{IsDisjoint};
@@ -8,15 +8,15 @@ ghost use Rattle.page_model.specs.Order.{word_steps};
 ghost use Rattle.cf_model.specs.Steps.{IsResizeStep};
 ghost use Rattle.proxy_table.specs.Proxies.{AreBelowLimit, with_place};
 ghost use Rattle.virtual_words.specs.Words.{AreInStep, FitTable, copy_steps};
-ghost use Rattle.page_slots.specs.Owner.{MustMoveInto};
 ghost use Rattle.paged_heap.specs.ResizeClass.{CopiesToSlot, EntersClass, IsChange, changing_cost, changing_steps, entering_cost, kept_words};
 ghost use Rattle.paged_heap.specs.Choices.{ResizeChooses};
-ghost use Rattle.paged_heap.specs.Layout.{Holds, owner_in, state_at};
+ghost use Rattle.paged_heap.specs.Layout.{Holds, state_at};
 ghost use Rattle.paged_heap.specs.Heap.{seen};
 ghost use Rattle.cf_model.specs.ExactCosts.{tail_steps};
 
 use crate::open_heap::OpenHeap;
 use cf_base::{Handle, ResizeFault, Resized};
+use page_slots::LeftSlot;
 use region::Header;
 use step_ledger::Steps;
 use virtual_words::Mapping;
@@ -64,33 +64,25 @@ impl OpenHeap {
         let moves = self
             .tables
             .must_move(&self.lists, x.class, x.place, bound, steps);
-        self.change_class::<A>(x, moves, steps)
-    }
-
-    /// Does the resize x. If `moves`, another object of the old class must move to the old slot. Fails
-    /// as `resize_to_class` does.
-    fn change_class<A: Mapping>(
-        &mut self,
-        x: Change,
-        moves: bool,
-        steps: &mut Steps,
-    ) -> Result<Resized, ResizeFault>
-        requires kept { Holds A.kind self.old }
-        requires change { IsChange (seen A.kind self.old) x }
-        requires due { IsTrue moves ↔ MustMoveInto (owner_in (seen A.kind self.old)) x.place x.class }
-        ensures step { IsResizeStep (state_at A.kind self.old) (record { number = x.handle.0; length = x.bytes }) result (state_at A.kind self.new) }
-        ensures kept { Holds A.kind self.new }
-        ensures cause { IfErr result (λ e. e ≡ ResizeFault.Space) }
-        ensures choice { IfOk result (λ done. ResizeChooses (seen A.kind self.old) (record { number = x.handle.0; length = x.bytes }) done (seen A.kind self.new)) }
-        ensures steps { RoseAtMost steps.old steps.new (changing_steps A.kind (seen A.kind self.old) x result) }
-        ensures cost { RoseBy steps.old steps.new (changing_cost (seen A.kind self.old) x result) }
-    {
         let old_slot_words = self.tables.classes.slot_words(x.class);
         let slot_words = self.tables.classes.slot_words(x.to);
         let Some(_to) = self.enter_class::<A>(x, steps) else {
             return Err(ResizeFault::Space);
         };
-        let moved = self.leave_slot::<A>(x.class, x.place, old_slot_words, moves, steps);
+        let slot = LeftSlot {
+            class: x.class,
+            place: x.place,
+            first: 0,
+        };
+        let moved = self.tables.leave_slot::<A>(
+            &mut self.lists,
+            &mut self.proxies,
+            &mut self.region,
+            &mut self.blocks,
+            slot,
+            moves,
+            steps,
+        );
         Ok(Resized {
             old_slot_words,
             slot_words,

@@ -1,13 +1,15 @@
 -- For `free_inner`: a free of a task that moves no other object, and one that moves an object into the freed slot, leave the heap valid and
 -- are frees as contracts show them.
-use Rattle.std.proofs.Common.{◌≡◌, ℕ, ◌+◌, ◌%◌, ◌^◌, ◌<◌, ◌≤◌, List, length, get_or, set, Option, Some, None, arith, sym, ◌∙◌, ap, subst}
-use Rattle.std.specs.Prelude.{option_map}
+use Rattle.std.proofs.Common.{◌≡◌, ℕ, ◌+◌, ◌*◌, ◌%◌, ◌^◌, ◌<◌, ◌≤◌, List, length, get_or, set, Option, Some, None, arith, refl, sym, ◌∙◌, ap, subst}
+use Rattle.std.specs.Prelude.{◌↔◌, IsSome, option_map}
+use Rattle.std.proofs.lemmas.Bool.{false≢true}
 use Rattle.std.proofs.lemmas.List.{get_or-set_same, length-set, set-set}
 use Rattle.std.proofs.lemmas.Option.{slice_get_within}
 use Rattle.std.specs.Ordering.{nat_cmp}
 use Rattle.std.specs.FinMap.{FinMap, empty, get, insert, remove}
 use Rattle.cf_base.specs.Settings.{profile_of}
 use Rattle.cf_base.specs.declared.answers.Freed.{Freed}
+use Rattle.cf_base.specs.declared.answers.Handle.{Handle}
 use Rattle.cf_lemmas.proofs.MapValues.{map_values-insert, map_values-remove}
 use Rattle.cf_lemmas.proofs.Maps.{some_removed}
 use Rattle.cf_model.specs.Steps.{number_of}
@@ -15,18 +17,19 @@ use Rattle.page_model.specs.Bytes.{bytes_at}
 use Rattle.page_model.specs.Held.{Placed, places}
 use Rattle.page_model.specs.Image.{Clears, MovesWords, header_word, slot_for}
 use Rattle.page_model.specs.Steps.{MayFill, Moves, moved_to, without}
+use Rattle.page_slots.specs.Leaving.{Leaves, Parts}
 use Rattle.page_slots.specs.Release.{FillsFrom, Vacates}
 use Rattle.page_slots.specs.Occupying.{Occupies, FitPagesShared, class_table}
 use Rattle.page_slots.specs.Tables.{AreTables, Tables, page_at, slot_at}
 use Rattle.page_slots.proofs.CallerLemmas.{filled_occupied, filled_part, vacated_occupied, vacated_part, held, it, it_found, it_class, it_slot}
 use Rattle.page_slots.proofs.CallerLemmas.{page_same, slot_same, moving, Fills, must_fill, other_fills, kept_tables, other, other_object}
-use Rattle.page_slots.proofs.CallerLemmas.{other_found, other_at, other_is, other_known, other_may, same_slot}
+use Rattle.page_slots.proofs.CallerLemmas.{other_found, other_at, other_known, other_may, other_moved, same_slot}
 use Rattle.proxy_table.specs.Proxies.{Proxies}
 use Rattle.quota_model.specs.Joined.{AreNumbers, joined, places_at}
 use Rattle.quota_model.proofs.CallerLemmas.{joined_insert, joined_remove, moved_image, numbers_set, removed_image}
 use Rattle.quota_model.specs.Parts.{key_of, objects_of_task}
 use Rattle.quota_model.proofs.CallerLemmas.{found_whole}
-use Rattle.quota_heap.specs.Calls.{FreesAndFills, FreesAlone, IsRemoved}
+use Rattle.quota_heap.specs.Calls.{IsRemoved, parts_without, slot_of}
 use Rattle.quota_heap.specs.Layout.{ArePages, IsTask, IsTaskIn, IsValid, held_in, held_of, paging_at, places_of, state_of, tables_of, as_owner}
 use Rattle.quota_heap.specs.Steps.{FreesOfTask}
 use Rattle.quota_heap.specs.declared.shared_pages.SharedPages.{SharedPages}
@@ -84,27 +87,34 @@ module _ {g : SharedPages} (k : ArePages g) {t : ℕ} {x : Task} (i : IsTask g t
       (fill_accounts g.tables.classes (tables_of g x) (tables_ok g k t x i) c new b f.filled) in
       omega arith
 
-  -- the header of the object that moves holds its key
-  pub number_read : t < 16 → (v : ℕ) → v ≡ get_or g.region b 0 % 2 ^ 32 → v ≡ key_of t (other f)
-  number_read lt v is =
-      let small = number_small g k t x i (other f) b (other_known f) in
-      let w : get_or g.region b 0 ≡ header_word (key_of t (other f)) (length (other_object f).bytes) =
-      ap (λ j. get_or g.region j 0) (sym (other_at f)) ∙ i.headed (other f) (other_object f) (other_found f) in
-      is ∙ ap (λ v. v % 2 ^ 32) w ∙ low (key_of t (other f)) (length (other_object f).bytes) (omega arith)
-    where
-      low : (v l : ℕ) → v < 2 ^ 32 → header_word v l % 2 ^ 32 ≡ v
-      low v l lt = omega arith
+-- the header of the object that moves holds its key
+pub number_read : {g : SharedPages} (k : ArePages g) {t : ℕ} {x : Task} (i : IsTask g t x) {q a size c : ℕ} → t < 16 → (b : ℕ) (new : Tables)
+    (f : Fills (as_owner g x) q a size c b new) → get_or g.region b 0 % 2 ^ 32 ≡ t * 65536 + other f
+number_read {g} k {t} {x} i lt b new f =
+    let small = number_small g k t x i (other f) b (other_known f) in
+    let w : get_or g.region b 0 ≡ header_word (key_of t (other f)) (length (other_object f).bytes) =
+    ap (λ j. get_or g.region j 0) (sym (other_at f)) ∙ i.headed (other f) (other_object f) (other_found f) in
+    ap (λ v. v % 2 ^ 32) w ∙ low (key_of t (other f)) (length (other_object f).bytes) (omega arith)
+  where
+    low : (v l : ℕ) → v < 2 ^ 32 → header_word v l % 2 ^ 32 ≡ v
+    low v l lt = omega arith
+
+-- the pool has at most the free pages of before and the pages of the task, whether or not another object moved
+pub left_account : {g : SharedPages} (k : ArePages g) {t : ℕ} {x : Task} (i : IsTask g t x) {q a size c : ℕ} (o : IsObjectAt (as_owner g x) q a size c)
+    (moved : Option Handle) → (IsSome moved ↔ MustMoveInto (as_owner g x) a c) → (new : Parts) → Leaves (parts_without g x q) (slot_of t c a) moved new
+    → AreTables g.tables.classes new.tables → length new.tables.pool.free ≤ x.pages + length g.tables.pool.free
+left_account k i o None due new left tables = vacated_account k i o new.tables tables left.freed
+left_account k i o (Some r) due new left tables = filled_account k i (filling k i o (due.0 refl) left.filled tables)
 
 -- a free of task t from heap h to heap n, which moves no other object
 module _ (h n : OpenTasks) (k : IsValid h) (t : ℕ) (x x' : Task) (at : IsTaskIn h t x) (tasks : n.tasks.items ≡ set h.tasks.items t x')
     (granted : n.granted ≡ h.granted) (q a size c : ℕ)
-    (o : IsObjectAt (as_owner h.shared_pages x) q a size c) (still : MustMoveInto (as_owner h.shared_pages x) a c → ⊥)
-    (go : FreesAlone h.shared_pages x q a c n.shared_pages x') where
+    (o : IsObjectAt (as_owner h.shared_pages x) q a size c) (go : IsRemoved h.shared_pages x q (slot_of t c a) None n.shared_pages x') where
   abbrev i : IsTask h.shared_pages t x
   i = k.task t x at
 
   stays : Moves (paging_at h.shared_pages) (held_of h.shared_pages x) (it (owns k.shared_pages i) o) None
-  stays m = still (moving (owns k.shared_pages i) o m)
+  stays m = false≢true (go.due.1 (moving (owns k.shared_pages i) o m))
 
   few : t < length (places_of h.tasks.items)
   few = (let e = length_map (λ (y : Task). y.proxies.places) h.tasks.items in let w = slice_get_within h.tasks.items t x at in omega arith)
@@ -116,19 +126,19 @@ module _ (h n : OpenTasks) (k : IsValid h) (t : ℕ) (x x' : Task) (at : IsTaskI
   unfolding removed stays
   becomes = goes h n k t x x' at tasks granted q a size c o None stays go.rest go.live
       (ap joined (map_set (λ (y : Task). y.proxies.places) h.tasks.items t x'
-      ∙ ap (λ p. set (places_of h.tasks.items) t p) (ap (λ (p : Proxies). p.places) go.proxies ∙ ap (λ m. remove m q) (sym (places_here h k t x at))))
+      ∙ ap (λ p. set (places_of h.tasks.items) t p) (ap (λ (p : Proxies). p.places) go.left.proxies ∙ ap (λ m. remove m q) (sym (places_here h k t x at))))
       ∙ joined_remove (places_of h.tasks.items) (numbers h k) t few q small
       ∙ ap (λ m. remove m (key_of t q)) (places_are h k)
       ∙ sym (map_values-remove (λ (y : Placed). y.place) (held_in h) (key_of t q)))
-      go.words_long
+      go.left.long
       (removed_image (profile_of h.shared_pages.settings) (held_in h) k.shared h.shared_pages.settings.page_size h.shared_pages.region k.image n.shared_pages.region t q
       (without (held_in h) (key_of t q) a None) (removed h n k t x x' at tasks granted q a size c o None stays)
-      (subst (λ s. Clears h.shared_pages.region n.shared_pages.region (record { from = a; count = s })) (it_slot (owns k.shared_pages i) o) go.words))
-      (vacated_serves k.shared_pages i o (tables_of n.shared_pages x') go.rest.tables go.vacated)
-      (vacated_occupies k.shared_pages i o (tables_of n.shared_pages x') go.rest.tables go.vacated)
-      (ap (λ (p : Proxies). p.limit) go.proxies)
+      (subst (λ s. Clears h.shared_pages.region n.shared_pages.region (record { from = a; count = s })) (it_slot (owns k.shared_pages i) o) go.left.words))
+      (vacated_serves k.shared_pages i o (tables_of n.shared_pages x') go.rest.tables go.left.freed)
+      (vacated_occupies k.shared_pages i o (tables_of n.shared_pages x') go.rest.tables go.left.freed)
+      (ap (λ (p : Proxies). p.limit) go.left.proxies)
       (vacate_accounts h.shared_pages.tables.classes (tables_of h.shared_pages x) (tables_ok h.shared_pages k.shared_pages t x i) c (tables_of n.shared_pages x') (page_at h.shared_pages.tables.classes a)
-      (slot_at h.shared_pages.tables.classes c a) go.vacated)
+      (slot_at h.shared_pages.tables.classes c a) go.left.freed)
 
   pub alone_kept : IsValid n
   alone_kept = goes_kept h n k t x x' at tasks granted q a size c o None stays becomes
@@ -137,28 +147,39 @@ module _ (h n : OpenTasks) (k : IsValid h) (t : ℕ) (x x' : Task) (at : IsTaskI
       → FreesOfTask (state_of h) t q freed (state_of n)
   alone_freed freed words is = goes_freed h n k t x x' at tasks granted q a size c o None stays becomes freed words is
 
--- a free of task t from heap h to heap n, which moves object r to the freed slot
+-- a free of task t from heap h to heap n, which moves the object of handle v to the freed slot
 module _ (h n : OpenTasks) (k : IsValid h) (t : ℕ) (x x' : Task) (at : IsTaskIn h t x) (tasks : n.tasks.items ≡ set h.tasks.items t x')
-    (granted : n.granted ≡ h.granted) (q a size c r : ℕ)
-    (o : IsObjectAt (as_owner h.shared_pages x) q a size c) (moves : MustMoveInto (as_owner h.shared_pages x) a c)
-    (fi : FreesAndFills h.shared_pages x q a c r n.shared_pages x') where
+    (granted : n.granted ≡ h.granted) (q a size c : ℕ) (v : Handle)
+    (o : IsObjectAt (as_owner h.shared_pages x) q a size c) (fi : IsRemoved h.shared_pages x q (slot_of t c a) (Some v) n.shared_pages x') where
   abbrev i' : IsTask h.shared_pages t x
   i' = k.task t x at
 
   abbrev new : Tables
   new = tables_of n.shared_pages x'
 
+  abbrev r : ℕ
+  r = v.0
+
   abbrev y : Placed
-  y = record { place = fi.from; bytes = bytes_at h.shared_pages.region fi.from }
+  y = record { place = fi.left.from; bytes = bytes_at h.shared_pages.region fi.left.from }
 
-  there : get (held_of h.shared_pages x) r ≡ Some y
-  there = held (owns k.shared_pages i') r fi.from fi.there
+  abbrev f : Fills (as_owner h.shared_pages x) q a size c fi.left.from new
+  f = filling k.shared_pages i' o (fi.due.0 refl) fi.left.filled fi.rest.tables
 
-  abbrev f : Fills (as_owner h.shared_pages x) q a size c fi.from new
-  f = filling k.shared_pages i' o moves fi.filled fi.rest.tables
+  few' : t < length (places_of h.tasks.items)
+  few' = (let e = length_map (λ (y : Task). y.proxies.places) h.tasks.items in let w = slice_get_within h.tasks.items t x at in omega arith)
+
+  sixteen : t < 16
+  sixteen = (let w = slice_get_within h.tasks.items t x at in let many = k.many in omega arith)
 
   is : r ≡ other f
-  is = other_is f r fi.there
+  is = other_moved (owns k.shared_pages i') o (t * 65536) (number_read k.shared_pages i' sixteen) fi.left f
+
+  known : get x.proxies.places r ≡ Some fi.left.from
+  known = ap (get x.proxies.places) is ∙ other_known f
+
+  there : get (held_of h.shared_pages x) r ≡ Some y
+  there = held (owns k.shared_pages i') r fi.left.from known
 
   same : y ≡ other_object f
   same = (let e : Some y ≡ Some (other_object f) = sym there ∙ ap (get (held_of h.shared_pages x)) is ∙ other_found f in cc)
@@ -169,14 +190,11 @@ module _ (h n : OpenTasks) (k : IsValid h) (t : ℕ) (x x' : Task) (at : IsTaskI
     (y, there, subst (MayFill (paging_at h.shared_pages) (held_of h.shared_pages x) (it (owns k.shared_pages i') o)) (sym same) (other_may f)),
   )
 
-  few' : t < length (places_of h.tasks.items)
-  few' = (let e = length_map (λ (y : Task). y.proxies.places) h.tasks.items in let w = slice_get_within h.tasks.items t x at in omega arith)
-
   small' : q < 65536
   small' = number_small h.shared_pages k.shared_pages t x i' q a o.known
 
   other_small : r < 65536
-  other_small = number_small h.shared_pages k.shared_pages t x i' r fi.from fi.there
+  other_small = number_small h.shared_pages k.shared_pages t x i' r fi.left.from known
 
   part_there : get (objects_of_task (held_in h) t) r ≡ Some y
   part_there = ap (λ m. get m r) (part_is h k t x at) ∙ there
@@ -200,7 +218,7 @@ module _ (h n : OpenTasks) (k : IsValid h) (t : ℕ) (x x' : Task) (at : IsTaskI
       let now : insert (remove x.proxies.places q) r a ≡ insert (places_at gone t) r a =
       ap (λ m. insert m r a) (ap (λ m. remove m q) (sym (places_here h k t x at)) ∙ sym at_gone) in
       ap joined (map_set (λ (z : Task). z.proxies.places) h.tasks.items t x'
-      ∙ ap (λ p. set all t p) (ap (λ (p : Proxies). p.places) fi.proxies ∙ now)
+      ∙ ap (λ p. set all t p) (ap (λ (p : Proxies). p.places) fi.left.proxies ∙ now)
       ∙ sym (set-set all t (remove (places_at all t) q) (insert (places_at gone t) r a)))
       ∙ joined_insert gone gone_numbers t gone_few r other_small a
       ∙ ap (λ m. insert m (key_of t r) a) (joined_remove all (numbers h k) t few' q small' ∙ ap (λ m. remove m (key_of t q)) (places_are h k)
@@ -212,15 +230,15 @@ module _ (h n : OpenTasks) (k : IsValid h) (t : ℕ) (x x' : Task) (at : IsTaskI
   unfolding removed mover
   becomes' = goes h n k t x x' at tasks granted q a size c o (Some r) mover fi.rest fi.live
       places_moved
-      fi.words_long
+      fi.left.moves.long
       (moved_image (profile_of h.shared_pages.settings) (held_in h) k.shared h.shared_pages.settings.page_size h.shared_pages.region k.image n.shared_pages.region t q r y
       (without (held_in h) (key_of t q) a (Some (key_of t r))) (removed h n k t x x' at tasks granted q a size c o (Some r) mover) part_there
-      (subst (λ s. MovesWords h.shared_pages.region n.shared_pages.region (record { from = fi.from; count = s }) a)
-      (same_slot f ∙ ap (λ (z : Placed). slot_for (paging_at h.shared_pages) (length z.bytes)) (sym same)) fi.words))
+      (subst (λ s. MovesWords h.shared_pages.region n.shared_pages.region (record { from = fi.left.from; count = s }) a)
+      (same_slot f ∙ ap (λ (z : Placed). slot_for (paging_at h.shared_pages) (length z.bytes)) (sym same)) fi.left.moves.words))
       (filled_serves k.shared_pages i' f)
       (subst (λ j. Occupies (paging_at h.shared_pages) (without (held_of h.shared_pages x) q a (Some j)) new) (sym is) (filled_occupies k.shared_pages i' f))
-      (ap (λ (p : Proxies). p.limit) fi.proxies)
-      (fill_accounts h.shared_pages.tables.classes (tables_of h.shared_pages x) (tables_ok h.shared_pages k.shared_pages t x i') c new fi.from fi.filled)
+      (ap (λ (p : Proxies). p.limit) fi.left.proxies)
+      (fill_accounts h.shared_pages.tables.classes (tables_of h.shared_pages x) (tables_ok h.shared_pages k.shared_pages t x i') c new fi.left.from fi.left.filled)
 
   pub filled_kept : IsValid n
   filled_kept = goes_kept h n k t x x' at tasks granted q a size c o (Some r) mover becomes'
@@ -232,11 +250,15 @@ module _ (h n : OpenTasks) (k : IsValid h) (t : ℕ) (x x' : Task) (at : IsTaskI
 -- a free of task t from heap h to heap n, whether or not another object moved
 module _ (h n : OpenTasks) (k : IsValid h) (t : ℕ) (x x' : Task) (at : IsTaskIn h t x) (tasks : n.tasks.items ≡ set h.tasks.items t x')
     (granted : n.granted ≡ h.granted) (q a size c : ℕ) (o : IsObjectAt (as_owner h.shared_pages x) q a size c) where
-  pub removed_kept : (moved : Option ℕ) → IsRemoved h.shared_pages x q a c moved n.shared_pages x' → IsValid n
-  removed_kept None (still, go) = alone_kept h n k t x x' at tasks granted q a size c o still go
-  removed_kept (Some r) (moves, fi) = filled_kept h n k t x x' at tasks granted q a size c r o moves fi
+  pub removed_kept : (moved : Option Handle) → IsRemoved h.shared_pages x q (slot_of t c a) moved n.shared_pages x' → IsValid n
+  removed_kept None go = alone_kept h n k t x x' at tasks granted q a size c o go
+  removed_kept (Some r) go = filled_kept h n k t x x' at tasks granted q a size c r o go
 
-  pub removed_freed : (moved : Option ℕ) → IsRemoved h.shared_pages x q a c moved n.shared_pages x' → (freed : Freed) → freed.slot_words ≡ get_or h.shared_pages.tables.classes.sizes c 0
-      → number_of freed.moved ≡ moved → FreesOfTask (state_of h) t q freed (state_of n)
-  removed_freed None (still, go) freed words is = alone_freed h n k t x x' at tasks granted q a size c o still go freed words is
-  removed_freed (Some r) (moves, fi) freed words is = filled_freed h n k t x x' at tasks granted q a size c r o moves fi freed words is
+  pub removed_freed : (freed : Freed) → IsRemoved h.shared_pages x q (slot_of t c a) freed.moved n.shared_pages x'
+      → freed.slot_words ≡ get_or h.shared_pages.tables.classes.sizes c 0 → FreesOfTask (state_of h) t q freed (state_of n)
+  removed_freed freed go words = by freed.moved refl go
+    where
+      by : (moved : Option Handle) → freed.moved ≡ moved → IsRemoved h.shared_pages x q (slot_of t c a) moved n.shared_pages x'
+          → FreesOfTask (state_of h) t q freed (state_of n)
+      by None is go = alone_freed h n k t x x' at tasks granted q a size c o go freed words (ap number_of is)
+      by (Some r) is go = filled_freed h n k t x x' at tasks granted q a size c r o go freed words (ap number_of is)

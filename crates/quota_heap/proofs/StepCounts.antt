@@ -12,7 +12,6 @@ use Rattle.cf_base.specs.declared.answers.Refusal.{Refusal}
 use Rattle.cf_lemmas.proofs.Tests.{eq_no, eq_yes}
 use Rattle.class_lists.specs.PageLists.{pages_in}
 use Rattle.class_lists.specs.declared.Which.TheVariants.{NotFull}
-use Rattle.cf_model.specs.Steps.{number_of}
 use Rattle.page_model.specs.Arrangement.{class_at, live, not_full_pages, objects_on}
 use Rattle.page_model.specs.Held.{Placed}
 use Rattle.page_model.specs.Image.{slot_for}
@@ -28,7 +27,9 @@ use Rattle.page_slots.proofs.Pages.{listed_page, placed_in}
 use Rattle.step_ledger.specs.Counting.{RoseAtMost, RoseBy}
 use Rattle.step_ledger.proofs.CallerLemmas.{rose_both, rose_by}
 use Rattle.quota_model.specs.Refusals.{task_paging}
-use Rattle.quota_heap.specs.Calls.{IsRemoved, leaving_steps}
+use Rattle.cf_base.specs.declared.kind.Kind.TheVariants.{Moving}
+use Rattle.page_slots.specs.Leaving.{leaving_steps}
+use Rattle.quota_heap.specs.Calls.{IsRemoved, parts_without, slot_of}
 use Rattle.quota_heap.specs.Costs.{free_cost, free_steps, leaving_cost, malloc_cost, on_partly_full, taking_steps}
 use Rattle.quota_heap.specs.Layout.{ArePages, IsTask, IsTaskIn, IsValid, held_of, objects_of, paging_at, state_of, tables_of, as_owner}
 use Rattle.quota_heap.specs.State.{QuotaState, held_by}
@@ -143,8 +144,8 @@ module _ (h : OpenTasks) (k : IsValid h) (t : ℕ) (x : Task) (at : IsTaskIn h t
     found : get (held_by (state_of h) t) q ≡ Some (it (owns k.shared_pages i) o)
     found = ap (λ m. get m q) (part_is h k t x at) ∙ it_found (owns k.shared_pages i) o
 
-    leaves_by : (moved : Option Handle) (g' : SharedPages) (x' : Task) → IsRemoved h.shared_pages x q a c (number_of moved) g' x'
-        → leaving_steps h.shared_pages x a c (number_of moved)
+    leaves_by : (moved : Option Handle) (g' : SharedPages) (x' : Task) → IsRemoved h.shared_pages x q (slot_of t c a) moved g' x'
+        → 2 + leaving_steps Moving (parts_without h.shared_pages x q) (slot_of t c a) moved
         ≡ 2 + slot_for (paging_at h.shared_pages) (length (it (owns k.shared_pages i) o).bytes) + leaving_cost (state_of h) t (it (owns k.shared_pages i) o) moved
     leaves_by None g' x' removed =
         let slot = it_slot (owns k.shared_pages i) o in
@@ -155,19 +156,19 @@ module _ (h : OpenTasks) (k : IsValid h) (t : ℕ) (x : Task) (at : IsTaskIn h t
         omega arith
     leaves_by (Some r) g' x' removed =
         let slot = it_slot (owns k.shared_pages i) o in
-        let fill = fill_is g k.shared_pages t x i c o.in_range (some_not_full (owns k.shared_pages i) o removed.0) in
+        let fill = fill_is g k.shared_pages t x i c o.in_range (some_not_full (owns k.shared_pages i) o (removed.due.0 refl)) in
         let same : fill_steps (on_partly_full (state_of h) t (class_at (paging_at g) y)) ≡ fill_steps (live (paging_at g) (objects_of g x) c % slots_of (paging_at g) c) =
         ap (λ d. fill_steps (on_partly_full (state_of h) t d)) (it_class (owns k.shared_pages i) o) ∙ ap fill_steps (rest_same c) in
         omega arith
 
     -- the steps of a free's parts sum to its exact cost
-    pub free_sum : (freed : Freed) (g' : SharedPages) (x' : Task) → IsRemoved h.shared_pages x q a c (number_of freed.moved) g' x' → (s u v : ℕ) → RoseBy s u 3
-        → RoseBy u v (1 + leaving_steps h.shared_pages x a c (number_of freed.moved)) → RoseBy s v (free_cost (state_of h) t q (Ok freed))
+    pub free_sum : (freed : Freed) (g' : SharedPages) (x' : Task) → IsRemoved h.shared_pages x q (slot_of t c a) freed.moved g' x' → (s u v : ℕ) → RoseBy s u 3
+        → RoseBy u v (3 + leaving_steps Moving (parts_without h.shared_pages x q) (slot_of t c a) freed.moved) → RoseBy s v (free_cost (state_of h) t q (Ok freed))
     free_sum freed g' x' removed s u v first more =
         let is : free_cost (state_of h) t q (Ok freed) ≡ 6 + slot_for (paging_at g) (length y.bytes) + leaving_cost (state_of h) t y freed.moved =
         ap (λ (m : Option Placed). elim m [ None ↦ 0 | Some z ↦ 6 + slot_for (paging_at g) (length z.bytes) + leaving_cost (state_of h) t z freed.moved ]) found in
         let leaves = leaves_by freed.moved g' x' removed in
-        rose_by s v (3 + (1 + leaving_steps h.shared_pages x a c (number_of freed.moved))) (free_cost (state_of h) t q (Ok freed)) (omega arith)
+        rose_by s v (3 + (3 + leaving_steps Moving (parts_without h.shared_pages x q) (slot_of t c a) freed.moved)) (free_cost (state_of h) t q (Ok freed)) (omega arith)
         (rose_both s u v 3 _ first more)
 
 -- ---- bounds

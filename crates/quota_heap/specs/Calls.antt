@@ -1,17 +1,20 @@
 -- What a call of one task finds and does in what all tasks share (g: settings, region, used slots, free pages) and in the task (x); after it they are g' and
 -- x'. No public clause cites this module.
-use Rattle.std.specs.Prelude.{◌≡◌, ℕ, ◌+◌, ◌-◌, ◌<◌, Option, Some, None, Result, Ok, Err, length, slice_get, slice_index, slice_set}
+use Rattle.std.specs.Prelude.{◌≡◌, ℕ, ◌+◌, ◌-◌, ◌*◌, ◌<◌, ◌↔◌, IsSome, Option, Some, None, Result, Ok, Err, length, slice_get, slice_index, slice_set}
 use Rattle.std.specs.FinMap.{get}
 use Rattle.cf_base.specs.declared.answers.AccessFault.{AccessFault}
 use Rattle.cf_base.specs.declared.answers.AccessFault.TheVariants.{Unknown, Range}
+use Rattle.cf_base.specs.declared.answers.Handle.{Handle}
+use Rattle.cf_base.specs.declared.kind.Kind.TheVariants.{Moving}
 use Rattle.cf_model.specs.Steps.{Position}
 use Rattle.page_model.specs.Bytes.{bytes_at}
-use Rattle.page_model.specs.Image.{Clears, MovesWords, header_word}
+use Rattle.page_model.specs.Image.{header_word}
 use Rattle.page_model.specs.Paging.{classes}
 use Rattle.page_slots.specs.Owner.{HoldsBytesAt, MustMoveInto}
-use Rattle.page_slots.specs.Release.{FillsFrom, Vacates, steps_to_drop, steps_to_fill}
-use Rattle.page_slots.specs.Tables.{AreTables, KeepsForeign, page_at, slot_at}
+use Rattle.page_slots.specs.Leaving.{Leaves, Parts, parts}
+use Rattle.page_slots.specs.Tables.{AreTables, KeepsForeign}
 use Rattle.page_slots.specs.Take.{TakesAt}
+use Rattle.page_slots.specs.declared.leave.LeftSlot.{LeftSlot}
 use Rattle.proxy_table.specs.Proxies.{AreBelowLimit, with_place, without_place}
 use Rattle.quota_model.specs.Parts.{key_of}
 use Rattle.quota_heap.specs.Costs.{fault_steps}
@@ -43,26 +46,25 @@ pub record IsAdded (g : SharedPages) (x : Task) (t c bytes q : ℕ) (g' : Shared
   pub words : g'.region ≡ slice_set g.region place (header_word (key_of t q) bytes)
   pub live : x'.live ≡ slice_set x.live c (slice_index x.live c + 1)
 
--- what `free_inner` does if no other object must move: it removes object q from task x, and frees and clears its slot, at the address `place` and of class c
-pub record FreesAlone (g : SharedPages) (x : Task) (q place c : ℕ) (g' : SharedPages) (x' : Task) : Type 0 where
-  pub rest : KeepsRest g x g' x'
-  pub vacated : Vacates (tables_of g x) c (page_at g.tables.classes place) (slot_at g.tables.classes c place) (tables_of g' x')
-  pub proxies : x'.proxies ≡ without_place x.proxies q
-  pub words : Clears g.region g'.region (record { from = place; count = slice_index g.tables.classes.sizes c })
-  pub words_long : length g'.region ≡ length g.region
-  pub live : x'.live ≡ slice_set x.live c (slice_index x.live c - 1)
+-- the parts of the task that change when a slot is left
+abbrev pub parts_of : SharedPages → Task → Parts
+parts_of g x = parts Moving g.tables x.lists x.proxies (record { blocks = None; region = g.region })
 
--- what `free_inner` does if object r must move: it removes object q, whose slot of class c is at `place`; moves r from the address `from` to that slot; and
--- frees the slot that r leaves
-pub record FreesAndFills (g : SharedPages) (x : Task) (q place c r : ℕ) (g' : SharedPages) (x' : Task) : Type 0 where
+-- the parts of the task once the number q is released
+abbrev pub parts_without : SharedPages → Task → ℕ → Parts
+parts_without g x q = record (parts_of g x) { proxies = without_place x.proxies q }
+
+-- the slot of class c at the address `place`; the headers of task t hold the keys of its objects
+abbrev pub slot_of : ℕ → ℕ → ℕ → LeftSlot
+slot_of t c place = record { class = c; place = place; first = t * 65536 }
+
+-- what `free_inner` does: it removes object q, which is in the slot s, from task x; and moves another object into that slot if and only if the slot must be
+-- filled
+pub record IsRemoved (g : SharedPages) (x : Task) (q : ℕ) (s : LeftSlot) (moved : Option Handle) (g' : SharedPages) (x' : Task) : Type 0 where
   pub rest : KeepsRest g x g' x'
-  pub from : ℕ
-  pub filled : FillsFrom g.tables.classes (tables_of g x) c from (tables_of g' x')
-  pub there : get x.proxies.places r ≡ Some from
-  pub proxies : x'.proxies ≡ with_place (without_place x.proxies q) r place
-  pub words : MovesWords g.region g'.region (record { from = from; count = slice_index g.tables.classes.sizes c }) place
-  pub words_long : length g'.region ≡ length g.region
-  pub live : x'.live ≡ slice_set x.live c (slice_index x.live c - 1)
+  pub due : IsSome moved ↔ MustMoveInto (as_owner g x) s.place s.class
+  pub left : Leaves (parts_without g x q) s moved (parts_of g' x')
+  pub live : x'.live ≡ slice_set x.live s.class (slice_index x.live s.class - 1)
 
 -- object `position.number` of task x is live, but has fewer than `count` bytes from byte `position.from` on
 pub record IsPastEnd (g : SharedPages) (x : Task) (position : Position) (count : ℕ) : Type 0 where
@@ -79,18 +81,6 @@ IsMissing g x position count Range = IsPastEnd g x position count
 abbrev pub IsFound : SharedPages → Task → Position → ℕ → Result ℕ AccessFault → Type 0
 IsFound g x position count (Ok place) = HoldsBytesAt (as_owner g x) position.number position.from count place
 IsFound g x position count (Err e) = IsMissing g x position count e
-
--- what `free_inner` does to the object q of class c at the address `place`: it removes the object, and moves object r into its slot if and only if the slot
--- must be filled
-abbrev pub IsRemoved : SharedPages → Task → ℕ → ℕ → ℕ → Option ℕ → SharedPages → Task → Type 0
-IsRemoved g x q place c None g' x' = (MustMoveInto (as_owner g x) place c → ⊥) × FreesAlone g x q place c g' x'
-IsRemoved g x q place c (Some r) g' x' = MustMoveInto (as_owner g x) place c × FreesAndFills g x q place c r g' x'
-
--- the steps of leaving the slot of class c at the address `place`, by the tables: releasing the proxy of its object (2), its words, and freeing it; or, if object
--- r moves in, finding it and freeing its slot, reading its header and setting its proxy
-abbrev pub leaving_steps : SharedPages → Task → ℕ → ℕ → Option ℕ → ℕ
-leaving_steps g x place c None = 2 + slice_index g.tables.classes.sizes c + steps_to_drop (tables_of g x) (page_at g.tables.classes place)
-leaving_steps g x place c (Some r) = 4 + slice_index g.tables.classes.sizes c + steps_to_fill (tables_of g x) c
 
 -- the steps of `find`: the proxy and, if the handle is live, the header
 abbrev pub find_steps : Result ℕ AccessFault → ℕ

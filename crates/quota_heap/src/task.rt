@@ -7,6 +7,7 @@ ghost use Rattle.quota_heap.specs.Needed.{task_bytes};
 
 use cf_base::{BytesNeeded, OutOfMemory};
 use class_lists::ClassLists;
+use page_slots::CLASSES;
 use proxy_table::ProxyTable;
 use std::alloc::Global;
 use std::mem::size_of;
@@ -17,9 +18,6 @@ pub(crate) const TASKS: u32 = 16;
 /// A task numbers its objects below this. The header of object h of task t has the number
 /// `t * NUMBERS + h`.
 pub(crate) const NUMBERS: u32 = 65_536;
-
-/// The length of the array `live` of a task, with a count for each size class. No heap has more classes.
-pub(crate) const CLASSES: usize = 128;
 
 /// A task.
 #[derive(Drop)]

@@ -12,15 +12,11 @@ ghost use Rattle.sliced_heap.specs.Needed.{sliced_bytes};
 
 use cf_base::{BytesNeeded, Handle, Layout, OutOfMemory, Settings, class_count};
 use class_lists::ClassLists;
-use page_slots::PageTables;
+use page_slots::{CLASSES, PageTables};
 use proxy_table::ProxyTable;
 use region::Region;
 use slice_model::JobSlot;
 use std::alloc::Global;
-
-/// The length of an open heap's array `live`, which has a count for each size class. No heap has more
-/// classes than this.
-pub const CLASSES: usize = 128;
 
 /// The pending job.
 #[derive(Clone, Copy, Debug, PartialEq, Eq)]

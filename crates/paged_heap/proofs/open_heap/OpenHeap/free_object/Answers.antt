@@ -4,10 +4,11 @@ use Rattle.proxy_table.specs.Proxies.{AreBelowLimit}
 use Rattle.virtual_words.specs.Words.{slot_steps}
 use Rattle.paged_heap.specs.declared.open_heap.OpenHeap.{OpenHeap}
 use Rattle.paged_heap.specs.Heap.{seen}
-use Rattle.paged_heap.proofs.ByKind.{framed_of, laid_same}
+use Rattle.paged_heap.proofs.ByKind.{framed_from, laid_same}
 use Rattle.paged_heap.proofs.CostLemmas.{leaves_sum}
 use Rattle.paged_heap.proofs.FreedObject.{asked_some, live_some, taken_out, taken_some}
 use Rattle.paged_heap.proofs.FreeObject.{freed_by, may_leave}
+use Rattle.paged_heap.proofs.LeftSlot.{left_by}
 use Rattle.paged_heap.proofs.open_heap.OpenHeap.free_object.Goals as goal
 
 pub count_out-requires-clause-live : goal.count_out-requires-clause-live
@@ -25,10 +26,6 @@ count_out-requires-clause-taken g c =
     let l = taken_some c.requires.kept.kept c.requires.object in
     omega arith
 
-pub leave_slot-moved-requires-clause-words : goal.leave_slot-moved-requires-clause-words
-leave_slot-moved-requires-clause-words g c =
-    c.slot_words-slot_words.ensures.value ∙ sym (ap (λ (x : OpenHeap). get_or x.tables.classes.sizes c.args.c 0) c.count_out.ensures)
-
 pub leave_slot-moved-requires-clause-laid : goal.leave_slot-moved-requires-clause-laid
 leave_slot-moved-requires-clause-laid g c =
     laid_same g.A.Mapping.kind c.args.self.now c.count_out.new.self (ap (λ (x : OpenHeap). x.blocks) c.count_out.ensures)
@@ -41,47 +38,22 @@ leave_slot-moved-requires-clause-may g c =
     ∙ ap (λ p. record (taken_out (seen kind c.args.self.now) c.args.h.0 c.args.length c.args.c) { proxies = p }) c.release.ensures.places in
     may_leave k o c.args.moves c.requires.due counted (subst AreBelowLimit (sym (ap (λ (x : OpenHeap). x.proxies) c.count_out.ensures)) c.release.ensures.kept)
 
-pub returns-clause-step : goal.returns-clause-step
-returns-clause-step g c =
+pub returns : goal.returns
+returns g c =
     let kind = g.A.Mapping.kind in let k = c.requires.kept.kept in let o = c.requires.object in
     let counted = ap (seen kind) c.count_out.ensures
     ∙ ap (λ p. record (taken_out (seen kind c.args.self.now) c.args.h.0 c.args.length c.args.c) { proxies = p }) c.release.ensures.places in
-    let l = c.leave_slot-moved.ensures in
-    let by = freed_by k o c.args.moves c.requires.due counted l.tables (framed_of kind c.leave_slot-moved.new.self l.laid) l.handles
-    c.leave_slot-moved.result l.moved l.left _ c.slot_words-slot_words.ensures.value refl in
-    by.step
-
-pub returns-clause-kept : goal.returns-clause-kept
-returns-clause-kept g c =
-    let kind = g.A.Mapping.kind in let k = c.requires.kept.kept in let o = c.requires.object in
-    let counted = ap (seen kind) c.count_out.ensures
-    ∙ ap (λ p. record (taken_out (seen kind c.args.self.now) c.args.h.0 c.args.length c.args.c) { proxies = p }) c.release.ensures.places in
-    let l = c.leave_slot-moved.ensures in
-    let by = freed_by k o c.args.moves c.requires.due counted l.tables (framed_of kind c.leave_slot-moved.new.self l.laid) l.handles
-    c.leave_slot-moved.result l.moved l.left _ c.slot_words-slot_words.ensures.value refl in
-    record { laid = l.laid; kept = by.kept }
-
-pub returns-clause-choice : goal.returns-clause-choice
-returns-clause-choice g c =
-    let kind = g.A.Mapping.kind in let k = c.requires.kept.kept in let o = c.requires.object in
-    let counted = ap (seen kind) c.count_out.ensures
-    ∙ ap (λ p. record (taken_out (seen kind c.args.self.now) c.args.h.0 c.args.length c.args.c) { proxies = p }) c.release.ensures.places in
-    let l = c.leave_slot-moved.ensures in
-    let by = freed_by k o c.args.moves c.requires.due counted l.tables (framed_of kind c.leave_slot-moved.new.self l.laid) l.handles
-    c.leave_slot-moved.result l.moved l.left _ c.slot_words-slot_words.ensures.value refl in
-    by.choice
-
-pub returns-clause-steps : goal.returns-clause-steps
-returns-clause-steps g c =
-    let kind = g.A.Mapping.kind in
-    let e = ap (slot_steps kind) c.slot_words-slot_words.ensures.value in
-    let f = ap (λ (x : OpenHeap). slot_steps kind (get_or x.tables.classes.sizes c.args.c 0)) c.count_out.ensures in
-    let a = c.release.ensures.steps in let b = c.leave_slot-moved.ensures.most in
-    record { kept = omega (arith, a.kept, b.kept); bound = omega (arith, e, f, a.bound, b.bound) }
-
-pub returns-clause-cost : goal.returns-clause-cost
-returns-clause-cost g c =
-    let kind = g.A.Mapping.kind in let k = c.requires.kept.kept in let o = c.requires.object in
-    let counted = ap (seen kind) c.count_out.ensures
-    ∙ ap (λ p. record (taken_out (seen kind c.args.self.now) c.args.h.0 c.args.length c.args.c) { proxies = p }) c.release.ensures.places in
-    leaves_sum k o counted _ c.leave_slot-moved.result c.leave_slot-moved.ensures.left _ _ _ c.release.ensures.steps c.leave_slot-moved.ensures.steps
+    let l = c.leave_slot-moved.ensures in let p = c.leave_slot-moved.new in
+    let left = left_by kind c.count_out.new.self p.self p.lists p.proxies (record { blocks = p.blocks; region = p.region }) l.classes l.left in
+    let by = freed_by k o c.args.moves c.requires.due counted l.tables (framed_from kind p.blocks p.region _ l.laid refl refl) l.handles
+    c.leave_slot-moved.result l.moved left _ c.slot_words-slot_words.ensures.value refl in
+    let size = ap (slot_steps kind) c.slot_words-slot_words.ensures.value in
+    let same = ap (λ (x : OpenHeap). slot_steps kind (get_or x.tables.classes.sizes c.args.c 0)) c.count_out.ensures in
+    let a = c.release.ensures.steps in
+    record {
+      step = by.step;
+      kept = record { laid = l.laid; kept = by.kept };
+      choice = by.choice;
+      steps = record { kept = omega (arith, a.kept, l.most.kept); bound = omega (arith, size, same, a.bound, l.most.bound) };
+      cost = leaves_sum k o counted _ c.leave_slot-moved.result l.left _ _ _ a l.steps;
+    }

@@ -1,5 +1,5 @@
 -- The class, the proxy and the slot are found; then the object is made.
-use Rattle.std.proofs.Common.{get_or, arith, ap}
+use Rattle.std.proofs.Common.{get_or, arith, ap, rules}
 use Rattle.paged_heap.specs.declared.open_heap.OpenHeap.{OpenHeap}
 use Rattle.paged_heap.specs.Heap.{Heap, seen}
 use Rattle.paged_heap.proofs.ByKind.{in_region, laid_same}
@@ -46,45 +46,24 @@ count_in-requires-clause-taken g c =
     let e = ap (λ (x : Heap). x.taken) c.bind-handle.ensures.whole in
     omega arith
 
-pub returns-clause-step : goal.returns-clause-step
-returns-clause-step g c =
+pub returns : goal.returns
+returns g c =
     let kind = g.A.Mapping.kind in
-    let h = seen kind c.args.self.now in let n = seen kind c.count_in.new.self in
+    let h = seen kind c.args.self.now in let n = seen kind c.count_in.new.self in let b = c.bind-handle.ensures in
     let co = comes h c.requires.kept c.args.bytes c.in_ok-c.c c.in_ok-c.ensures.class (seen kind (with_tables c.args.self.now c.take_slot.new.self c.take_slot.new.lists))
     (seen kind c.bind-handle.new.self) n c.in-Some.place c.bind-handle.result.0
     c.in_ok-c.ensures.few c.in-Some.ensures.taken c.in-Some.ensures.kept
     (retabled kind c.args.self.now c.take_slot.new.self c.take_slot.new.lists c.in-Some.ensures.classes)
-    c.bind-handle.ensures.unused c.bind-handle.ensures.below c.bind-handle.ensures.first c.bind-handle.ensures.whole c.bind-handle.ensures.handles (ap (seen kind) c.count_in.ensures) in
-    comes_given h n c.requires.kept c.in_ok-c.c c.in-Some.place c.args.bytes c.bind-handle.result.0 co
-
-pub returns-clause-kept : goal.returns-clause-kept
-returns-clause-kept g c =
-    let kind = g.A.Mapping.kind in
-    let h = seen kind c.args.self.now in let n = seen kind c.count_in.new.self in
-    let co = comes h c.requires.kept c.args.bytes c.in_ok-c.c c.in_ok-c.ensures.class (seen kind (with_tables c.args.self.now c.take_slot.new.self c.take_slot.new.lists))
-    (seen kind c.bind-handle.new.self) n c.in-Some.place c.bind-handle.result.0
-    c.in_ok-c.ensures.few c.in-Some.ensures.taken c.in-Some.ensures.kept
-    (retabled kind c.args.self.now c.take_slot.new.self c.take_slot.new.lists c.in-Some.ensures.classes)
-    c.bind-handle.ensures.unused c.bind-handle.ensures.below c.bind-handle.ensures.first c.bind-handle.ensures.whole c.bind-handle.ensures.handles (ap (seen kind) c.count_in.ensures) in
+    b.unused b.below b.first b.whole b.handles (ap (seen kind) c.count_in.ensures) in
     record {
-      laid = laid_same kind c.bind-handle.new.self c.count_in.new.self (ap (λ (x : OpenHeap). x.blocks) c.count_in.ensures)
-          (ap (λ (x : OpenHeap). x.region) c.count_in.ensures) c.bind-handle.ensures.laid;
-      kept = comes_kept h n c.requires.kept c.in_ok-c.c c.in-Some.place c.args.bytes c.bind-handle.result.0 co;
+      step = comes_given h n c.requires.kept c.in_ok-c.c c.in-Some.place c.args.bytes c.bind-handle.result.0 co;
+      kept = record {
+        laid = laid_same kind c.bind-handle.new.self c.count_in.new.self (ap (λ (x : OpenHeap). x.blocks) c.count_in.ensures)
+            (ap (λ (x : OpenHeap). x.region) c.count_in.ensures) b.laid;
+        kept = comes_kept h n c.requires.kept c.in_ok-c.c c.in-Some.place c.args.bytes c.bind-handle.result.0 co;
+      };
+      steps = search rules;
+      choice = comes_chosen h n c.requires.kept c.in_ok-c.c c.in-Some.place c.args.bytes c.bind-handle.result.0 co;
+      cost = malloc_sum h c.requires.kept c.args.bytes c.in_ok-c.c c.in_ok-c.ensures.class c.bind-handle.result _ _
+          c.in-Some.ensures.taken _ _ _ _ c.in_ok-c.ensures.steps c.in-Some.ensures.steps b.steps;
     }
-
-pub returns-clause-choice : goal.returns-clause-choice
-returns-clause-choice g c =
-    let kind = g.A.Mapping.kind in
-    let h = seen kind c.args.self.now in let n = seen kind c.count_in.new.self in
-    let co = comes h c.requires.kept c.args.bytes c.in_ok-c.c c.in_ok-c.ensures.class (seen kind (with_tables c.args.self.now c.take_slot.new.self c.take_slot.new.lists))
-    (seen kind c.bind-handle.new.self) n c.in-Some.place c.bind-handle.result.0
-    c.in_ok-c.ensures.few c.in-Some.ensures.taken c.in-Some.ensures.kept
-    (retabled kind c.args.self.now c.take_slot.new.self c.take_slot.new.lists c.in-Some.ensures.classes)
-    c.bind-handle.ensures.unused c.bind-handle.ensures.below c.bind-handle.ensures.first c.bind-handle.ensures.whole c.bind-handle.ensures.handles
-    (ap (seen kind) c.count_in.ensures) in
-    comes_chosen h n c.requires.kept c.in_ok-c.c c.in-Some.place c.args.bytes c.bind-handle.result.0 co
-
-pub returns-clause-cost : goal.returns-clause-cost
-returns-clause-cost g c =
-    malloc_sum (seen g.A.Mapping.kind c.args.self.now) c.requires.kept c.args.bytes c.in_ok-c.c c.in_ok-c.ensures.class c.bind-handle.result _ _
-    c.in-Some.ensures.taken _ _ _ _ c.in_ok-c.ensures.steps c.in-Some.ensures.steps c.bind-handle.ensures.steps

@@ -46,10 +46,10 @@ overflow_add-self g c =
     let f = c.from.ensures in let g' = c.from-2.ensures in let r = c.ranges.bytes.fits in
     omega arith
 
-pub returns-clause-step : goal.returns-clause-step
-returns-clause-step g c =
+pub returns : goal.returns
+returns g c =
     let kind = g.A.Mapping.kind in let h = seen kind c.args.self.now in let k = c.requires.kept.kept in
-    let t = seen kind c.zero_tail.new.self in
+    let t = seen kind c.zero_tail.new.self in let z = c.zero_tail.ensures in let o = c.requires.object in
     let n : Heap = record t {
       words = words_of kind c.zero_tail.new.self.blocks c.write.new.region;
       asked = c.zero_tail.new.self.asked - c.from.result + c.from-2.result;
@@ -59,47 +59,16 @@ returns-clause-step g c =
     (c.write.ensures.words ∙ ap (set t.words c.args.place) c.pack.ensures)
     ∙ ap (λ x. record t { words = set t.words c.args.place (header_word c.args.h.0 c.args.bytes); asked = t.asked - x + c.from-2.result }) c.from.ensures
     ∙ ap (λ x. record t { words = set t.words c.args.place (header_word c.args.h.0 c.args.bytes); asked = t.asked - c.args.length + x }) c.from-2.ensures) in
-    let still : c.args.length ≤ c.args.bytes → t ≡ h = λ le. ap (seen kind) (c.zero_tail.ensures.kept le) in
-    fits_resized h t n k c.args.h.0 c.args.place c.args.length c.args.c c.requires.object c.args.bytes c.requires.same c.zero_tail.ensures.rest
-    c.zero_tail.ensures.cut still en
-    _ c.slot_words-slot_words.ensures.value c.slot_words-slot_words.ensures.value refl c.requires.fits
-
-pub returns-clause-kept : goal.returns-clause-kept
-returns-clause-kept g c =
-    let kind = g.A.Mapping.kind in let h = seen kind c.args.self.now in let k = c.requires.kept.kept in
-    let t = seen kind c.zero_tail.new.self in
-    let n : Heap = record t {
-      words = words_of kind c.zero_tail.new.self.blocks c.write.new.region;
-      asked = c.zero_tail.new.self.asked - c.from.result + c.from-2.result;
-    } in
-    let en : n ≡ record t { words = set t.words c.args.place (header_word c.args.h.0 c.args.bytes); asked = t.asked - c.args.length + c.args.bytes } =
-    (ap (λ ws. record t { words = ws; asked = t.asked - c.from.result + c.from-2.result })
-    (c.write.ensures.words ∙ ap (set t.words c.args.place) c.pack.ensures)
-    ∙ ap (λ x. record t { words = set t.words c.args.place (header_word c.args.h.0 c.args.bytes); asked = t.asked - x + c.from-2.result }) c.from.ensures
-    ∙ ap (λ x. record t { words = set t.words c.args.place (header_word c.args.h.0 c.args.bytes); asked = t.asked - c.args.length + x }) c.from-2.ensures) in
-    let still : c.args.length ≤ c.args.bytes → t ≡ h = λ le. ap (seen kind) (c.zero_tail.ensures.kept le) in
+    let still : c.args.length ≤ c.args.bytes → t ≡ h = λ le. ap (seen kind) (z.kept le) in
     record {
-      laid = c.write.ensures.laid;
-      kept = fits_kept h t n k c.args.h.0 c.args.place c.args.length c.args.c c.requires.object c.args.bytes c.requires.same c.zero_tail.ensures.rest
-          c.zero_tail.ensures.cut still en;
+      step = fits_resized h t n k c.args.h.0 c.args.place c.args.length c.args.c o c.args.bytes c.requires.same z.rest z.cut still en
+          _ c.slot_words-slot_words.ensures.value c.slot_words-slot_words.ensures.value refl c.requires.fits;
+      kept = record {
+        laid = c.write.ensures.laid;
+        kept = fits_kept h t n k c.args.h.0 c.args.place c.args.length c.args.c o c.args.bytes c.requires.same z.rest z.cut still en;
+      };
+      choice = fits_chosen h t n k c.args.h.0 c.args.place c.args.length c.args.c o c.args.bytes c.requires.same z.rest z.cut still en _;
+      slot = c.slot_words-slot_words.ensures.value;
+      old_slot = refl;
+      steps = rose_both _ _ _ _ _ z.steps c.write.ensures.steps;
     }
-
-pub returns-clause-choice : goal.returns-clause-choice
-returns-clause-choice g c =
-    let kind = g.A.Mapping.kind in let h = seen kind c.args.self.now in let k = c.requires.kept.kept in
-    let t = seen kind c.zero_tail.new.self in
-    let n : Heap = record t {
-      words = words_of kind c.zero_tail.new.self.blocks c.write.new.region;
-      asked = c.zero_tail.new.self.asked - c.from.result + c.from-2.result;
-    } in
-    let en : n ≡ record t { words = set t.words c.args.place (header_word c.args.h.0 c.args.bytes); asked = t.asked - c.args.length + c.args.bytes } =
-    (ap (λ ws. record t { words = ws; asked = t.asked - c.from.result + c.from-2.result })
-    (c.write.ensures.words ∙ ap (set t.words c.args.place) c.pack.ensures)
-    ∙ ap (λ x. record t { words = set t.words c.args.place (header_word c.args.h.0 c.args.bytes); asked = t.asked - x + c.from-2.result }) c.from.ensures
-    ∙ ap (λ x. record t { words = set t.words c.args.place (header_word c.args.h.0 c.args.bytes); asked = t.asked - c.args.length + x }) c.from-2.ensures) in
-    let still : c.args.length ≤ c.args.bytes → t ≡ h = λ le. ap (seen kind) (c.zero_tail.ensures.kept le) in
-    fits_chosen h t n k c.args.h.0 c.args.place c.args.length c.args.c c.requires.object c.args.bytes c.requires.same c.zero_tail.ensures.rest
-    c.zero_tail.ensures.cut still en _
-
-pub returns-clause-steps : goal.returns-clause-steps
-returns-clause-steps g c = rose_both _ _ _ _ _ c.zero_tail.ensures.steps c.write.ensures.steps

@@ -44,29 +44,18 @@ malloc_inner-requires-clause-room c =
     let is = class_is (paging_ok h.shared_pages) (table_is h.shared_pages k.shared_pages) c.args.bytes c.in-Some.c c.in-Some.ensures.found in
     has_room h k c.args.t x at c.in-Some.c c.args.bytes is.0 is.1 is.2 (c.in_default-refusal.ensures c.args.bytes is.0 is.1)
 
-pub returns-clause-step : goal.returns-clause-step
-returns-clause-step c =
+pub returns : goal.returns
+returns c =
     let h = c.args.self.now in let k = c.requires.kept in let x = c.index_mut-task.result.now in
     let at = task_there h k c.args.t c.requires.sixteen x c.index_mut-task.ensures.value in
     let is = class_is (paging_ok h.shared_pages) (table_is h.shared_pages k.shared_pages) c.args.bytes c.in-Some.c c.in-Some.ensures.found in
     let n : OpenTasks = record h { shared_pages = c.malloc_inner.new.self; tasks = with_item h.tasks c.args.t c.malloc_inner.new.task } in
-    comes_given h n k c.args.t x c.malloc_inner.new.task at refl refl c.in-Some.c c.args.bytes c.malloc_inner.result.0 is.1 is.2 c.malloc_inner.ensures.comes
-    (c.in_default-refusal.ensures c.args.bytes is.0 is.1)
-
-pub returns-clause-kept : goal.returns-clause-kept
-returns-clause-kept c =
-    let h = c.args.self.now in let k = c.requires.kept in let x = c.index_mut-task.result.now in
-    let at = task_there h k c.args.t c.requires.sixteen x c.index_mut-task.ensures.value in
-    let is = class_is (paging_ok h.shared_pages) (table_is h.shared_pages k.shared_pages) c.args.bytes c.in-Some.c c.in-Some.ensures.found in
-    let n : OpenTasks = record h { shared_pages = c.malloc_inner.new.self; tasks = with_item h.tasks c.args.t c.malloc_inner.new.task } in
-    comes_kept h n k c.args.t x c.malloc_inner.new.task at refl refl c.in-Some.c c.args.bytes c.malloc_inner.result.0 is.1 is.2 c.malloc_inner.ensures.comes
-    (c.in_default-refusal.ensures c.args.bytes is.0 is.1)
-
-pub returns-clause-steps : goal.returns-clause-steps
-returns-clause-steps c =
-    let h = c.args.self.now in let k = c.requires.kept in let x = c.index_mut-task.result.now in
-    let at = task_there h k c.args.t c.requires.sixteen x c.index_mut-task.ensures.value in
-    let is = class_is (paging_ok h.shared_pages) (table_is h.shared_pages k.shared_pages) c.args.bytes c.in-Some.c c.in-Some.ensures.found in
-    malloc_sum h k c.args.t x at c.args.bytes c.in-Some.c c.in-Some.ensures.found
-    (has_room h k c.args.t x at c.in-Some.c c.args.bytes is.0 is.1 is.2 (c.in_default-refusal.ensures c.args.bytes is.0 is.1))
-    c.malloc_inner.result c.args.steps.now c.class_of.new.steps c.malloc_inner.new.steps c.class_of.ensures.steps c.malloc_inner.ensures.steps
+    let x' = c.malloc_inner.new.task in let q = c.malloc_inner.result in let comes = c.malloc_inner.ensures.comes in
+    let none = c.in_default-refusal.ensures c.args.bytes is.0 is.1 in
+    record {
+      step = comes_given h n k c.args.t x x' at refl refl c.in-Some.c c.args.bytes q.0 is.1 is.2 comes none;
+      kept = comes_kept h n k c.args.t x x' at refl refl c.in-Some.c c.args.bytes q.0 is.1 is.2 comes none;
+      steps = malloc_sum h k c.args.t x at c.args.bytes c.in-Some.c c.in-Some.ensures.found
+          (has_room h k c.args.t x at c.in-Some.c c.args.bytes is.0 is.1 is.2 none)
+          q c.args.steps.now c.class_of.new.steps c.malloc_inner.new.steps c.class_of.ensures.steps c.malloc_inner.ensures.steps;
+    }
