@@ -14,6 +14,7 @@ ghost use Rattle.cf_model.specs.Rules.{KeepsRules};
 ghost use Rattle.cf_model.specs.State.{closed_state, paging_in};
 ghost use Rattle.cf_model.specs.Steps.{BlocksStayIn, IsClosed, IsEmptyHeap, IsFreeStep, IsResizeStep, slot_in};
 ghost use Rattle.step_ledger.specs.Counting.{RoseAtMost, RoseBy};
+ghost use Rattle.paged_heap.specs.Bounds.{HasFewNotFull, with_bounds};
 ghost use Rattle.paged_heap.specs.Layout.{Holds, state_at};
 ghost use Rattle.paged_heap.specs.Most.{page_bounds};
 ghost use Rattle.paged_heap.specs.Needed.{paged_bytes};
@@ -252,6 +253,22 @@ impl<A: PageKind> PagedHeap<A> {
             alloc,
             inner: None,
             kind: PhantomData,
+        }
+    }
+
+    /// Sets the bound of the settings and of each class to `k`, 1 to 64. Unlike at `set_bound`, objects may be
+    /// live, but no class may have more than `k` partly full pages. Costs no step.
+    pub fn set_bounds(&mut self, k: u32)
+        requires open { IsTrue self.old.state.is_open }
+        requires few { HasFewNotFull self.old.state k }
+        requires least { 1 ≤ k }
+        requires most { k ≤ 64 }
+        ensures bounds { self.new ≡ record self.old { state = with_bounds self.old.state k } }
+        ensures rules { KeepsRules self.new.state }
+    {
+        match &mut self.inner {
+            Some(open) => open.set_bounds::<A>(k),
+            None => unreachable!(),
         }
     }
 
