@@ -1,14 +1,15 @@
 -- For the laws on images: the bytes that a save wrote are the heap's image, and a load of them finds its objects.
-use Rattle.std.proofs.Common.{◌≡◌, ◌∙◌, ℕ, ℤ, pos, Option, Some, None, length, take, ap, sym, inl, inr}
+use Rattle.std.proofs.Common.{◌≡◌, ◌∙◌, ◌≤◌, ℕ, ℤ, pos, true, Option, Some, None, length, take, ap, subst, sym, inl, inr}
 use Rattle.std.proofs.Math.Seq.{take-append_seam}
 use Rattle.cf_base.specs.Settings.{Profile, at_bound_one}
+use Rattle.cf_base.proofs.CallerLemmas.{within_limits}
 use Rattle.page_model.specs.Held.{Objects}
 use Rattle.id_table.specs.ById.{bytes_of}
 use Rattle.id_table.specs.Sessions.{AreTied, RunState}
 use Rattle.heap_image.specs.Decoded.{Decoded, decoded, whole}
 use Rattle.heap_image.specs.Heaps.{heap_image, live_objects}
-use Rattle.held_images.specs.Calls.{IsSaveCall, Saved, image_in}
-use Rattle.held_images.specs.CallerImages.{IsLoadCall, IsLoadedAgain}
+use Rattle.held_images.specs.Calls.{IsSaveCall, Saved, at_bound, image_in}
+use Rattle.held_images.specs.CallerImages.{IsLoadAt, IsLoadCall, IsLoaded, IsLoadedAgain}
 use Rattle.held_images.specs.State.{IsNamed}
 
 saved_is : (s kept : RunState) (before after : Saved) → IsSaveCall s before (pos 0) after kept → image_in after ≡ heap_image s
@@ -19,16 +20,22 @@ saved_is s kept before after (inr (code, less, same_out), same) = absurd (let z 
 parts_of : (p q : Profile) (a b : Objects) → whole p a ≡ whole q b → (p ≡ q) × (a ≡ b)
 parts_of p q a b same = (let z : Some p ≡ Some q = ap (λ (d : Decoded). d.settings) same in cc, ap (λ (d : Decoded). d.objects) same)
 
-pub loaded_again : (p : Profile) (s kept : RunState) (before after : Saved) (offset offset2 : ℕ) (code : ℤ) (new : Option RunState)
-    → decoded (heap_image s) ≡ whole (at_bound_one s.heap.profile) (live_objects s) → IsSaveCall s before (pos 0) after kept
-    → IsLoadCall None (image_in after) offset code offset2 new → IsLoadedAgain s code new
-loaded_again p s kept before after offset offset2 code (Some h) reads saved loaded =
-    let image = loaded.2 in
-    let same = parts_of _ _ _ _ (sym image.reads ∙ ap decoded (saved_is s kept before after saved) ∙ reads) in
-    (loaded.0, image.holds.profile ∙ same.0, image.holds.objects ∙ same.1)
-loaded_again p s kept before after offset offset2 code None reads saved (inl (bad, broken)) =
-    absurd (let z : None ≡ Some offset2 = sym (ap (λ (d : Decoded). d.broken) (ap decoded (saved_is s kept before after saved) ∙ reads)) ∙ broken in cc)
-loaded_again p s kept before after offset offset2 code None reads saved (inr (lacks, same)) = lacks
+pub loaded_again : (s kept : RunState) (before after : Saved) (k offset offset2 : ℕ) (code : ℤ) (new : Option RunState)
+    → decoded (heap_image s) ≡ whole (at_bound_one s.heap.profile) (live_objects s) → IsSaveCall s before (pos 0) after kept → 1 ≤ k → k ≤ 64
+    → IsLoadCall None (image_in after) k offset code offset2 new → IsLoadedAgain s k code new
+loaded_again s kept before after k offset offset2 code new reads saved least most loaded =
+    go new (subst (λ b. IsLoadAt b (image_in after) k offset code offset2 new) (within_limits 1 64 k least most) loaded)
+  where
+    shown : decoded (image_in after) ≡ whole (at_bound_one s.heap.profile) (live_objects s)
+    shown = ap decoded (saved_is s kept before after saved) ∙ reads
+
+    go : (new : Option RunState) → IsLoaded (image_in after) k offset code offset2 new → IsLoadedAgain s k code new
+    go (Some h) loaded =
+        let image = loaded.2 in
+        let same = parts_of _ _ _ _ (sym image.reads ∙ shown) in
+        (loaded.0, image.named.profile ∙ ap (at_bound k) same.0, image.holds ∙ same.1)
+    go None (inl (bad, broken)) = absurd (let z : None ≡ Some offset2 = sym (ap (λ (d : Decoded). d.broken) shown) ∙ broken in cc)
+    go None (inr (lacks, same)) = lacks
 
 pub one_image : ((one other : RunState) → AreTied one.session one.heap → AreTied other.session other.heap → other.heap.profile.pages ≡ one.heap.profile.pages
     → other.heap.profile.page_words ≡ one.heap.profile.page_words → other.heap.profile.proxies ≡ one.heap.profile.proxies

@@ -1,12 +1,13 @@
 -- What a caller in C has for a heap whose objects have ids, and what an exported call does to it. `None` is a closed heap, `Some` the state of an open one.
-use Rattle.std.specs.Prelude.{◌≡◌, ◌⊎◌, ℕ, ℤ, pos, List, Option, Some, None}
-use Rattle.cf_base.specs.Settings.{Profile, at_bound_one, profile_from, setting_fault}
+use Rattle.std.specs.Prelude.{◌≡◌, ◌⊎◌, ℕ, ℤ, pos, Bool, true, false, List, Option, Some, None}
+use Rattle.cf_base.specs.Limits.{is_within}
+use Rattle.cf_base.specs.Settings.{Profile, profile_from, setting_fault}
 use Rattle.cf_base.specs.declared.settings.SettingFault.{SettingFault}
 use Rattle.c_base.specs.Codes.{fault_code}
 use Rattle.heap_image.specs.Decoded.{IsBroken}
 use Rattle.heap_image.specs.Heaps.{live_objects}
 use Rattle.id_table.specs.Sessions.{RunState}
-use Rattle.held_images.specs.Calls.{HoldsImage, IsFreshRun}
+use Rattle.held_images.specs.Calls.{HoldsImage, IsFreshRun, at_bound}
 
 -- the heap is open, and `holds` is true of its state
 abbrev pub IsOpenWith : Option RunState → (RunState → Type 0) → Type 0
@@ -35,18 +36,23 @@ abbrev pub IsOpenCall : Option RunState → ℕ → ℕ → ℕ → ℕ → ℤ 
 IsOpenCall None pages page_bytes k proxies code new = IsOpening (setting_fault pages page_bytes k proxies) (profile_from pages page_bytes k proxies) code new
 IsOpenCall (Some h) pages page_bytes k proxies code new = (code ≡ pos 8) × (new ≡ Some h)
 
--- The end of a load of these bytes into a closed heap. 0: they are an image, and the heap is open with its objects. Else the heap is still closed. 21 (`IMAGE`): the bytes are no image, and
--- the caller's number is the offset of the first field that breaks a rule or is cut by the end, or of the first byte past the image. 10 (`MEMORY`): out of memory.
-abbrev pub IsLoaded : List ℕ → ℕ → ℤ → ℕ → Option RunState → Type 0
-IsLoaded bytes before code after None = ((code ≡ pos 21) × IsBroken bytes after) ⊎ ((code ≡ pos 10) × (after ≡ before))
-IsLoaded bytes before code after (Some h) = (code ≡ pos 0) × (after ≡ before) × HoldsImage bytes h
+-- The end of a load of these bytes, with the bound k, into a closed heap. 0: they are an image, and the heap is open with its objects. Else the heap is still closed. 21 (`IMAGE`): the bytes
+-- are no image, and the caller's number is the offset of the first field that breaks a rule or is cut by the end, or of the first byte past the image. 10 (`MEMORY`): out of memory.
+abbrev pub IsLoaded : List ℕ → ℕ → ℕ → ℤ → ℕ → Option RunState → Type 0
+IsLoaded bytes k before code after None = ((code ≡ pos 21) × IsBroken bytes after) ⊎ ((code ≡ pos 10) × (after ≡ before))
+IsLoaded bytes k before code after (Some h) = (code ≡ pos 0) × (after ≡ before) × HoldsImage bytes k h
 
--- A load of these bytes. On a heap that is open already it returns 8 (`OPEN`), and changes nothing.
-abbrev pub IsLoadCall : Option RunState → List ℕ → ℕ → ℤ → ℕ → Option RunState → Type 0
-IsLoadCall None bytes before code after new = IsLoaded bytes before code after new
-IsLoadCall (Some h) bytes before code after new = (code ≡ pos 8) × (after ≡ before) × (new ≡ Some h)
+-- A load of these bytes, with the bound k, into a closed heap. The first argument is whether k is in its range: if not, it returns 13 (`BOUND`), and changes nothing. Else `IsLoaded` holds.
+abbrev pub IsLoadAt : Bool → List ℕ → ℕ → ℕ → ℤ → ℕ → Option RunState → Type 0
+IsLoadAt false bytes k before code after new = (code ≡ pos 13) × (after ≡ before) × (new ≡ None)
+IsLoadAt true bytes k before code after new = IsLoaded bytes k before code after new
 
--- what a load of the image of `s` left: a heap with its settings, but with the bound 1, and its objects by id; or, if out of memory, a closed heap
-abbrev pub IsLoadedAgain : RunState → ℤ → Option RunState → Type 0
-IsLoadedAgain s code None = code ≡ pos 10
-IsLoadedAgain s code (Some h) = (code ≡ pos 0) × (h.heap.profile ≡ at_bound_one s.heap.profile) × (live_objects h ≡ live_objects s)
+-- A load of these bytes, with the bound k. On a heap that is open already it returns 8 (`OPEN`), and changes nothing.
+abbrev pub IsLoadCall : Option RunState → List ℕ → ℕ → ℕ → ℤ → ℕ → Option RunState → Type 0
+IsLoadCall None bytes k before code after new = IsLoadAt (is_within 1 64 k) bytes k before code after new
+IsLoadCall (Some h) bytes k before code after new = (code ≡ pos 8) × (after ≡ before) × (new ≡ Some h)
+
+-- what a load, with the bound k, of the image of `s` left: a heap with its settings, but with the bound k, and its objects by id; or, if out of memory, a closed heap
+abbrev pub IsLoadedAgain : RunState → ℕ → ℤ → Option RunState → Type 0
+IsLoadedAgain s k code None = code ≡ pos 10
+IsLoadedAgain s k code (Some h) = (code ≡ pos 0) × (h.heap.profile ≡ at_bound k s.heap.profile) × (live_objects h ≡ live_objects s)

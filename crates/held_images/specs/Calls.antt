@@ -6,6 +6,7 @@ use Rattle.cf_base.specs.Settings.{Profile}
 use Rattle.cf_base.specs.declared.answers.AccessFault.{AccessFault}
 use Rattle.cf_base.specs.declared.answers.Refusal.{Refusal}
 use Rattle.cf_base.specs.declared.kind.Kind.TheVariants.{Moving}
+use Rattle.cf_base.specs.declared.kind.Layout.TheVariants.{Words}
 use Rattle.cf_model.specs.Steps.{IsReadAnswer, IsRefusedBy, IsWriteStep, ordered_heap}
 use Rattle.c_base.specs.Codes.{access_code, malloc_code}
 use Rattle.c_base.specs.Handles.{none}
@@ -13,11 +14,11 @@ use Rattle.id_table.specs.ById.{bytes_of}
 use Rattle.id_table.specs.Named.{FreesNamed, MakesNamed}
 use Rattle.id_table.specs.Sessions.{RunState, fresh_session}
 use Rattle.heap_image.specs.Decoded.{IsBroken, decoded, whole}
-use Rattle.heap_image.specs.Heaps.{heap_image}
-use Rattle.heap_image.specs.Load.{HoldsObjects}
+use Rattle.heap_image.specs.Heaps.{heap_image, live_objects}
 use Rattle.heap_image.specs.declared.fault.LoadFault.{LoadFault}
 use Rattle.heap_image.specs.declared.fault.LoadFault.TheVariants as fault
 use Rattle.page_model.specs.Held.{Objects}
+use Rattle.page_model.specs.Paging.{first_bounds}
 use Rattle.held_images.specs.State.{IsNamed}
 
 -- a heap that was just opened with the settings p: no id is live
@@ -93,13 +94,18 @@ IsSaveCall old before code after new = (
     ⊎ ((code ≡ pos 5) × (length before.out < length (heap_image old)) × (after ≡ before))
     ) × (new ≡ old)
 
--- these bytes are an image, and the heap has its settings, with the bound 1, and its objects
-pub record HoldsImage (bytes : List ℕ) (new : RunState) : Type 0 where
+-- the settings p, but with the bound k
+abbrev pub at_bound : ℕ → Profile → Profile
+at_bound k p = record p { k = k }
+
+-- these bytes are an image, and the heap has its settings, but with the bound k, and its objects; the bound of each class is k
+pub record HoldsImage (bytes : List ℕ) (k : ℕ) (new : RunState) : Type 0 where
   pub profile : Profile
   pub objects : Objects
   pub reads : decoded bytes ≡ whole profile objects
-  pub holds : HoldsObjects profile objects new
-  pub named : IsNamed profile new
+  pub named : IsNamed (at_bound k profile) new
+  pub bounds : new.heap.bounds ≡ first_bounds (at_bound k profile) Words
+  pub holds : live_objects new ≡ objects
 
 -- why a load of these bytes failed: they are no image, as the field at the offset `at` shows; or out of memory
 abbrev pub IsLoadFault : List ℕ → LoadFault → Type 0

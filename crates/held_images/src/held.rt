@@ -1,6 +1,6 @@
 //! `HeldImages`: an open heap whose objects have ids, for a C library. Each call returns a code, and writes its other results
 //! through references. An id is a number below 65,536. A call that is refused changes nothing.
-ghost use Rattle.std.specs.Prelude.{◌≡◌, IfErr, IfOk, IfSome, IsTrue, length};
+ghost use Rattle.std.specs.Prelude.{◌≡◌, ◌≤◌, IfErr, IfOk, IfSome, IsTrue, length};
 ghost use Rattle.cf_base.specs.Settings.{profile_of};
 ghost use Rattle.heap_image.specs.Decoded.{IsBroken};
 ghost use Rattle.heap_image.specs.Heaps.{heap_image};
@@ -69,10 +69,12 @@ impl HeldImages {
         Box::new(alloc, held).ok()
     }
 
-    /// Opens a heap in a block of its own with the settings and the objects of an image, and with the bound 1. Fails with `Bad` if
+    /// Opens a heap in a block of its own with the settings and the objects of an image, and with the bound `k`. Fails with `Bad` if
     /// the bytes are no image, and with `OutOfMemory`.
-    pub(crate) fn load(memory: Memory, bytes: &[u8]) -> Result<Box<HeldImages>, LoadFault>
-        ensures ok { IfOk result (λ b. HoldsImage bytes.now b.value) }
+    pub(crate) fn load(memory: Memory, bytes: &[u8], k: u32) -> Result<Box<HeldImages>, LoadFault>
+        requires least { 1 ≤ k }
+        requires most { k ≤ 64 }
+        ensures ok { IfOk result (λ b. HoldsImage bytes.now k b.value) }
         ensures err { IfErr result (IsLoadFault bytes.now) }
     {
         let alloc = Global::new(memory);
@@ -85,10 +87,14 @@ impl HeldImages {
             given: 0,
             calls: 0,
         };
-        let settings = match load(&mut source, &mut heap, &mut names) {
+        let mut settings = match load(&mut source, &mut heap, &mut names) {
             Ok(settings) => settings,
             Err(fault) => return Err(fault),
         };
+        // With the bound 1 the load finds out whether the objects fit. Then each class has at most one partly full page, so every
+        // greater bound holds too.
+        heap.set_bounds(k);
+        settings.k = k;
         // For its contract: each live id has 16 bits.
         let _first = names.handle(0);
         let held = HeldImages {

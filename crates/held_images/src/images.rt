@@ -8,7 +8,7 @@ ghost use Rattle.held_images.specs.Images.{open_heap};
 ghost use Rattle.held_images.specs.State.{run_code};
 
 use crate::held::HeldImages;
-use c_base::{DONE, IMAGE, MEMORY, NphNeeded, OPEN, Sealed, Unboxed, of_setting};
+use c_base::{BOUND, DONE, IMAGE, MEMORY, NphNeeded, OPEN, Sealed, Unboxed, of_setting};
 use cf_base::{BytesNeeded, Settings};
 use heap_image::LoadFault;
 use moving_heap::MovingHeap;
@@ -180,16 +180,19 @@ impl NphHeap {
         }
     }
 
-    /// Opens a heap with the settings and the objects of an image, and with the bound 1. Returns `DONE`; else the heap is unchanged, and
-    /// the code is `OPEN` if it is open already, `IMAGE` if the bytes are no image, or `MEMORY`. After `IMAGE`, and only then,
-    /// `offset` is where the bytes break a rule of images.
-    pub fn load(&mut self, memory: Memory, bytes: &[u8], offset: &mut u64) -> i32
-        ensures { IsLoadCall (held_in self.old) bytes.now offset.old result offset.new (held_in self.new) }
+    /// Opens a heap with the settings and the objects of an image, and with the bound `k`. Returns `DONE`; else the heap is unchanged,
+    /// and the code is `OPEN` if it is open already, `BOUND` if `k` isn't 1 to 64, `IMAGE` if the bytes are no image, or `MEMORY`.
+    /// After `IMAGE`, and only then, `offset` is where the bytes break a rule of images.
+    pub fn load(&mut self, memory: Memory, bytes: &[u8], k: u32, offset: &mut u64) -> i32
+        ensures { IsLoadCall (held_in self.old) bytes.now k offset.old result offset.new (held_in self.new) }
     {
         if self.is_open {
             return OPEN;
         }
-        match HeldImages::load(memory, bytes) {
+        if k < 1 || 64 < k {
+            return BOUND;
+        }
+        match HeldImages::load(memory, bytes, k) {
             Ok(heap) => {
                 self.place = HeapBlock::of(heap);
                 self.is_open = true;

@@ -25,12 +25,12 @@ pub fn the_calls_change_the_objects_by_id()
         → (v : List ℕ) × (get (live_objects old) id ≡ Some v) × (after ≡ take (length before) (drop from v)) }
 {}
 
-/// A saved image is loaded again: the new heap has the same settings, but with the bound 1, and the same objects by id. Only memory
-/// can be lacking.
+/// A saved image is loaded again, with any bound k from 1 to 64: the new heap has the same settings, but with the bound k, and the same
+/// objects by id. Only memory can be lacking.
 pub fn a_saved_heap_is_loaded_again()
-    ensures { (p : Profile) (s kept : RunState) (before after : Saved) (offset offset2 : ℕ) (code : ℤ) (new : Option RunState)
-        → IsNamed p s → IsSaveCall s before (pos 0) after kept → IsLoadCall None (image_in after) offset code offset2 new
-        → IsLoadedAgain s code new }
+    ensures { (p : Profile) (s kept : RunState) (before after : Saved) (k offset offset2 : ℕ) (code : ℤ) (new : Option RunState)
+        → IsNamed p s → IsSaveCall s before (pos 0) after kept → 1 ≤ k → k ≤ 64
+        → IsLoadCall None (image_in after) k offset code offset2 new → IsLoadedAgain s k code new }
 {
     live_objects_have_an_image();
     an_image_is_read_back();

@@ -48,17 +48,18 @@ pub extern "C" fn nph_images_bytes_needed(
     NphHeap::bytes_needed(pages, page_bytes, k, proxies, needed)
 }
 
-/// Opens the heap with the settings and the objects of an image (`NphHeap::load`).
+/// Opens the heap with the settings and the objects of an image, and with the bound `k` (`NphHeap::load`).
 #[unsafe(no_mangle)]
 pub extern "C" fn nph_images_load(
     heap: &mut NphHeap,
     memory: Memory,
     bytes: &[u8],
+    k: u32,
     offset: &mut u64,
 ) -> i32
-    ensures { IsLoadCall (held_in heap.old) bytes.now offset.old result offset.new (held_in heap.new) }
+    ensures { IsLoadCall (held_in heap.old) bytes.now k offset.old result offset.new (held_in heap.new) }
 {
-    heap.load(memory, bytes, offset)
+    heap.load(memory, bytes, k, offset)
 }
 
 /// Closes the heap and frees its memory; does nothing if it is closed (`NphHeap::close`).
