@@ -67,7 +67,7 @@ typedef struct nph_nm_heap { void *at; uint32_t last; bool is_open; bool is_lent
 typedef struct nph_tlsf_heap { void *at; uint32_t last; bool is_open; bool is_lent; } nph_tlsf_heap;
 typedef struct nph_sliced_heap { void *at; uint32_t last; bool is_open; bool is_lent; } nph_sliced_heap;
 typedef struct nph_tasks_heap { void *at; uint32_t last; bool is_open; } nph_tasks_heap;
-typedef struct nph_images_heap { void *at; bool is_open; } nph_images_heap;
+typedef struct nph_images_heap { void *at; uint32_t last; bool is_open; } nph_images_heap;
 typedef struct nph_large_heap { void *at; uint32_t last; bool is_open; } nph_large_heap;
 
 /* A closed heap, to initialize or to assign. A static heap is closed without it; with it gcc -pedantic warns. */
@@ -85,7 +85,7 @@ typedef struct nph_large_heap { void *at; uint32_t last; bool is_open; } nph_lar
 #define NPH_TLSF_HEAP (nph_tlsf_heap){ NULL, 0, false, false }
 #define NPH_SLICED_HEAP (nph_sliced_heap){ NULL, 0, false, false }
 #define NPH_TASKS_HEAP (nph_tasks_heap){ NULL, 0, false }
-#define NPH_IMAGES_HEAP (nph_images_heap){ NULL, false }
+#define NPH_IMAGES_HEAP (nph_images_heap){ NULL, 0, false }
 #define NPH_LARGE_HEAP (nph_large_heap){ NULL, 0, false }
 #endif
 

@@ -1,7 +1,8 @@
 -- For the laws on images: the bytes that a save wrote are the heap's image, and a load of them finds its objects.
-use Rattle.std.proofs.Common.{◌≡◌, ◌∙◌, ℕ, ℤ, pos, Option, Some, None, length, take, ap, sym, inl, inr}
+use Rattle.std.proofs.Common.{◌≡◌, ◌∙◌, ℕ, ℤ, pos, Some, None, length, take, ap, sym, inl, inr}
 use Rattle.std.proofs.Math.Seq.{take-append_seam}
 use Rattle.cf_base.specs.Settings.{Profile, at_bound_one}
+use Rattle.c_base.specs.CallerHeap.{CallerHeap, Closed, Opened, Lent}
 use Rattle.page_model.specs.Held.{Objects}
 use Rattle.id_table.specs.ById.{bytes_of}
 use Rattle.id_table.specs.Sessions.{AreTied, RunState}
@@ -19,16 +20,17 @@ saved_is s kept before after (inr (code, less, same_out), same) = absurd (let z 
 parts_of : (p q : Profile) (a b : Objects) → whole p a ≡ whole q b → (p ≡ q) × (a ≡ b)
 parts_of p q a b same = (let z : Some p ≡ Some q = ap (λ (d : Decoded). d.settings) same in cc, ap (λ (d : Decoded). d.objects) same)
 
-pub loaded_again : (p : Profile) (s kept : RunState) (before after : Saved) (offset offset2 : ℕ) (code : ℤ) (new : Option RunState)
+pub loaded_again : (p : Profile) (s kept : RunState) (before after : Saved) (last offset offset2 : ℕ) (code : ℤ) (new : CallerHeap RunState)
     → decoded (heap_image s) ≡ whole (at_bound_one s.heap.profile) (live_objects s) → IsSaveCall s before (pos 0) after kept
-    → IsLoadCall None (image_in after) offset code offset2 new → IsLoadedAgain s code new
-loaded_again p s kept before after offset offset2 code (Some h) reads saved loaded =
+    → IsLoadCall (Closed last) (image_in after) offset code offset2 new → IsLoadedAgain s code new
+loaded_again p s kept before after last offset offset2 code (Opened h) reads saved loaded =
     let image = loaded.2 in
     let same = parts_of _ _ _ _ (sym image.reads ∙ ap decoded (saved_is s kept before after saved) ∙ reads) in
     (loaded.0, image.holds.profile ∙ same.0, image.holds.objects ∙ same.1)
-loaded_again p s kept before after offset offset2 code None reads saved (inl (bad, broken)) =
+loaded_again p s kept before after last offset offset2 code (Closed now) reads saved (inl (bad, broken), same) =
     absurd (let z : None ≡ Some offset2 = sym (ap (λ (d : Decoded). d.broken) (ap decoded (saved_is s kept before after saved) ∙ reads)) ∙ broken in cc)
-loaded_again p s kept before after offset offset2 code None reads saved (inr (lacks, same)) = lacks
+loaded_again p s kept before after last offset offset2 code (Closed now) reads saved (inr (lacks, kept_is), same) = lacks
+loaded_again p s kept before after last offset offset2 code (Lent h w) reads saved loaded = loaded
 
 pub one_image : ((one other : RunState) → AreTied one.session one.heap → AreTied other.session other.heap → other.heap.profile.pages ≡ one.heap.profile.pages
     → other.heap.profile.page_words ≡ one.heap.profile.page_words → other.heap.profile.proxies ≡ one.heap.profile.proxies

@@ -1,8 +1,9 @@
 //! What the contracts of `HeldImages` and `NphHeap` imply: the calls by the objects under their ids, and the way of a heap through its
 //! image. The functions do nothing; each contract is a law.
-ghost use Rattle.std.specs.Prelude.{◌≡◌, ◌+◌, ◌≤◌, ℕ, ℤ, pos, List, None, Option, Some, drop, length, replicate, take};
+ghost use Rattle.std.specs.Prelude.{◌≡◌, ℕ, ℤ, pos, List, Some, drop, length, replicate, take};
 ghost use Rattle.std.specs.FinMap.{get, insert, remove};
 ghost use Rattle.cf_base.specs.Settings.{Profile, at_bound_one};
+ghost use Rattle.c_base.specs.CallerHeap.{CallerHeap, Closed};
 ghost use Rattle.heap_image.specs.Heaps.{live_objects};
 ghost use Rattle.id_table.specs.ById.{bytes_of};
 ghost use Rattle.id_table.specs.Sessions.{RunState};
@@ -28,8 +29,8 @@ pub fn the_calls_change_the_objects_by_id()
 /// A saved image is loaded again: the new heap has the same settings, but with the bound 1, and the same objects by id. Only memory
 /// can be lacking.
 pub fn a_saved_heap_is_loaded_again()
-    ensures { (p : Profile) (s kept : RunState) (before after : Saved) (offset offset2 : ℕ) (code : ℤ) (new : Option RunState)
-        → IsNamed p s → IsSaveCall s before (pos 0) after kept → IsLoadCall None (image_in after) offset code offset2 new
+    ensures { (p : Profile) (s kept : RunState) (before after : Saved) (last offset offset2 : ℕ) (code : ℤ) (new : CallerHeap RunState)
+        → IsNamed p s → IsSaveCall s before (pos 0) after kept → IsLoadCall (Closed last) (image_in after) offset code offset2 new
         → IsLoadedAgain s code new }
 {
     live_objects_have_an_image();
