@@ -7,8 +7,6 @@ use Rattle.std.proofs.lemmas.Nat.{div-add-mod', mod_below, mul-le}
 use Rattle.std.proofs.Math.Nat.{le-max_left, le-max_right, mod-eq_of_lt}
 use Rattle.std.proofs.lemmas.List.{get_or-set_same, get_or-set_other}
 use Rattle.std.proofs.lemmas.List.FromFn.{get_or-range_with_len}
-use Rattle.cf_base.specs.declared.answers.Freed.{Freed}
-use Rattle.cf_base.specs.declared.answers.NotLive.{NotLive}
 use Rattle.c_base.specs.HandleRules.{AreFirstHandles, AreHandles, IsCount, IsHandleOf}
 use Rattle.c_base.specs.Handles.{base_of, handle_of, largest, next, none, number_in, raised, raised_by}
 use Rattle.c_base.proofs.Generations.{generations_whole, length-raised, named, next_is}
@@ -43,11 +41,11 @@ raised_handles handles m k low = record {
       | inr other ↦ subst (IsHandleOf (length handles) n) (sym (get_or-set_other handles m n (next (length handles) (slice_index handles m)) 0 other)) (k.each n within)
     ]
 
-pub raised_by_handles : (handles : List ℕ) (handle : ℕ) (r : Result Freed NotLive) → AreHandles handles → 0 < length handles → AreHandles (raised_by handles handle r)
+pub raised_by_handles : {T E : Type 0} (handles : List ℕ) (handle : ℕ) (r : Result T E) → AreHandles handles → 0 < length handles → AreHandles (raised_by handles handle r)
 raised_by_handles handles handle (Ok f) k some = raised_handles handles (handle % length handles) k (mod_below handle (length handles) some)
 raised_by_handles handles handle (Err e) k some = k
 
-pub length-raised_by : (handles : List ℕ) (handle : ℕ) (r : Result Freed NotLive) → length (raised_by handles handle r) ≡ length handles
+pub length-raised_by : {T E : Type 0} (handles : List ℕ) (handle : ℕ) (r : Result T E) → length (raised_by handles handle r) ≡ length handles
 length-raised_by handles handle (Ok f) = length-raised handles (handle % length handles)
 length-raised_by handles handle (Err e) = refl
 

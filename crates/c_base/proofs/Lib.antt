@@ -5,6 +5,7 @@ pub mod WholeWords
 pub mod Loans
 pub mod Again
 pub mod Crosses
+pub mod Inner
 pub mod Generations
 pub mod HandleLaws
 pub mod CallerLemmas

@@ -1,7 +1,6 @@
 -- The codes that a call returns to C, by the result of the manager's call. `codes.rt` gives each number a name.
 use Rattle.std.specs.Prelude.{ℤ, pos, Result, Ok, Err}
 use Rattle.cf_base.specs.declared.answers.Handle.{Handle}
-use Rattle.cf_base.specs.declared.answers.Freed.{Freed}
 use Rattle.cf_base.specs.declared.answers.NotLive.{NotLive}
 use Rattle.cf_base.specs.declared.answers.Refusal.{Refusal}
 use Rattle.cf_base.specs.declared.answers.Refusal.TheVariants as refusal
@@ -21,8 +20,8 @@ malloc_code (Err refusal.Proxy) = pos 2
 malloc_code (Err refusal.Space) = pos 3
 
 -- the code of a free with this result
-abbrev pub free_code : Result Freed NotLive → ℤ
-free_code (Ok freed) = pos 0
+abbrev pub free_code : {T : Type 0} → Result T NotLive → ℤ
+free_code (Ok u) = pos 0
 free_code (Err e) = pos 4
 
 -- the code of a read or a write with this result

@@ -2,9 +2,7 @@
 -- the others its generation.
 use Rattle.std.specs.Prelude.{ℕ, ◌+◌, ◌-◌, ◌*◌, ◌%◌, ◌^◌, List, Option, Some, None, Result, Ok, Err, cond, length, max, nat_eq, nat_lt, slice_index, slice_set}
 use Rattle.std.specs.List.{fold, range_with_len}
-use Rattle.cf_base.specs.declared.answers.Freed.{Freed}
 use Rattle.cf_base.specs.declared.answers.Handle.{Handle}
-use Rattle.cf_base.specs.declared.answers.NotLive.{NotLive}
 
 -- in place of a handle or a number: there is none. It is larger than each of both
 abbrev pub none : ℕ
@@ -27,8 +25,8 @@ abbrev pub raised : List ℕ → ℕ → List ℕ
 raised handles number = slice_set handles number (next (length handles) (slice_index handles number))
 
 -- the handles after a free with this result of what `handle` names: only a free that succeeds raises one
-abbrev pub raised_by : List ℕ → ℕ → Result Freed NotLive → List ℕ
-raised_by handles handle (Ok f) = raised handles (handle % length handles)
+abbrev pub raised_by : {T E : Type 0} → List ℕ → ℕ → Result T E → List ℕ
+raised_by handles handle (Ok u) = raised handles (handle % length handles)
 raised_by handles handle (Err e) = handles
 
 -- the handle of the object that moved, as C gets it; `none` if none did

@@ -7,9 +7,10 @@ pub mod Borrow
 pub mod CallerHeap
 pub mod AtPlace
 pub mod Place
+pub mod Opening
+pub mod ClosablePlace
 pub mod Lending
 pub mod Lent
 pub mod Needed
 pub mod Version
-pub mod PlainHeap
 pub mod Shown

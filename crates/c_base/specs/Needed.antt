@@ -10,8 +10,12 @@ use Rattle.c_base.specs.declared.answers.NphNeeded.{NphNeeded}
 abbrev pub shown_bytes : BytesNeeded → NphNeeded
 shown_bytes b = record { total = b.total; largest = b.largest; blocks = b.blocks }
 
+-- what a heap needs, where `bytes` takes the count of its handles: the least power of two that is not below `proxies`
+abbrev pub IsOfHandles : ℕ → (ℕ → BytesNeeded) → BytesNeeded → Type 0
+IsOfHandles proxies bytes needed = (count : ℕ) × IsNextPowerOfTwo proxies count × (needed ≡ bytes count)
+
 -- A call for the memory of a heap. The first argument is the first setting out of range: its code is returned, and the caller's numbers stay. If it is `None`
--- the code is 0, and the numbers are those of `bytes`, which takes the count of the handles: the least power of two that is not below `proxies`.
-abbrev pub AreNeededBy : Option SettingFault → ℕ → (ℕ → BytesNeeded) → ℤ → NphNeeded → NphNeeded → Type 0
-AreNeededBy (Some e) proxies bytes code before after = (code ≡ fault_code e) × (after ≡ before)
-AreNeededBy None proxies bytes code before after = (code ≡ pos 0) × (count : ℕ) × IsNextPowerOfTwo proxies count × (after ≡ shown_bytes (bytes count))
+-- the code is 0, and the numbers are those of `needed`, what the heap needs.
+abbrev pub AreNeeded : Option SettingFault → (BytesNeeded → Type 0) → ℤ → NphNeeded → NphNeeded → Type 0
+AreNeeded (Some e) needs code before after = (code ≡ fault_code e) × (after ≡ before)
+AreNeeded None needs code before after = (code ≡ pos 0) × (needed : BytesNeeded) × needs needed × (after ≡ shown_bytes needed)

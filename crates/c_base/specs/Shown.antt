@@ -1,17 +1,24 @@
 -- What a caller in C gets of a result: the code that a call returns, and the number or structure that it writes. `before` is what the caller had before the call.
 use Rattle.std.specs.Prelude.{ℕ, ℤ, pos, List, Option, Some, None, Result, Ok, Err}
 use Rattle.cf_base.specs.declared.answers.Figures.{Figures}
+use Rattle.cf_base.specs.declared.answers.Freed.{Freed}
 use Rattle.cf_base.specs.declared.answers.Handle.{Handle}
-use Rattle.cf_base.specs.declared.answers.Refusal.{Refusal}
+use Rattle.cf_base.specs.declared.answers.NotLive.{NotLive}
 use Rattle.cf_base.specs.declared.answers.Totals.{Totals}
-use Rattle.c_base.specs.Handles.{handle_of}
+use Rattle.c_base.specs.Handles.{handle_of, moved_handle}
 use Rattle.c_base.specs.declared.answers.NphClass.{NphClass}
+use Rattle.c_base.specs.declared.answers.NphFreed.{NphFreed}
 use Rattle.c_base.specs.declared.answers.NphHeapTotals.{NphHeapTotals}
 
 -- the caller's number after a malloc: the new handle, or after a refusal the number before the call
-abbrev pub malloc_number : List ℕ → ℕ → Result Handle Refusal → ℕ
+abbrev pub malloc_number : {E : Type 0} → List ℕ → ℕ → Result Handle E → ℕ
 malloc_number handles before (Ok h) = handle_of handles h.0
 malloc_number handles before (Err e) = before
+
+-- the caller's structure after a free with this result: what was freed and moved, or after a refusal the structure before the call
+abbrev pub freed_shown : List ℕ → NphFreed → Result Freed NotLive → NphFreed
+freed_shown handles before (Ok f) = record { slot_words = f.slot_words; moved = moved_handle handles f.moved }
+freed_shown handles before (Err e) = before
 
 -- the code of a call for what there may be: 0, or 4 (`UNKNOWN`) if there is none
 abbrev pub found_code : {T : Type 0} → Option T → ℤ
@@ -23,9 +30,13 @@ abbrev pub found_number : Option ℕ → ℕ → ℕ
 found_number (Some n) before = n
 found_number None before = before
 
+-- the figures of a class, as C gets them
+abbrev pub class_shown : Figures → NphClass
+class_shown f = record { slot_words = f.slot_words; slots = f.slots; live = f.live; pages = f.pages; not_full = f.not_full }
+
 -- the caller's structure after a call for the figures of a class; unchanged if there is no such class
 abbrev pub figures_shown : Option Figures → NphClass → NphClass
-figures_shown (Some f) before = record { slot_words = f.slot_words; slots = f.slots; live = f.live; pages = f.pages; not_full = f.not_full }
+figures_shown (Some f) before = class_shown f
 figures_shown None before = before
 
 -- the caller's structure after a call for the figures of the whole heap

@@ -1,5 +1,9 @@
 //! The structures into which calls write their results for a caller in C: the memory that a heap needs, the result of a
 //! free, of a resize, the figures of a class and of the heap. The header `norphuen.h` declares the same types.
+ghost use Rattle.std.specs.Prelude.{◌≡◌};
+ghost use Rattle.c_base.specs.Shown.{class_shown, totals_shown};
+
+use cf_base::{Figures, Totals};
 
 /// What `nph_open` asks of the three functions that take and return memory: the bytes of all blocks (`total`) and of
 /// the largest (`largest`), and how many blocks there are.
@@ -42,6 +46,21 @@ pub struct NphClass {
     pub not_full: u32,
 }
 
+impl NphClass {
+    /// These figures.
+    pub fn of(f: Figures) -> NphClass
+        ensures { result ≡ class_shown f }
+    {
+        NphClass {
+            slot_words: f.slot_words,
+            slots: f.slots,
+            live: f.live,
+            pages: f.pages,
+            not_full: f.not_full,
+        }
+    }
+}
+
 /// The figures of the whole heap. In bytes: what the live objects asked for, what their slots or blocks take,
 /// and what the pages in use (with blocks, the region) hold. Then counts: live objects, and the pages or
 /// blocks in use and free. `largest` is the words of the largest free page or block.
@@ -55,6 +74,23 @@ pub struct NphHeapTotals {
     pub used: u32,
     pub free: u32,
     pub largest: u32,
+}
+
+impl NphHeapTotals {
+    /// These figures.
+    pub fn of(all: Totals) -> NphHeapTotals
+        ensures { result ≡ totals_shown all }
+    {
+        NphHeapTotals {
+            asked: all.asked,
+            taken: all.taken,
+            held: all.held,
+            live: all.live,
+            used: all.used,
+            free: all.free,
+            largest: all.largest,
+        }
+    }
 }
 
 /// What a heap counts from its opening on. `most_asked` is the most bytes that its live objects asked for after a malloc or a

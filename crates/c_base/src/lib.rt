@@ -4,6 +4,7 @@
 
 mod answers;
 mod block;
+mod closable;
 mod codes;
 mod handles;
 mod heap;
@@ -15,6 +16,7 @@ mod unboxed;
 
 pub use answers::{NphClass, NphCounted, NphFreed, NphHeapTotals, NphNeeded, NphResized};
 pub use block::HeapBlock;
+pub use closable::{ClosableHeap, Openable};
 pub use codes::{
     BOUND, BUSY, CLOSED, DONE, ENTRIES, IMAGE, KIND, LENT, LIVE, MEMORY, NONE, NOT_LENT, OPEN,
     PAGE_BYTES, PAGES, PROXIES, PROXY, QUANTUM, RANGE, REGION, SIZE, SPACE, UNKNOWN, VERSION,

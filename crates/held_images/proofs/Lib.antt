@@ -1,4 +1,3 @@
-pub mod Places
 pub mod Sent
 mod Naming
 mod Lengths

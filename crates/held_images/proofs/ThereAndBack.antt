@@ -1,8 +1,9 @@
 -- For the laws on images: the bytes that a save wrote are the heap's image, and a load of them finds its objects.
-use Rattle.std.proofs.Common.{◌≡◌, ◌∙◌, ◌≤◌, ℕ, ℤ, pos, true, Option, Some, None, length, take, ap, subst, sym, inl, inr}
+use Rattle.std.proofs.Common.{◌≡◌, ◌∙◌, ◌≤◌, ℕ, ℤ, pos, true, Some, None, length, take, ap, subst, sym, inl, inr}
 use Rattle.std.proofs.Math.Seq.{take-append_seam}
 use Rattle.cf_base.specs.Settings.{Profile, at_bound_one}
 use Rattle.cf_base.proofs.CallerLemmas.{within_limits}
+use Rattle.c_base.specs.CallerHeap.{CallerHeap, Closed, Opened, Lent}
 use Rattle.page_model.specs.Held.{Objects}
 use Rattle.id_table.specs.ById.{bytes_of}
 use Rattle.id_table.specs.Sessions.{AreTied, RunState}
@@ -20,22 +21,23 @@ saved_is s kept before after (inr (code, less, same_out), same) = absurd (let z 
 parts_of : (p q : Profile) (a b : Objects) → whole p a ≡ whole q b → (p ≡ q) × (a ≡ b)
 parts_of p q a b same = (let z : Some p ≡ Some q = ap (λ (d : Decoded). d.settings) same in cc, ap (λ (d : Decoded). d.objects) same)
 
-pub loaded_again : (s kept : RunState) (before after : Saved) (k offset offset2 : ℕ) (code : ℤ) (new : Option RunState)
+pub loaded_again : (p : Profile) (s kept : RunState) (before after : Saved) (last k offset offset2 : ℕ) (code : ℤ) (new : CallerHeap RunState)
     → decoded (heap_image s) ≡ whole (at_bound_one s.heap.profile) (live_objects s) → IsSaveCall s before (pos 0) after kept → 1 ≤ k → k ≤ 64
-    → IsLoadCall None (image_in after) k offset code offset2 new → IsLoadedAgain s k code new
-loaded_again s kept before after k offset offset2 code new reads saved least most loaded =
-    go new (subst (λ b. IsLoadAt b (image_in after) k offset code offset2 new) (within_limits 1 64 k least most) loaded)
+    → IsLoadCall (Closed last) (image_in after) k offset code offset2 new → IsLoadedAgain s k code new
+loaded_again p s kept before after last k offset offset2 code new reads saved least most loaded =
+    go new (subst (λ b. IsLoadAt b last (image_in after) k offset code offset2 new) (within_limits 1 64 k least most) loaded)
   where
     shown : decoded (image_in after) ≡ whole (at_bound_one s.heap.profile) (live_objects s)
     shown = ap decoded (saved_is s kept before after saved) ∙ reads
 
-    go : (new : Option RunState) → IsLoaded (image_in after) k offset code offset2 new → IsLoadedAgain s k code new
-    go (Some h) loaded =
+    go : (new : CallerHeap RunState) → IsLoaded (image_in after) last k offset code offset2 new → IsLoadedAgain s k code new
+    go (Opened h) loaded =
         let image = loaded.2 in
         let same = parts_of _ _ _ _ (sym image.reads ∙ shown) in
         (loaded.0, image.named.profile ∙ ap (at_bound k) same.0, image.holds ∙ same.1)
-    go None (inl (bad, broken)) = absurd (let z : None ≡ Some offset2 = sym (ap (λ (d : Decoded). d.broken) shown) ∙ broken in cc)
-    go None (inr (lacks, same)) = lacks
+    go (Closed now) (inl (bad, broken), same) = absurd (let z : None ≡ Some offset2 = sym (ap (λ (d : Decoded). d.broken) shown) ∙ broken in cc)
+    go (Closed now) (inr (lacks, kept_is), same) = lacks
+    go (Lent h w) loaded = loaded
 
 pub one_image : ((one other : RunState) → AreTied one.session one.heap → AreTied other.session other.heap → other.heap.profile.pages ≡ one.heap.profile.pages
     → other.heap.profile.page_words ≡ one.heap.profile.page_words → other.heap.profile.proxies ≡ one.heap.profile.proxies

@@ -1,8 +1,6 @@
 pub mod State
 pub mod Calls
-pub mod CallerImages
 pub mod Needed
-pub mod Images
-pub mod Loan
+pub mod CallerImages
 pub mod Place
 pub mod Slices

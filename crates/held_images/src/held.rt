@@ -1,26 +1,34 @@
 //! `HeldImages`: an open heap whose objects have ids, for a C library. Each call returns a code, and writes its other results
 //! through references. An id is a number below 65,536. A call that is refused changes nothing.
-ghost use Rattle.std.specs.Prelude.{◌≡◌, ◌≤◌, IfErr, IfOk, IfSome, IsTrue, length};
-ghost use Rattle.cf_base.specs.Settings.{profile_of};
-ghost use Rattle.heap_image.specs.Decoded.{IsBroken};
+ghost use Rattle.std.specs.Prelude.{◌≡◌, ◌≤◌, IfErr, IfOk, length};
 ghost use Rattle.heap_image.specs.Heaps.{heap_image};
 ghost use Rattle.std.specs.FinMap as map;
-ghost use Rattle.held_images.specs.Calls.{HoldsImage, IsFreeCall, IsFreshRun, IsImageBytesCall, IsLengthCall, IsLoadFault, IsMakeCall, IsReadCall, IsSaveCall, IsWriteCall, number_by};
+ghost use Rattle.held_images.specs.CallerImages.{images_opening};
+ghost use Rattle.held_images.specs.Calls.{HoldsImage, IsFreeCall, IsImageBytesCall, IsLengthCall, IsLoadFault, IsMakeCall, IsReadCall, IsSaveCall, IsWriteCall, number_by};
 
 use crate::slices::{SliceSink, SliceSource};
-use c_base::{DONE, LIVE, NONE, RANGE, UNKNOWN, of_access, of_refusal};
-use cf_base::{Handle, Settings};
+use c_base::{DONE, LIVE, NONE, Openable, RANGE, UNKNOWN, of_access, of_refusal};
+use cf_base::{BytesNeeded, Handle, Settings};
 use cf_model::Manager;
 use heap_image::{LoadFault, Names, live_objects_have_an_image, load, save};
 use id_table::Namer;
 use moving_heap::MovingHeap;
 use std::alloc::Global;
 use std::marker::Model;
+use std::mem::size_of;
 use std::rt::Memory;
 use step_ledger::Meter;
 
 /// How many ids there are.
 const IDS: u32 = 65_536;
+
+/// The bytes of the table of ids.
+const IDS_BYTES: u64 = 524_288;
+
+/// The bytes of the block of an open heap.
+const HELD_BYTES: u64 = 1512;
+
+const _: () = prove!(size_of::<HeldImages>() == 1512);
 
 /// An open heap, the ids of its objects, and its settings. Each call counts its steps on a ledger of its own that it makes from
 /// `memory`.
@@ -46,11 +54,16 @@ impl Model for HeldImages {
     ghost invariant = { λ h. IsNamed (profile_of h.settings) (run_at h.names h.heap.state) };
 }
 
-impl HeldImages {
-    /// Opens a heap in a block of its own, in which no id is live. Returns `None` if out of memory.
-    pub(crate) fn open(memory: Memory, s: &Settings) -> Option<Box<HeldImages>>
-        ensures { IfSome result (λ b. IsFreshRun (profile_of s.now) b.value) }
-    {
+impl Openable for HeldImages {
+    ghost opening = { images_opening };
+
+    fn bytes_needed(s: &Settings) -> BytesNeeded {
+        let own = BytesNeeded::block(IDS_BYTES).and(BytesNeeded::block(HELD_BYTES));
+        MovingHeap::bytes_needed(s).and(own)
+    }
+
+    /// Opens a heap in which no id is live.
+    fn open(memory: Memory, s: &Settings, _last: u32) -> Option<Box<HeldImages, Global>> {
         let alloc = Global::new(memory);
         let Ok(names) = Names::new(memory, alloc) else {
             return None;
@@ -69,6 +82,13 @@ impl HeldImages {
         Box::new(alloc, held).ok()
     }
 
+    /// 0: objects have no handles.
+    fn last(&self) -> u32 {
+        0
+    }
+}
+
+impl HeldImages {
     /// Opens a heap in a block of its own with the settings and the objects of an image, and with the bound `k`. Fails with `Bad` if
     /// the bytes are no image, and with `OutOfMemory`.
     pub(crate) fn load(memory: Memory, bytes: &[u8], k: u32) -> Result<Box<HeldImages>, LoadFault>

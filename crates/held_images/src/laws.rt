@@ -1,8 +1,9 @@
 //! What the contracts of `HeldImages` and `NphHeap` imply: the calls by the objects under their ids, and the way of a heap through its
 //! image. The functions do nothing; each contract is a law.
-ghost use Rattle.std.specs.Prelude.{◌≡◌, ◌+◌, ◌≤◌, ℕ, ℤ, pos, List, None, Option, Some, drop, length, replicate, take};
+ghost use Rattle.std.specs.Prelude.{◌≡◌, ◌≤◌, ℕ, ℤ, pos, List, Some, drop, length, replicate, take};
 ghost use Rattle.std.specs.FinMap.{get, insert, remove};
 ghost use Rattle.cf_base.specs.Settings.{Profile, at_bound_one};
+ghost use Rattle.c_base.specs.CallerHeap.{CallerHeap, Closed};
 ghost use Rattle.heap_image.specs.Heaps.{live_objects};
 ghost use Rattle.id_table.specs.ById.{bytes_of};
 ghost use Rattle.id_table.specs.Sessions.{RunState};
@@ -28,9 +29,9 @@ pub fn the_calls_change_the_objects_by_id()
 /// A saved image is loaded again, with any bound k from 1 to 64: the new heap has the same settings, but with the bound k, and the same
 /// objects by id. Only memory can be lacking.
 pub fn a_saved_heap_is_loaded_again()
-    ensures { (p : Profile) (s kept : RunState) (before after : Saved) (k offset offset2 : ℕ) (code : ℤ) (new : Option RunState)
+    ensures { (p : Profile) (s kept : RunState) (before after : Saved) (last k offset offset2 : ℕ) (code : ℤ) (new : CallerHeap RunState)
         → IsNamed p s → IsSaveCall s before (pos 0) after kept → 1 ≤ k → k ≤ 64
-        → IsLoadCall None (image_in after) k offset code offset2 new → IsLoadedAgain s k code new }
+        → IsLoadCall (Closed last) (image_in after) k offset code offset2 new → IsLoadedAgain s k code new }
 {
     live_objects_have_an_image();
     an_image_is_read_back();

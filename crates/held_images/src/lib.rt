@@ -6,3 +6,5 @@ mod held;
 pub mod images;
 pub mod laws;
 mod slices;
+
+pub use held::HeldImages;

@@ -5,8 +5,9 @@ use Rattle.cf_base.specs.declared.answers.NotLive.{NotLive}
 use Rattle.large_objects.specs.LargeCosts.{first_count, large_free_steps, moving_costs}
 use Rattle.large_objects.specs.LargeSteps.{IsLargeFree, StaysKept}
 use Rattle.step_ledger.specs.Counting.{RoseAtMost}
-use Rattle.c_base.specs.Handles.{number_in}
-use Rattle.held_large.specs.Calls.{IsFreeCall, free_code, raised_by}
+use Rattle.c_base.specs.Codes.{free_code}
+use Rattle.c_base.specs.Handles.{number_in, raised_by}
+use Rattle.held_large.specs.Calls.{IsFreeCall}
 use Rattle.held_large.specs.HeldState.{HeldState}
 
 -- `old` is seen as `mid`; `begun` is the count of the meter when the heap's own free began, `count` when it ended

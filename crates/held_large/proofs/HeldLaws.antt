@@ -1,8 +1,7 @@
 -- For `laws`: each call keeps the rules of the handles; a malloc's handle is new; one that names no object is refused; a read gives what was written.
-use Rattle.std.proofs.Common.{◌≡◌, ℕ, ℤ, pos, ◌%◌, ◌<◌, ◌≤◌, List, length, Some, None, Ok, Err, arith, refl, sym, ◌∙◌, ap, subst, inl, inr}
+use Rattle.std.proofs.Common.{◌≡◌, ℕ, ℤ, pos, ◌<◌, ◌≤◌, List, length, Some, None, Ok, Err, arith, refl, sym, ◌∙◌, ap, subst, inl, inr}
 use Rattle.std.specs.Prelude.{Option, Result, option_map, replicate}
 use Rattle.std.specs.FinMap.{get}
-use Rattle.std.proofs.Math.Nat.{mod-lt}
 use Rattle.std.proofs.lemmas.Bool.{cases_lt}
 use Rattle.std.proofs.lemmas.Option.{same_Some}
 use Rattle.cf_lemmas.proofs.Maps.{get_inserted}
@@ -21,13 +20,12 @@ use Rattle.page_model.proofs.CallerLemmas.{held_of_bytes, length-written}
 use Rattle.large_objects.specs.Large.{KeepsParts, LargeState}
 use Rattle.large_objects.specs.LargeSteps.{IsLargeFree, IsLargeMalloc, IsLargeRead, IsLargeWrite, ReadsLarge, WritesLarge, part_bytes_in}
 use Rattle.large_objects.proofs.ObjectLaws.{read_back}
-use Rattle.c_base.specs.Codes.{access_code, malloc_code}
-use Rattle.c_base.specs.Handles.{none, number_in}
+use Rattle.c_base.specs.Codes.{access_code, free_code, malloc_code}
+use Rattle.c_base.specs.Handles.{none, number_in, raised_by}
 use Rattle.c_base.specs.Shown.{found_code, found_number, malloc_number}
 use Rattle.c_base.specs.HandleRules.{AreHandles}
-use Rattle.c_base.proofs.Generations.{handle_small, length-raised, names_itself}
-use Rattle.c_base.proofs.HandleLaws.{first_are_handles, raised_handles}
-use Rattle.held_large.specs.Calls.{IsFreeCall, IsFreshHeap, IsLengthCall, IsMallocCall, IsReadCall, IsWriteCall, free_code, place_in, raised_by}
+use Rattle.c_base.proofs.CallerLemmas.{first_are_handles, handle_small, length-raised_by, names_itself, raised_by_handles}
+use Rattle.held_large.specs.Calls.{IsFreeCall, IsFreshHeap, IsLengthCall, IsMallocCall, IsReadCall, IsWriteCall, place_in}
 use Rattle.held_large.specs.HandleRules.{IsNewHandle, KeepsHandles}
 use Rattle.held_large.specs.HeldState.{HeldState}
 
@@ -68,20 +66,13 @@ pub others_keep : (old new : HeldState) → new.heap ≡ old.heap → new.handle
 others_keep old new kept same k = keeps old new (subst KeepsParts (sym kept) k.rules) (ap (λ (s : LargeState). s.inner.profile) kept) same k
 
 pub free_keeps : (old new : HeldState) (handle : ℕ) (code : ℤ) → IsFreeCall old handle code new → KeepsHandles old → KeepsHandles new
-free_keeps old new handle code c k = by_answer c.answer c.raises
-  where
-    by_answer : (r : Result (Unit {0}) NotLive) → new.handles ≡ raised_by old.handles handle r → KeepsHandles new
-    by_answer (Err e) raises = keeps old new c.kept.parts c.kept.stays.inner.profile raises k
-    by_answer (Ok u) raises =
-        let some : 0 < length old.handles = (let s = k.handles.count.some in omega arith) in
-        let below : handle % length old.handles < length old.handles = mod-lt handle some in
-        record {
-          rules = c.kept.parts;
-          handles = subst AreHandles (sym raises) (raised_handles old.handles (handle % length old.handles) k.handles below);
-          enough = (
-              let e = ap length raises ∙ length-raised old.handles (handle % length old.handles) in
-              let p = ap (λ (p : Profile). p.proxies) c.kept.stays.inner.profile in let m = k.enough in omega arith);
-        }
+free_keeps old new handle code c k = record {
+  rules = c.kept.parts;
+  handles = subst AreHandles (sym c.raises) (raised_by_handles old.handles handle c.answer k.handles (let some = k.handles.count.some in omega arith));
+  enough = (
+      let e = ap length c.raises ∙ length-raised_by old.handles handle c.answer in let p = ap (λ (p : Profile). p.proxies) c.kept.stays.inner.profile in
+      let m = k.enough in omega arith);
+}
 
 pub fresh_keeps : (p : Profile) (last : ℕ) (new : HeldState) → IsFreshHeap p last new → KeepsHandles new
 fresh_keeps p last new fresh =

@@ -1,5 +1,4 @@
 pub mod Sent
-pub mod NeededCall
 pub mod Fresh
 pub mod Frees
 pub mod HeldLaws

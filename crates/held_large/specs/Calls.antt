@@ -1,6 +1,6 @@
 -- For `Held`: what each call of a C library does to an open heap of long objects with its step count (`old`, `new`) and to the caller's number, structure or
 -- buffer (`before`, `after`), and the `code` that it returns. `answer` is the result of the heap's own call, whose steps, counted from 0, are `new.steps`.
-use Rattle.std.specs.Prelude.{◌≡◌, ℕ, ◌%◌, ℤ, pos, true, List, Option, Result, Ok, Err, length, option_map}
+use Rattle.std.specs.Prelude.{◌≡◌, ℕ, ℤ, pos, true, List, Option, Result, length, option_map}
 use Rattle.std.specs.FinMap.{empty, get}
 use Rattle.cf_base.specs.Settings.{Profile}
 use Rattle.cf_base.specs.declared.answers.AccessFault.{AccessFault}
@@ -14,9 +14,9 @@ use Rattle.large_objects.specs.Large.{KeepsParts, LargeState}
 use Rattle.large_objects.specs.LargeCosts.{large_access_steps, large_free_steps, large_malloc_steps, moving_costs}
 use Rattle.large_objects.specs.LargeSteps.{IsLargeFree, IsLargeMalloc, IsLargeRead, IsLargeWrite, StaysKept}
 use Rattle.step_ledger.specs.Counting.{RoseAtMost}
-use Rattle.c_base.specs.Codes.{access_code, malloc_code}
+use Rattle.c_base.specs.Codes.{access_code, free_code, malloc_code}
 use Rattle.c_base.specs.HandleRules.{AreFirstHandles}
-use Rattle.c_base.specs.Handles.{number_in, raised}
+use Rattle.c_base.specs.Handles.{number_in, raised_by}
 use Rattle.c_base.specs.Shown.{figures_shown, found_code, found_number, malloc_number, totals_shown}
 use Rattle.c_base.specs.declared.answers.NphClass.{NphClass}
 use Rattle.c_base.specs.declared.answers.NphHeapTotals.{NphHeapTotals}
@@ -42,16 +42,6 @@ pub record IsMallocCall (old : HeldState) (bytes before : ℕ) (code : ℤ) (aft
   pub kept : StaysKept old.heap new.heap
   pub bound : RoseAtMost 0 new.steps (large_malloc_steps moving_costs old.heap bytes answer)
   pub same : new.handles ≡ old.handles
-
--- the code of a free with this result
-abbrev pub free_code : Result (Unit {0}) NotLive → ℤ
-free_code (Ok u) = pos 0
-free_code (Err e) = pos 4
-
--- the handles after a free with this result of what `handle` names: only a free that succeeds raises one
-abbrev pub raised_by : List ℕ → ℕ → Result (Unit {0}) NotLive → List ℕ
-raised_by handles handle (Ok u) = raised handles (handle % length handles)
-raised_by handles handle (Err e) = handles
 
 -- a free of the object that `handle` names, which is given up if the free succeeds
 pub record IsFreeCall (old : HeldState) (handle : ℕ) (code : ℤ) (new : HeldState) : Type 0 where

@@ -1,32 +1,25 @@
--- For `NphHeap` of `large.rt`, the struct that a caller in C has for its heap: the heap that it owns, and the struct when a borrow of that heap ends.
-use Rattle.std.specs.Prelude.{Some, refl, true}
+-- For `NphHeap` of `large.rt`, the struct that a caller in C has for its heap: the `ClosableHeap` that it is in memory.
 use Rattle.std.specs.Borrow.{Fml, Lends, MutBor}
-use Rattle.c_base.specs.PlainHeap.{PlainHeap, heap_of}
+use Rattle.c_base.specs.CallerHeap.{CallerHeap}
+use Rattle.c_base.specs.ClosablePlace as base
+use Rattle.c_base.specs.contracts.closable.ClosableHeap.{the_row as heap_row}
+use Rattle.c_base.specs.declared.closable.ClosableHeap.{ClosableHeap}
 use Rattle.held_large.specs.HeldState.{HeldState}
-use Rattle.held_large.specs.Large.{open_heap}
-use Rattle.c_base.specs.contracts.block.HeapBlock.{the_row as block_row}
-use Rattle.c_base.specs.declared.block.HeapBlock.{HeapBlock}
-use Rattle.held_large.specs.declared.large.NphHeap.{NphHeap}
+use Rattle.held_large.specs.contracts.held.Held.{the_row as open_heap}
 use Rattle.held_large.specs.contracts.large.NphHeap.{the_row}
-use Rattle.held_large.specs.contracts.large.Place.{the_row as place_row}
-use Rattle.held_large.specs.declared.large.Place.{Place}
+use Rattle.held_large.specs.declared.large.NphHeap.{NphHeap}
+
+-- the `ClosableHeap` that the struct is, and the struct that a `ClosableHeap` is
+abbrev pub inner_of : NphHeap → ClosableHeap HeldState
+inner_of n = record { place = record { at = n.place.at; held = n.place.held }; last = n.last; is_open = n.is_open; shown = n.shown }
+
+abbrev pub outer_of : ClosableHeap HeldState → NphHeap
+outer_of h = record { place = record { at = h.place.at; held = h.place.held }; last = h.last; is_open = h.is_open; shown = h.shown }
 
 -- the heap of the struct: closed or open
-abbrev pub held_in : NphHeap → PlainHeap HeldState
-held_in n = heap_of n.place.held n.last
+abbrev pub held_in : NphHeap → CallerHeap HeldState
+held_in n = base.held_in (inner_of n)
 
--- s is the borrow of the struct, r that of its heap: when r ends, the struct is open, and has the heap as r leaves it. `Lends` of the standard library states
--- this: its last argument computes the struct from the state h in which r leaves the heap. `the_row` is the type of the struct.
-abbrev pub LendsHeap : MutBor NphHeap → MutBor HeldState → Fml
-LendsHeap s r = Lends the_row open_heap s r (λ h. record { place = record { at = s.now.place.at; held = Some h }; last = s.now.last; is_open = true; shown = refl })
-
--- the `HeapBlock` that a `Place` is in memory, and the `Place` that a `HeapBlock` is
-abbrev pub inner_of : Place → HeapBlock HeldState
-inner_of p = record { at = p.at; held = p.held }
-
-abbrev pub outer_of : HeapBlock HeldState → Place
-outer_of b = record { at = b.at; held = b.held }
-
--- s is the borrow of the `Place`, r that of the `HeapBlock` in the same memory: when r ends, the `Place` is what r leaves
-abbrev pub LendsInner : MutBor Place → MutBor (HeapBlock HeldState) → Fml
-LendsInner s r = Lends place_row (block_row open_heap) s r outer_of
+-- s is the borrow of the struct, r that of the `ClosableHeap` in the same memory: when r ends, the struct is what r leaves
+abbrev pub LendsInner : MutBor NphHeap → MutBor (ClosableHeap HeldState) → Fml
+LendsInner s r = Lends the_row (heap_row open_heap) s r outer_of

@@ -1,17 +1,21 @@
 //! `Held`: an open heap of long objects with the step count of its last call and the handles that C has, for a C library. Each
 //! call returns a code, and writes its other results through references.
-ghost use Rattle.std.specs.Prelude.{◌≡◌, IfSome};
-ghost use Rattle.cf_base.specs.Settings.{profile_of};
 
-use c_base::{DONE, Handles, NphClass, NphHeapTotals, UNKNOWN, of_access, of_refusal};
-use cf_base::{Handle, Settings};
+use c_base::{DONE, Handles, NphClass, NphHeapTotals, Openable, UNKNOWN, of_access, of_refusal};
+use cf_base::{BytesNeeded, Handle, Settings};
 use cf_model::{Manager, StepBounds};
 use large_objects::LargeHeap;
 use moving_heap::MovingHeap;
 use std::alloc::Global;
 use std::marker::Model;
+use std::mem::size_of;
 use std::rt::Memory;
 use step_ledger::Meter;
+
+/// The bytes of the block of an open heap.
+const HELD_BYTES: u64 = 1512;
+
+const _: () = prove!(size_of::<Held>() == 1512);
 
 /// An open heap of long objects over the moving heap, the steps of its last call, and the handle of each number: what C has for
 /// an object. A call on a handle that its number does not have now is a call on `NONE`, which is never live. `malloc`, `free`,
@@ -39,15 +43,19 @@ impl Model for Held {
     ghost invariant = { λ h. IsTrue h.heap.is_open × AreInnerCosts h.heap.inner ⟦<MovingHeap as StepBounds>⟧.most moving_costs };
 }
 
-impl Held {
-    ghost use Rattle.c_base.specs.Handles.{largest};
-    ghost use Rattle.held_large.specs.Calls.{IsFiguresCall, IsFreeCall, IsFreshHeap, IsLengthCall, IsMallocCall, IsReadCall, IsStepsCall, IsTotalsCall, IsWriteCall};
+impl Openable for Held {
+    ghost use Rattle.held_large.specs.CallerHeap.{held_opening};
 
-    /// Opens a heap without objects, in a block of its own. Its handles are larger than `last`. Returns `None` if out of memory.
-    pub(crate) fn open(memory: Memory, s: &Settings, last: u32) -> Option<Box<Held>>
-        requires { s.now.k ≡ 1 }
-        ensures { IfSome result (λ b. IsFreshHeap (profile_of s.now) last b.value) }
-    {
+    ghost opening = { held_opening };
+
+    fn bytes_needed(s: &Settings) -> BytesNeeded {
+        let heap = LargeHeap::<MovingHeap>::bytes_needed(MovingHeap::bytes_needed(s), s);
+        let handles = Handles::bytes_needed(s.proxies);
+        heap.and(handles.and(BytesNeeded::block(HELD_BYTES)))
+    }
+
+    /// Opens a heap without objects.
+    fn open(memory: Memory, s: &Settings, last: u32) -> Option<Box<Held, Global>> {
         let alloc = Global::new(memory);
         let handles = Handles::new(alloc, s.proxies, last)?;
         let mut heap = LargeHeap::new(alloc, MovingHeap::closed(alloc));
@@ -60,6 +68,14 @@ impl Held {
         };
         Box::new(alloc, held).ok()
     }
+
+    fn last(&self) -> u32 {
+        self.handles.largest()
+    }
+}
+
+impl Held {
+    ghost use Rattle.held_large.specs.Calls.{IsFiguresCall, IsFreeCall, IsLengthCall, IsMallocCall, IsReadCall, IsStepsCall, IsTotalsCall, IsWriteCall};
 
     /// Makes an object of `bytes` zeros and writes its handle into `handle`. Returns `DONE`, or the code of the refusal: `SIZE`,
     /// `PROXY` or `SPACE`. After a refusal `handle` is unchanged.
@@ -148,13 +164,7 @@ impl Held {
         let _ = self.heap.is_open();
         match self.heap.inner().figures(class) {
             Some(f) => {
-                *figures = NphClass {
-                    slot_words: f.slot_words,
-                    slots: f.slots,
-                    live: f.live,
-                    pages: f.pages,
-                    not_full: f.not_full,
-                };
+                *figures = NphClass::of(f);
                 DONE
             }
             None => UNKNOWN,
@@ -170,15 +180,7 @@ impl Held {
         let mut meter = Meter::for_library(self.memory);
         let all = self.heap.inner().totals(meter.steps());
         self.steps = meter.lap();
-        *totals = NphHeapTotals {
-            asked: all.asked,
-            taken: all.taken,
-            held: all.held,
-            live: all.live,
-            used: all.used,
-            free: all.free,
-            largest: all.largest,
-        };
+        *totals = NphHeapTotals::of(all);
         DONE
     }
 
@@ -188,12 +190,5 @@ impl Held {
     {
         *steps = self.steps;
         DONE
-    }
-
-    /// The largest handle that a number has.
-    pub(crate) fn last(&self) -> u32
-        ensures { result ≡ largest self.now.handles }
-    {
-        self.handles.largest()
     }
 }

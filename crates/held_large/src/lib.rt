@@ -6,3 +6,5 @@ mod held;
 pub mod large;
 pub mod laws;
 pub mod most;
+
+pub use held::Held;

@@ -1,8 +1,7 @@
 -- For `laws`: each call keeps the rules of the handles (`KeepsHandles`); a malloc's handle is new; a handle that names no object is refused; a read gives the
 -- bytes of the object.
-use Rattle.std.proofs.Common.{◌≡◌, ℕ, ℤ, pos, ◌+◌, ◌%◌, ◌<◌, ◌≤◌, List, length, Option, Some, None, refl, sym, ◌∙◌, ap, subst, arith}
+use Rattle.std.proofs.Common.{◌≡◌, ℕ, ℤ, pos, ◌+◌, ◌<◌, ◌≤◌, List, length, Option, Some, None, refl, sym, ◌∙◌, ap, subst, arith}
 use Rattle.std.specs.Prelude.{Result, Ok, Err, IsErr, option_map, slice_index}
-use Rattle.std.proofs.lemmas.Nat.{mod_below}
 use Rattle.std.specs.FinMap.{get}
 use Rattle.cf_base.specs.Settings.{Profile}
 use Rattle.cf_base.specs.declared.answers.AccessFault.{AccessFault}
@@ -25,9 +24,10 @@ use Rattle.sliced_heap.specs.Steps.{fault_in}
 use Rattle.cf_lemmas.proofs.MapValues.{get-map_values}
 use Rattle.c_base.specs.Codes.{access_code}
 use Rattle.c_base.specs.HandleRules.{AreHandles}
-use Rattle.c_base.specs.Handles.{none, number_in}
-use Rattle.c_base.proofs.CallerLemmas.{first_are_handles, handle_small, length-raised, names_itself, raised_handles}
-use Rattle.held_sliced.specs.Calls.{IsFreeCall, IsFreshHeap, IsLengthCall, IsMallocCall, IsPlaceCall, IsReadCall, IsSlotWordsCall, IsStepCall, IsWriteCall, found_code, found_number, malloc_number, raised_by}
+use Rattle.c_base.specs.Handles.{none, number_in, raised_by}
+use Rattle.c_base.specs.Shown.{found_code, found_number, malloc_number}
+use Rattle.c_base.proofs.CallerLemmas.{first_are_handles, handle_small, length-raised_by, names_itself, raised_by_handles}
+use Rattle.held_sliced.specs.Calls.{IsFreeCall, IsFreshHeap, IsLengthCall, IsMallocCall, IsPlaceCall, IsReadCall, IsSlotWordsCall, IsStepCall, IsWriteCall}
 use Rattle.held_sliced.specs.Codes.{free_code, malloc_code}
 use Rattle.held_sliced.specs.HandleRules.{IsNewHandle, KeepsHandles}
 use Rattle.held_sliced.specs.HeldState.{HeldState}
@@ -50,15 +50,6 @@ fresh_keeps p quantum last new fresh = record {
 
 pub malloc_keeps : (old new : HeldState) (bytes before after : ℕ) (code : ℤ) → IsMallocCall old bytes before code after new → KeepsHandles old → KeepsHandles new
 malloc_keeps old new bytes before after code c k = keeps old new c.call.rules c.call.same.profile c.same k
-
-raised_by_handles : (handles : List ℕ) (handle : ℕ) (r : Result (Unit {0}) SliceFault) → AreHandles handles → 0 < length handles
-    → AreHandles (raised_by handles handle r)
-raised_by_handles handles handle (Ok u) k some = raised_handles handles (handle % length handles) k (mod_below handle (length handles) some)
-raised_by_handles handles handle (Err e) k some = k
-
-length-raised_by : (handles : List ℕ) (handle : ℕ) (r : Result (Unit {0}) SliceFault) → length (raised_by handles handle r) ≡ length handles
-length-raised_by handles handle (Ok u) = length-raised handles (handle % length handles)
-length-raised_by handles handle (Err e) = refl
 
 pub free_keeps : (old new : HeldState) (handle : ℕ) (code : ℤ) → IsFreeCall old handle code new → KeepsHandles old → KeepsHandles new
 free_keeps old new handle code c k = record {

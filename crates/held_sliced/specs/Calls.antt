@@ -1,13 +1,11 @@
 -- For `Held`: what each call of the C library does to an open sliced heap with its step count (`old`, `new`) and to the caller's number or buffer (`before`,
 -- `after`), and the `code` that it returns. `answer` is the result of the heap's call, whose steps, counted from 0, are `new.steps`.
-use Rattle.std.specs.Prelude.{◌≡◌, ℕ, ℤ, pos, ◌*◌, ◌%◌, true, replicate, List, Option, Some, None, Result, Ok, Err, IsErr, length}
+use Rattle.std.specs.Prelude.{◌≡◌, ℕ, ℤ, pos, ◌*◌, true, replicate, List, Option, Some, None, Result, IsErr, length}
 use Rattle.std.specs.FinMap.{empty}
 use Rattle.cf_base.specs.Classes.{class_of}
 use Rattle.cf_base.specs.Settings.{Profile, at_bound_one}
 use Rattle.cf_base.specs.declared.answers.AccessFault.{AccessFault}
-use Rattle.cf_base.specs.declared.answers.Figures.{Figures}
 use Rattle.cf_base.specs.declared.answers.Handle.{Handle}
-use Rattle.cf_base.specs.declared.answers.Totals.{Totals}
 use Rattle.cf_base.specs.declared.kind.Layout.TheVariants.{Words}
 use Rattle.page_model.specs.Order.{first_order}
 use Rattle.page_model.specs.Paging.{first_bounds, paging_of}
@@ -25,7 +23,8 @@ use Rattle.sliced_heap.specs.Steps.{fault_in}
 use Rattle.step_ledger.specs.Counting.{RoseAtMost, RoseBy}
 use Rattle.c_base.specs.Codes.{access_code}
 use Rattle.c_base.specs.HandleRules.{AreFirstHandles}
-use Rattle.c_base.specs.Handles.{handle_of, none, number_in, raised}
+use Rattle.c_base.specs.Handles.{handle_of, none, number_in, raised_by}
+use Rattle.c_base.specs.Shown.{figures_shown, found_code, found_number, malloc_number, totals_shown}
 use Rattle.c_base.specs.declared.answers.NphClass.{NphClass}
 use Rattle.c_base.specs.declared.answers.NphHeapTotals.{NphHeapTotals}
 use Rattle.held_sliced.specs.Codes.{free_code, malloc_code}
@@ -58,11 +57,6 @@ pub record IsFreshHeap (p : Profile) (quantum last : ℕ) (new : HeldState) : Ty
   pub steps : new.steps ≡ 0
   pub handles : AreFirstHandles p.proxies last new.handles
 
--- the caller's number after a malloc: the new handle, or after a refusal the number before the call
-abbrev pub malloc_number : List ℕ → ℕ → Result Handle SliceRefusal → ℕ
-malloc_number handles before (Ok h) = handle_of handles h.0
-malloc_number handles before (Err e) = before
-
 -- a malloc of `bytes` bytes
 pub record IsMallocCall (old : HeldState) (bytes before : ℕ) (code : ℤ) (after : ℕ) (new : HeldState) : Type 0 where
   pub answer : Result Handle SliceRefusal
@@ -72,11 +66,6 @@ pub record IsMallocCall (old : HeldState) (bytes before : ℕ) (code : ℤ) (aft
   pub exact : RoseBy 0 new.steps (malloc_cost (plan_in old.heap) (working_in old.heap).state old.heap.order bytes answer)
   pub bound : RoseAtMost 0 new.steps most_malloc
   pub same : new.handles ≡ old.handles
-
--- the handles after a free with this result of what `handle` names: only a free that succeeds raises one
-abbrev pub raised_by : {T : Type 0} → List ℕ → ℕ → Result T SliceFault → List ℕ
-raised_by handles handle (Ok u) = raised handles (handle % length handles)
-raised_by handles handle (Err e) = handles
 
 -- a free of the object that `handle` names, with the first slice of its job; the handle is given up if the free succeeds
 pub record IsFreeCall (old : HeldState) (handle : ℕ) (code : ℤ) (new : HeldState) : Type 0 where
@@ -133,16 +122,6 @@ pub record IsReadCall (old : HeldState) (handle from : ℕ) (before : List ℕ) 
   pub bound : RoseAtMost 0 new.steps (most_access from (length before))
   pub same : new.handles ≡ old.handles
 
--- the code of a call for a length, an address or a slot's words: 0, or 4 (`UNKNOWN`) if the handle is not live and there is none
-abbrev pub found_code : Option ℕ → ℤ
-found_code (Some n) = pos 0
-found_code None = pos 4
-
--- the caller's number after a call for a number: this, or the number before the call if there is none
-abbrev pub found_number : Option ℕ → ℕ → ℕ
-found_number (Some n) before = n
-found_number None before = before
-
 -- a call for the length of the object that `handle` names; the heap is unchanged
 pub record IsLengthCall (old : HeldState) (handle before : ℕ) (code : ℤ) (after : ℕ) (new : HeldState) : Type 0 where
   pub by_code : code ≡ found_code (length_in old.heap.held (number_in old.handles handle))
@@ -189,25 +168,11 @@ pub record IsClassCall (old : HeldState) (bytes before : ℕ) (code : ℤ) (afte
   pub same : new.handles ≡ old.handles
   pub exact : RoseBy 0 new.steps 1
 
--- the code of a call for the figures of a class: 4 (`UNKNOWN`) if there is no such class
-abbrev pub figures_code : Option Figures → ℤ
-figures_code (Some f) = pos 0
-figures_code None = pos 4
-
--- the caller's structure after a call for the figures of a class; unchanged if there is no such class
-abbrev pub figures_shown : Option Figures → NphClass → NphClass
-figures_shown (Some f) before = record { slot_words = f.slot_words; slots = f.slots; live = f.live; pages = f.pages; not_full = f.not_full }
-figures_shown None before = before
-
 -- a call for the figures of a class; it changes nothing
 pub record IsFiguresCall (old : HeldState) (class : ℕ) (before : NphClass) (code : ℤ) (after : NphClass) (new : HeldState) : Type 0 where
-  pub by_code : code ≡ figures_code (figures_in (plan_in old.heap) (working_in old.heap).state class)
+  pub by_code : code ≡ found_code (figures_in (plan_in old.heap) (working_in old.heap).state class)
   pub by_figures : after ≡ figures_shown (figures_in (plan_in old.heap) (working_in old.heap).state class) before
   pub kept : new ≡ old
-
--- the caller's structure after a call for the figures of the whole heap
-abbrev pub totals_shown : Totals → NphHeapTotals
-totals_shown t = record { asked = t.asked; taken = t.taken; held = t.held; live = t.live; used = t.used; free = t.free; largest = t.largest }
 
 -- a call for the figures of the whole heap; it changes nothing
 pub record IsTotalsCall (old : HeldState) (code : ℤ) (after : NphHeapTotals) (new : HeldState) : Type 0 where

@@ -217,13 +217,7 @@ impl Held {
     {
         match self.heap.figures(class) {
             Some(f) => {
-                *figures = NphClass {
-                    slot_words: f.slot_words,
-                    slots: f.slots,
-                    live: f.live,
-                    pages: f.pages,
-                    not_full: f.not_full,
-                };
+                *figures = NphClass::of(f);
                 DONE
             }
             None => UNKNOWN,
@@ -236,15 +230,7 @@ impl Held {
         ensures { IsTotalsCall self.old result totals.new self.new }
     {
         let all = self.heap.totals();
-        *totals = NphHeapTotals {
-            asked: all.asked,
-            taken: all.taken,
-            held: all.held,
-            live: all.live,
-            used: all.used,
-            free: all.free,
-            largest: all.largest,
-        };
+        *totals = NphHeapTotals::of(all);
         DONE
     }
 

@@ -2,4 +2,3 @@ pub mod Tables
 pub mod Sent
 pub mod TaskLaws
 pub mod Admissions
-pub mod NeededCall

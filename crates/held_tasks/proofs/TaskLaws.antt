@@ -24,10 +24,10 @@ use Rattle.quota_model.proofs.CallerLemmas.{found_small, others_kept, others_rew
 use Rattle.quota_heap.specs.State.{KeepsTasks, QuotaState, held_by, quota_of}
 use Rattle.quota_heap.specs.Steps.{IsFreeStep, IsMallocStep, IsQuotaStep, IsReadAnswer, IsWriteStep}
 use Rattle.c_base.specs.Codes.{access_code, free_code}
-use Rattle.c_base.specs.Handles.{none, number_in, raised_by}
-use Rattle.c_base.specs.Shown.{found_code, found_number}
+use Rattle.c_base.specs.Handles.{none, number_in}
+use Rattle.c_base.specs.Shown.{found_code, found_number, freed_shown}
 use Rattle.c_base.specs.declared.answers.NphFreed.{NphFreed}
-use Rattle.held_tasks.specs.Calls.{IsAdmitCall, IsFreeCall, IsLengthCall, IsMallocCall, IsQuotaCall, IsReadCall, IsWriteCall, freed_shown, share_of}
+use Rattle.held_tasks.specs.Calls.{IsAdmitCall, IsFreeCall, IsLengthCall, IsMallocCall, IsQuotaCall, IsReadCall, IsWriteCall, share_of}
 use Rattle.held_tasks.specs.Codes.{admission_code}
 use Rattle.held_tasks.specs.Handles.{handles_by, raised_of}
 use Rattle.held_tasks.specs.LeavesAlone.{LeavesAlone}
@@ -84,7 +84,7 @@ free_alone old new task handle u before after code rules ne c = by_answer c.answ
       objects = others_kept old.heap.profile old.heap.held task (number_in (handles_by old.handles task) handle) (number_of f.moved) new.heap.held
           rules.page_size rules.shared g.removed u ne;
       quota = ap (λ (s : QuotaState). quota_of s u) g.whole;
-      handles = ap (λ (hs : List (List ℕ)). handles_by hs u) raises ∙ get_or-set_other old.handles task u (raised_by (handles_by old.handles task) handle (Ok f)) [] ne;
+      handles = ap (λ (hs : List (List ℕ)). handles_by hs u) raises ∙ get_or-set_other old.handles task u _ [] ne;
     }
     by_answer (Err e) step raises = same_alone u old new step.1 (ap (λ (hs : List (List ℕ)). handles_by hs u) raises)
 

@@ -1,6 +1,6 @@
 -- For `HeldTasks`: what each call of a C library does to an open heap of tasks with its step count (`old`, `new`) and to the caller's number, structure or buffer
 -- (`before`, `after`), and the `code` that it returns. `answer` is the result of the heap's own call, whose steps, counted from 0, are `new.steps`.
-use Rattle.std.specs.Prelude.{◌≡◌, ℕ, ◌+◌, ◌<◌, ◌≤◌, ◌⊎◌, ℤ, pos, List, Result, Ok, Err, IsSome, length, sum}
+use Rattle.std.specs.Prelude.{◌≡◌, ℕ, ◌+◌, ◌<◌, ◌≤◌, ◌⊎◌, ℤ, pos, List, Result, IsSome, length, sum}
 use Rattle.std.specs.FinMap.{len}
 use Rattle.cf_base.specs.Settings.{Profile}
 use Rattle.cf_base.specs.declared.answers.AccessFault.{AccessFault}
@@ -20,8 +20,8 @@ use Rattle.quota_heap.specs.State.{KeepsTasks, QuotaState, empty_state, objects_
 use Rattle.quota_heap.specs.Steps.{IsFreeStep, IsMallocStep, IsQuotaStep, IsReadAnswer, IsWriteStep, figures_by, length_by}
 use Rattle.step_ledger.specs.Counting.{RoseAtMost, RoseBy}
 use Rattle.c_base.specs.Codes.{access_code, free_code, malloc_code}
-use Rattle.c_base.specs.Handles.{moved_handle, number_in}
-use Rattle.c_base.specs.Shown.{figures_shown, found_code, found_number, malloc_number}
+use Rattle.c_base.specs.Handles.{number_in}
+use Rattle.c_base.specs.Shown.{figures_shown, found_code, found_number, freed_shown, malloc_number}
 use Rattle.c_base.specs.declared.answers.NphClass.{NphClass}
 use Rattle.c_base.specs.declared.answers.NphFreed.{NphFreed}
 use Rattle.held_tasks.specs.Codes.{admission_code, quota_code}
@@ -60,11 +60,6 @@ pub record IsMallocCall (old : TasksState) (task bytes before : ℕ) (code : ℤ
   pub exact : RoseBy 0 new.steps (malloc_cost old.heap task bytes answer)
   pub bound : RoseAtMost 0 new.steps most_of_malloc
   pub same : new.handles ≡ old.handles
-
--- the caller's structure after a free with this result: what was freed and moved, or after a refusal the structure before the call
-abbrev pub freed_shown : List ℕ → NphFreed → Result Freed NotLive → NphFreed
-freed_shown handles before (Ok f) = record { slot_words = f.slot_words; moved = moved_handle handles f.moved }
-freed_shown handles before (Err e) = before
 
 -- a free of the object of a task that `handle` names, which is given up if the free succeeds
 pub record IsFreeCall (old : TasksState) (task handle : ℕ) (before : NphFreed) (code : ℤ) (after : NphFreed) (new : TasksState) : Type 0 where

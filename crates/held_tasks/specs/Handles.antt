@@ -19,7 +19,7 @@ pub record AreFirstOfTasks (proxies last : ℕ) (handles : List (List ℕ)) : Ty
 
 -- the handles after a free with this result of what `handle` names in a task: only a free that succeeds raises one
 abbrev pub raised_of : List (List ℕ) → ℕ → ℕ → Result Freed NotLive → List (List ℕ)
-raised_of handles task handle (Ok f) = slice_set handles task (raised_by (handles_by handles task) handle (Ok f))
+raised_of handles task handle (Ok f) = slice_set handles task (raised_by {E = NotLive} (handles_by handles task) handle (Ok f))
 raised_of handles task handle (Err e) = handles
 
 -- the largest handle of all tasks

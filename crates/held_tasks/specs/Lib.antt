@@ -2,8 +2,7 @@ pub mod Handles
 pub mod TasksState
 pub mod Codes
 pub mod Calls
-pub mod CallerTasks
 pub mod Needed
-pub mod Tasks
+pub mod CallerTasks
 pub mod Place
 pub mod LeavesAlone

@@ -1,11 +1,11 @@
 //! The handles that C has of the objects of sixteen tasks. Each task has handles of its own: those of two tasks may be equal.
 ghost use Rattle.std.specs.Prelude.{◌≡◌, ℕ, ◌*◌, ◌%◌, ◌^◌, ◌<◌, ◌≤◌, IfSome, length, slice_set};
 ghost use Rattle.std.specs.Int.{IsNextPowerOfTwo};
-ghost use Rattle.c_base.specs.Handles.{handle_of, moved_handle, number_in, raised};
+ghost use Rattle.c_base.specs.Handles.{raised};
 ghost use Rattle.held_tasks.specs.Handles.{AreFirstOfTasks, handles_by, handles_bytes, largest_of};
 
 use c_base::Handles;
-use cf_base::{BytesNeeded, Handle};
+use cf_base::BytesNeeded;
 use std::alloc::Global;
 use std::marker::Model;
 use std::mem::size_of;
@@ -65,22 +65,12 @@ impl TaskHandles {
         ).times(TASKS))
     }
 
-    /// The handle that C has for object `number` of a task.
-    pub(crate) fn handle_of(&self, task: u32, number: u32) -> u32
+    /// The handles of a task.
+    pub(crate) fn of_task(&self, task: u32) -> &Handles
         requires { task < 16 }
-        ensures { result ≡ handle_of (handles_by self.now task) number }
+        ensures { result.now ≡ handles_by self.now task }
     {
-        let handles = &self.of[task as usize];
-        handles.handle_of(number)
-    }
-
-    /// The number of the object of a task that a handle of C names; `NONE` if it names none.
-    pub(crate) fn number_in(&self, task: u32, handle: u32) -> u32
-        requires { task < 16 }
-        ensures { result ≡ number_in (handles_by self.now task) handle }
-    {
-        let handles = &self.of[task as usize];
-        handles.number_in(handle)
+        &self.of[task as usize]
     }
 
     /// Raises the handle of an object of a task that was freed.
@@ -91,15 +81,6 @@ impl TaskHandles {
     {
         let handles = &mut self.of[task as usize];
         handles.raise(handle);
-    }
-
-    /// The handle that C has for the object of a task that moved; `NONE` if none did.
-    pub(crate) fn of_moved(&self, task: u32, moved: Option<Handle>) -> u32
-        requires { task < 16 }
-        ensures { result ≡ moved_handle (handles_by self.now task) moved }
-    {
-        let handles = &self.of[task as usize];
-        handles.of_moved(moved)
     }
 
     /// The largest handle of all tasks.

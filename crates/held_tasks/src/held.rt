@@ -1,25 +1,31 @@
 //! `HeldTasks`: an open heap of sixteen tasks with the step count of its last call and the handles that C has, for a C library.
 //! Each call returns a code, and writes its other results through references. A call of a task that there is not returns `UNKNOWN`
 //! and changes nothing.
-ghost use Rattle.std.specs.Prelude.{◌≡◌, Err, IfSome};
-ghost use Rattle.cf_base.specs.Settings.{profile_of};
-ghost use Rattle.held_tasks.specs.Calls.{IsAdmitCall, IsFiguresCall, IsFreeCall, IsFreshHeap, IsLeastCall, IsLengthCall, IsMallocCall, IsOfTask, IsQuotaCall, IsReadCall, IsStepsCall, IsTaskCall, IsUnassignedCall, IsWriteCall};
+ghost use Rattle.std.specs.Prelude.{◌≡◌, Err};
+ghost use Rattle.held_tasks.specs.Calls.{IsAdmitCall, IsFiguresCall, IsFreeCall, IsLeastCall, IsLengthCall, IsMallocCall, IsOfTask, IsQuotaCall, IsReadCall, IsStepsCall, IsTaskCall, IsUnassignedCall, IsWriteCall};
 ghost use Rattle.held_tasks.specs.Codes.{admission_code, quota_code};
-ghost use Rattle.held_tasks.specs.Handles.{largest_of};
+ghost use Rattle.held_tasks.specs.CallerTasks.{tasks_opening};
 
 use crate::answers::NphTask;
 use crate::handles::{TASKS, TaskHandles};
 use c_base::{
-    DONE, ENTRIES, NphClass, NphFreed, PAGES, PROXIES, SIZE, SPACE, UNKNOWN, of_access, of_refusal,
+    DONE, ENTRIES, NphClass, NphFreed, Openable, PAGES, PROXIES, SIZE, SPACE, UNKNOWN, of_access,
+    of_refusal,
 };
-use cf_base::{Handle, Layout, Settings};
+use cf_base::{BytesNeeded, Handle, Layout, Settings};
 use quota_heap::QuotaHeap;
 use quota_model::{Admission, Need, QuotaFault, admit, first_large};
 use sizing::least_pages;
 use std::alloc::Global;
 use std::marker::Model;
+use std::mem::size_of;
 use std::rt::Memory;
 use step_ledger::Meter;
+
+/// The bytes of the block of an open heap.
+const HELD_BYTES: u64 = 248;
+
+const _: () = prove!(size_of::<HeldTasks>() == 248);
 
 /// The most needs that an admission takes.
 const MOST_NEEDS: usize = 64;
@@ -48,12 +54,16 @@ impl Model for HeldTasks {
     ghost invariant = { λ h. KeepsTasks h.heap };
 }
 
-impl HeldTasks {
-    /// Opens a heap in a block of its own, in which no task has an object and all quotas are 0. Its handles are larger than `last`.
-    /// Returns `None` if out of memory.
-    pub fn open(memory: Memory, s: &Settings, last: u32) -> Option<Box<HeldTasks>>
-        ensures { IfSome result (λ b. IsFreshHeap (profile_of s.now) last b.value) }
-    {
+impl Openable for HeldTasks {
+    ghost opening = { tasks_opening };
+
+    fn bytes_needed(s: &Settings) -> BytesNeeded {
+        let handles = TaskHandles::bytes_needed(s.proxies);
+        QuotaHeap::bytes_needed(s).and(handles.and(BytesNeeded::block(HELD_BYTES)))
+    }
+
+    /// Opens a heap in which no task has an object and all quotas are 0.
+    fn open(memory: Memory, s: &Settings, last: u32) -> Option<Box<HeldTasks, Global>> {
         let alloc = Global::new(memory);
         let handles = TaskHandles::new(alloc, s.proxies, last)?;
         let mut heap = QuotaHeap::closed(alloc);
@@ -67,6 +77,13 @@ impl HeldTasks {
         Box::new(alloc, held).ok()
     }
 
+    /// The largest handle of all tasks.
+    fn last(&self) -> u32 {
+        self.handles.largest()
+    }
+}
+
+impl HeldTasks {
     /// Sets the quota of a task to `pages` pages. Returns `DONE`; `PAGES` if the quotas of all tasks would sum to more pages than
     /// the region has, or `SPACE` if the task uses more than `pages` pages, and then nothing changes.
     pub fn set_quota(&mut self, task: u32, pages: u32) -> i32
@@ -94,7 +111,7 @@ impl HeldTasks {
         self.steps = meter.lap();
         match answer {
             Ok(h) => {
-                *handle = self.handles.handle_of(task, h.0);
+                *handle = self.handles.of_task(task).handle_of(h.0);
                 DONE
             }
             Err(cause) => of_refusal(cause),
@@ -109,7 +126,7 @@ impl HeldTasks {
         if task >= TASKS {
             return UNKNOWN;
         }
-        let number = self.handles.number_in(task, handle);
+        let number = self.handles.of_task(task).number_in(handle);
         let mut meter = Meter::for_library(self.memory);
         let answer = self.heap.free(task, Handle(number), meter.steps());
         self.steps = meter.lap();
@@ -118,7 +135,7 @@ impl HeldTasks {
                 self.handles.raise(task, handle);
                 *freed = NphFreed {
                     slot_words: done.slot_words,
-                    moved: self.handles.of_moved(task, done.moved),
+                    moved: self.handles.of_task(task).of_moved(done.moved),
                 };
                 DONE
             }
@@ -134,7 +151,7 @@ impl HeldTasks {
         if task >= TASKS {
             return UNKNOWN;
         }
-        let number = self.handles.number_in(task, handle);
+        let number = self.handles.of_task(task).number_in(handle);
         let mut meter = Meter::for_library(self.memory);
         let answer = self
             .heap
@@ -154,7 +171,7 @@ impl HeldTasks {
         if task >= TASKS {
             return UNKNOWN;
         }
-        let number = self.handles.number_in(task, handle);
+        let number = self.handles.of_task(task).number_in(handle);
         let mut meter = Meter::for_library(self.memory);
         let answer = self.heap.read(task, Handle(number), at, out, meter.steps());
         self.steps = meter.lap();
@@ -172,7 +189,7 @@ impl HeldTasks {
         if task >= TASKS {
             return UNKNOWN;
         }
-        let number = self.handles.number_in(task, handle);
+        let number = self.handles.of_task(task).number_in(handle);
         let mut meter = Meter::for_library(self.memory);
         let answer = self.heap.length(task, Handle(number), meter.steps());
         self.steps = meter.lap();
@@ -210,13 +227,7 @@ impl HeldTasks {
         }
         match self.heap.figures(task, class) {
             Some(f) => {
-                *figures = NphClass {
-                    slot_words: f.slot_words,
-                    slots: f.slots,
-                    live: f.live,
-                    pages: f.pages,
-                    not_full: f.not_full,
-                };
+                *figures = NphClass::of(f);
                 DONE
             }
             None => UNKNOWN,
@@ -274,13 +285,6 @@ impl HeldTasks {
     {
         *steps = self.steps;
         DONE
-    }
-
-    /// The largest handle of all tasks.
-    pub(crate) fn last(&self) -> u32
-        ensures { result ≡ largest_of self.now.handles }
-    {
-        self.handles.largest()
     }
 }
 

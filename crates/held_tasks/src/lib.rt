@@ -9,4 +9,5 @@ pub mod laws;
 pub mod tasks;
 
 pub use answers::NphTask;
+pub use held::HeldTasks;
 pub use quota_model::Need as NphNeed;

@@ -1,23 +1,25 @@
-//! The heap whose objects have ids, with its images, as a library for C. `include/norphuen.h` describes each export for C. An export calls
-//! the function of `held_images` that its comment names, and its contract is that function's. Each export but
-//! `nph_images_close` returns a code: 0 (`DONE`) if the call is done, else the cause (`c_base`, file `codes`).
-//! While the heap is closed, each export but `nph_images_open`, `nph_images_load` and `nph_images_close` returns `CLOSED` and changes
+//! The heap whose objects have ids, with its images, as a library for C. `include/norphuen.h` describes each export for C. An
+//! export calls the function of `held_images` or `c_base` that its comment names, and its contract is that function's. Each
+//! export but `nph_images_close` returns a code: 0 (`DONE`) if the call is done, else the cause (`c_base`, file `codes`). While
+//! the heap is closed, each export but `nph_images_open`, `nph_images_load` and `nph_images_close` returns `CLOSED` and changes
 //! nothing (`IsCallOnOpen`).
 #![tactic(auto)]
 
-ghost use Rattle.std.specs.Prelude.{◌≡◌, None};
+ghost use Rattle.std.specs.Prelude.{◌≡◌};
+ghost use Rattle.c_base.specs.AtPlace.{IsCallOnOpen};
 ghost use Rattle.c_base.specs.Version.{version};
-ghost use Rattle.held_images.specs.CallerImages.{IsCallOnOpen, IsLoadCall, IsOpenCall};
+ghost use Rattle.held_images.specs.CallerImages.{IsLoadCall, IsOpenCall, closed_by};
 ghost use Rattle.held_images.specs.Calls.{IsFreeCall, IsImageBytesCall, IsLengthCall, IsMakeCall, IsReadCall, IsSaveCall, IsWriteCall};
 ghost use Rattle.held_images.specs.Needed.{IsNeededCall};
 ghost use Rattle.held_images.specs.Place.{held_in};
 
-use c_base::{CLOSED, NphNeeded, VERSION};
+use c_base::{CLOSED, ClosableHeap, NphNeeded, VERSION};
+use held_images::HeldImages;
 use held_images::images::NphHeap;
 use std::rt::Memory;
 
 /// Opens the heap with these settings: `pages` pages of `page_bytes` bytes, the bound `k`, and at most `proxies` live objects
-/// (`NphHeap::open`). `memory`, here, in `nph_images_load` and in `nph_images_close`, is the kit's value for the memory of the process;
+/// (`ClosableHeap::open`). `memory`, here, in `nph_images_load` and in `nph_images_close`, is the kit's value for the memory of the process;
 /// a caller in C passes none.
 #[unsafe(no_mangle)]
 pub extern "C" fn nph_images_open(
@@ -30,11 +32,11 @@ pub extern "C" fn nph_images_open(
 ) -> i32
     ensures { IsOpenCall (held_in heap.old) pages page_bytes k proxies result (held_in heap.new) }
 {
-    heap.open(memory, pages, page_bytes, k, proxies)
+    heap.inner().open(memory, pages, page_bytes, k, proxies)
 }
 
 /// Writes into `needed` what `nph_images_open` with these settings asks of the functions that take and return memory, and
-/// `nph_images_load` with an image of these settings (`NphHeap::bytes_needed`).
+/// `nph_images_load` with an image of these settings (`ClosableHeap::bytes_needed`).
 #[unsafe(no_mangle)]
 pub extern "C" fn nph_images_bytes_needed(
     pages: u32,
@@ -45,7 +47,7 @@ pub extern "C" fn nph_images_bytes_needed(
 ) -> i32
     ensures { IsNeededCall pages page_bytes k proxies result needed.old needed.new }
 {
-    NphHeap::bytes_needed(pages, page_bytes, k, proxies, needed)
+    ClosableHeap::<HeldImages>::bytes_needed(pages, page_bytes, k, proxies, needed)
 }
 
 /// Opens the heap with the settings and the objects of an image, and with the bound `k` (`NphHeap::load`).
@@ -62,12 +64,12 @@ pub extern "C" fn nph_images_load(
     heap.load(memory, bytes, k, offset)
 }
 
-/// Closes the heap and frees its memory; does nothing if it is closed (`NphHeap::close`).
+/// Closes the heap and frees its memory; does nothing if it is closed (`ClosableHeap::close`).
 #[unsafe(no_mangle)]
 pub extern "C" fn nph_images_close(heap: &mut NphHeap, memory: Memory)
-    ensures { held_in heap.new ≡ None }
+    ensures { held_in heap.new ≡ closed_by (held_in heap.old) }
 {
-    heap.close(memory);
+    heap.inner().close(memory);
 }
 
 /// Makes an object of `bytes` zeros under the id (`HeldImages::make`).
@@ -75,6 +77,7 @@ pub extern "C" fn nph_images_close(heap: &mut NphHeap, memory: Memory)
 pub extern "C" fn nph_images_make(heap: &mut NphHeap, id: u32, bytes: u32) -> i32
     ensures { IsCallOnOpen (held_in heap.old) result (held_in heap.new) (Unit {0}) (λ h h2. IsMakeCall h id bytes result h2) }
 {
+    let heap = heap.inner();
     if heap.is_open() {
         heap.held().make(id, bytes)
     } else {
@@ -87,6 +90,7 @@ pub extern "C" fn nph_images_make(heap: &mut NphHeap, id: u32, bytes: u32) -> i3
 pub extern "C" fn nph_images_free(heap: &mut NphHeap, id: u32) -> i32
     ensures { IsCallOnOpen (held_in heap.old) result (held_in heap.new) (Unit {0}) (λ h h2. IsFreeCall h id result h2) }
 {
+    let heap = heap.inner();
     if heap.is_open() {
         heap.held().free(id)
     } else {
@@ -99,6 +103,7 @@ pub extern "C" fn nph_images_free(heap: &mut NphHeap, id: u32) -> i32
 pub extern "C" fn nph_images_write(heap: &mut NphHeap, id: u32, at: u32, bytes: &[u8]) -> i32
     ensures { IsCallOnOpen (held_in heap.old) result (held_in heap.new) (Unit {0}) (λ h h2. IsWriteCall h id at bytes.now result h2) }
 {
+    let heap = heap.inner();
     if heap.is_open() {
         heap.held().write(id, at, bytes)
     } else {
@@ -112,6 +117,7 @@ pub extern "C" fn nph_images_read(heap: &mut NphHeap, id: u32, at: u32, out: &mu
     ensures { IsCallOnOpen (held_in heap.old) result (held_in heap.new) (out.new ≡ out.old)
         (λ h h2. IsReadCall h id at out.old result out.new h2) }
 {
+    let heap = heap.inner();
     if heap.is_open() {
         heap.held().read(id, at, out)
     } else {
@@ -125,6 +131,7 @@ pub extern "C" fn nph_images_length(heap: &mut NphHeap, id: u32, bytes: &mut u32
     ensures { IsCallOnOpen (held_in heap.old) result (held_in heap.new) (bytes.new ≡ bytes.old)
         (λ h h2. IsLengthCall h id bytes.old result bytes.new h2) }
 {
+    let heap = heap.inner();
     if heap.is_open() {
         heap.held().length(id, bytes)
     } else {
@@ -138,6 +145,7 @@ pub extern "C" fn nph_images_image_bytes(heap: &mut NphHeap, bytes: &mut u64) ->
     ensures { IsCallOnOpen (held_in heap.old) result (held_in heap.new) (bytes.new ≡ bytes.old)
         (λ h h2. IsImageBytesCall h result bytes.new h2) }
 {
+    let heap = heap.inner();
     if heap.is_open() {
         heap.held().image_bytes(bytes)
     } else {
@@ -151,6 +159,7 @@ pub extern "C" fn nph_images_save(heap: &mut NphHeap, out: &mut [u8], written: &
     ensures { IsCallOnOpen (held_in heap.old) result (held_in heap.new) ((out.new ≡ out.old) × (written.new ≡ written.old))
         (λ h h2. IsSaveCall h (record { out = out.old; written = written.old }) result (record { out = out.new; written = written.new }) h2) }
 {
+    let heap = heap.inner();
     if heap.is_open() {
         heap.held().save(out, written)
     } else {

@@ -1,11 +1,12 @@
-//! The heap of long objects as a library for C. `include/norphuen.h` describes each export for C. An export calls the function of
-//! `held_large` that its comment names, and its contract is that function's. Each export but `nph_large_close` and those that
-//! take no heap returns a code: 0 (`DONE`) if the call is done, else the cause (`c_base`, file `codes`). While the heap is
-//! closed, each export but `nph_large_open` and `nph_large_close` returns `CLOSED` and changes nothing (`IsCallOnOpen`).
+//! The heap of long objects as a library for C. `include/norphuen.h` describes each export for C. An export calls the function
+//! of `held_large` or `c_base` that its comment names, and its contract is that function's. Each export but `nph_large_close`
+//! and those that take no heap returns a code: 0 (`DONE`) if the call is done, else the cause (`c_base`, file `codes`). While
+//! the heap is closed, each export but `nph_large_open` and `nph_large_close` returns `CLOSED` and changes nothing
+//! (`IsCallOnOpen`).
 #![tactic(auto)]
 
 ghost use Rattle.std.specs.Prelude.{◌≡◌};
-ghost use Rattle.c_base.specs.PlainHeap.{IsCallOnOpen};
+ghost use Rattle.c_base.specs.AtPlace.{IsCallOnOpen};
 ghost use Rattle.c_base.specs.Version.{version};
 ghost use Rattle.held_large.specs.CallerHeap.{IsOpenCall, closed_by};
 ghost use Rattle.held_large.specs.Calls.{IsFiguresCall, IsFreeCall, IsLengthCall, IsMallocCall, IsReadCall, IsStepsCall, IsTotalsCall, IsWriteCall};
@@ -13,13 +14,13 @@ ghost use Rattle.held_large.specs.Most.{IsMostAccess, IsMostFree, IsMostMalloc};
 ghost use Rattle.held_large.specs.Needed.{IsNeededCall};
 ghost use Rattle.held_large.specs.Place.{held_in};
 
-use c_base::{CLOSED, NphClass, NphHeapTotals, NphNeeded, VERSION};
+use c_base::{CLOSED, ClosableHeap, NphClass, NphHeapTotals, NphNeeded, VERSION};
 use held_large::large::NphHeap;
-use held_large::most;
+use held_large::{Held, most};
 use std::rt::Memory;
 
 /// Opens the heap with these settings: `pages` pages of `page_bytes` bytes, and at most `proxies` objects, parts and spines
-/// (`NphHeap::open`). `memory`, here and in `nph_large_close`, is the kit's value for the memory of the process; a caller in C
+/// (`ClosableHeap::open`). `memory`, here and in `nph_large_close`, is the kit's value for the memory of the process; a caller in C
 /// passes none.
 #[unsafe(no_mangle)]
 pub extern "C" fn nph_large_open(
@@ -31,11 +32,11 @@ pub extern "C" fn nph_large_open(
 ) -> i32
     ensures { IsOpenCall (held_in heap.old) pages page_bytes proxies result (held_in heap.new) }
 {
-    heap.open(memory, pages, page_bytes, proxies)
+    heap.inner().open(memory, pages, page_bytes, 1, proxies)
 }
 
 /// Writes into `needed` what `nph_large_open` with these settings asks of the functions that take and return memory
-/// (`NphHeap::bytes_needed`).
+/// (`ClosableHeap::bytes_needed`).
 #[unsafe(no_mangle)]
 pub extern "C" fn nph_large_bytes_needed(
     pages: u32,
@@ -45,15 +46,15 @@ pub extern "C" fn nph_large_bytes_needed(
 ) -> i32
     ensures { IsNeededCall pages page_bytes proxies result needed.old needed.new }
 {
-    NphHeap::bytes_needed(pages, page_bytes, proxies, needed)
+    ClosableHeap::<Held>::bytes_needed(pages, page_bytes, 1, proxies, needed)
 }
 
-/// Closes the heap and frees its memory; does nothing if it is closed (`NphHeap::close`).
+/// Closes the heap and frees its memory; does nothing if it is closed (`ClosableHeap::close`).
 #[unsafe(no_mangle)]
 pub extern "C" fn nph_large_close(heap: &mut NphHeap, memory: Memory)
     ensures { held_in heap.new ≡ closed_by (held_in heap.old) }
 {
-    heap.close(memory);
+    heap.inner().close(memory);
 }
 
 /// Makes an object of `bytes` zeros and writes its handle into `handle` (`Held::malloc`).
@@ -62,6 +63,7 @@ pub extern "C" fn nph_large_malloc(heap: &mut NphHeap, bytes: u32, handle: &mut 
     ensures { IsCallOnOpen (held_in heap.old) result (held_in heap.new) (handle.new ≡ handle.old)
         (λ h h2. IsMallocCall h bytes handle.old result handle.new h2) }
 {
+    let heap = heap.inner();
     if heap.is_open() {
         heap.held().malloc(bytes, handle)
     } else {
@@ -74,6 +76,7 @@ pub extern "C" fn nph_large_malloc(heap: &mut NphHeap, bytes: u32, handle: &mut 
 pub extern "C" fn nph_large_free(heap: &mut NphHeap, handle: u32) -> i32
     ensures { IsCallOnOpen (held_in heap.old) result (held_in heap.new) (Unit {0}) (λ h h2. IsFreeCall h handle result h2) }
 {
+    let heap = heap.inner();
     if heap.is_open() {
         heap.held().free(handle)
     } else {
@@ -87,6 +90,7 @@ pub extern "C" fn nph_large_write(heap: &mut NphHeap, handle: u32, at: u32, byte
     ensures { IsCallOnOpen (held_in heap.old) result (held_in heap.new) (Unit {0})
         (λ h h2. IsWriteCall h handle at bytes.now result h2) }
 {
+    let heap = heap.inner();
     if heap.is_open() {
         heap.held().write(handle, at, bytes)
     } else {
@@ -100,6 +104,7 @@ pub extern "C" fn nph_large_read(heap: &mut NphHeap, handle: u32, at: u32, out: 
     ensures { IsCallOnOpen (held_in heap.old) result (held_in heap.new) (out.new ≡ out.old)
         (λ h h2. IsReadCall h handle at out.old result out.new h2) }
 {
+    let heap = heap.inner();
     if heap.is_open() {
         heap.held().read(handle, at, out)
     } else {
@@ -113,6 +118,7 @@ pub extern "C" fn nph_large_length(heap: &mut NphHeap, handle: u32, bytes: &mut 
     ensures { IsCallOnOpen (held_in heap.old) result (held_in heap.new) (bytes.new ≡ bytes.old)
         (λ h h2. IsLengthCall h handle bytes.old result bytes.new h2) }
 {
+    let heap = heap.inner();
     if heap.is_open() {
         heap.held().length(handle, bytes)
     } else {
@@ -126,6 +132,7 @@ pub extern "C" fn nph_large_figures(heap: &mut NphHeap, class: u32, figures: &mu
     ensures { IsCallOnOpen (held_in heap.old) result (held_in heap.new) (figures.new ≡ figures.old)
         (λ h h2. IsFiguresCall h class figures.old result figures.new h2) }
 {
+    let heap = heap.inner();
     if heap.is_open() {
         heap.held().figures(class, figures)
     } else {
@@ -139,6 +146,7 @@ pub extern "C" fn nph_large_totals(heap: &mut NphHeap, totals: &mut NphHeapTotal
     ensures { IsCallOnOpen (held_in heap.old) result (held_in heap.new) (totals.new ≡ totals.old)
         (λ h h2. IsTotalsCall h result totals.new h2) }
 {
+    let heap = heap.inner();
     if heap.is_open() {
         heap.held().totals(totals)
     } else {
@@ -152,6 +160,7 @@ pub extern "C" fn nph_large_last_steps(heap: &mut NphHeap, steps: &mut u64) -> i
     ensures { IsCallOnOpen (held_in heap.old) result (held_in heap.new) (steps.new ≡ steps.old)
         (λ h h2. IsStepsCall h result steps.new h2) }
 {
+    let heap = heap.inner();
     if heap.is_open() {
         heap.held().last_steps(steps)
     } else {

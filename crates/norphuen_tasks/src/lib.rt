@@ -1,25 +1,25 @@
-//! The heap of sixteen tasks as a library for C. `include/norphuen.h` describes each export for C. An export calls the
-//! function of `held_tasks` that its comment names, and its contract is that function's. Each export but
-//! `nph_tasks_close` returns a code: 0 (`DONE`) if the call is done, else the cause (`c_base`, file `codes`).
-//! While the heap is closed, each export but `nph_tasks_open` and `nph_tasks_close` returns `CLOSED` and changes nothing
-//! (`IsCallOnOpen`). A call of a task that there is not returns `UNKNOWN` and changes nothing (`IsOfTask`).
+//! The heap of sixteen tasks as a library for C. `include/norphuen.h` describes each export for C. An export calls the function
+//! of `held_tasks` or `c_base` that its comment names, and its contract is that function's. Each export but `nph_tasks_close`
+//! returns a code: 0 (`DONE`) if the call is done, else the cause (`c_base`, file `codes`). While the heap is closed, each
+//! export but `nph_tasks_open` and `nph_tasks_close` returns `CLOSED` and changes nothing (`IsCallOnOpen`). A call of a task
+//! that there is not returns `UNKNOWN` and changes nothing (`IsOfTask`).
 #![tactic(auto)]
 
 ghost use Rattle.std.specs.Prelude.{◌≡◌};
-ghost use Rattle.c_base.specs.PlainHeap.{IsCallOnOpen};
+ghost use Rattle.c_base.specs.AtPlace.{IsCallOnOpen};
 ghost use Rattle.c_base.specs.Version.{version};
 ghost use Rattle.held_tasks.specs.CallerTasks.{IsOpenCall, closed_by};
 ghost use Rattle.held_tasks.specs.Calls.{IsAdmitCall, IsFiguresCall, IsFreeCall, IsLeastCall, IsLengthCall, IsMallocCall, IsOfTask, IsQuotaCall, IsReadCall, IsStepsCall, IsTaskCall, IsUnassignedCall, IsWriteCall};
 ghost use Rattle.held_tasks.specs.Needed.{IsNeededCall};
 ghost use Rattle.held_tasks.specs.Place.{held_in};
 
-use c_base::{CLOSED, NphClass, NphFreed, NphNeeded, VERSION};
+use c_base::{CLOSED, ClosableHeap, NphClass, NphFreed, NphNeeded, VERSION};
 use held_tasks::tasks::NphHeap;
-use held_tasks::{NphNeed, NphTask};
+use held_tasks::{HeldTasks, NphNeed, NphTask};
 use std::rt::Memory;
 
 /// Opens the heap with these settings: `pages` pages of `page_bytes` bytes, and at most `proxies` live objects in each of sixteen
-/// tasks, whose quotas are 0 (`NphHeap::open`). `memory`, here and in `nph_tasks_close`, is the kit's value for the memory of the
+/// tasks, whose quotas are 0 (`ClosableHeap::open`). `memory`, here and in `nph_tasks_close`, is the kit's value for the memory of the
 /// process; a caller in C passes none.
 #[unsafe(no_mangle)]
 pub extern "C" fn nph_tasks_open(
@@ -31,11 +31,11 @@ pub extern "C" fn nph_tasks_open(
 ) -> i32
     ensures { IsOpenCall (held_in heap.old) pages page_bytes proxies result (held_in heap.new) }
 {
-    heap.open(memory, pages, page_bytes, proxies)
+    heap.inner().open(memory, pages, page_bytes, 1, proxies)
 }
 
 /// Writes into `needed` what `nph_tasks_open` with these settings asks of the functions that take and return memory
-/// (`NphHeap::bytes_needed`).
+/// (`ClosableHeap::bytes_needed`).
 #[unsafe(no_mangle)]
 pub extern "C" fn nph_tasks_bytes_needed(
     pages: u32,
@@ -45,15 +45,15 @@ pub extern "C" fn nph_tasks_bytes_needed(
 ) -> i32
     ensures { IsNeededCall pages page_bytes proxies result needed.old needed.new }
 {
-    NphHeap::bytes_needed(pages, page_bytes, proxies, needed)
+    ClosableHeap::<HeldTasks>::bytes_needed(pages, page_bytes, 1, proxies, needed)
 }
 
-/// Closes the heap and frees its memory; does nothing if it is closed (`NphHeap::close`).
+/// Closes the heap and frees its memory; does nothing if it is closed (`ClosableHeap::close`).
 #[unsafe(no_mangle)]
 pub extern "C" fn nph_tasks_close(heap: &mut NphHeap, memory: Memory)
     ensures { held_in heap.new ≡ closed_by (held_in heap.old) }
 {
-    heap.close(memory);
+    heap.inner().close(memory);
 }
 
 /// Sets the quota of a task to `pages` pages (`HeldTasks::set_quota`).
@@ -62,6 +62,7 @@ pub extern "C" fn nph_tasks_set_quota(heap: &mut NphHeap, task: u32, pages: u32)
     ensures { IsCallOnOpen (held_in heap.old) result (held_in heap.new) (Unit {0})
         (λ h h2. IsOfTask task h result h2 (Unit {0}) (IsQuotaCall h task pages result h2)) }
 {
+    let heap = heap.inner();
     if heap.is_open() {
         heap.held().set_quota(task, pages)
     } else {
@@ -80,6 +81,7 @@ pub extern "C" fn nph_tasks_malloc(
     ensures { IsCallOnOpen (held_in heap.old) result (held_in heap.new) (handle.new ≡ handle.old)
         (λ h h2. IsOfTask task h result h2 (handle.new ≡ handle.old) (IsMallocCall h task bytes handle.old result handle.new h2)) }
 {
+    let heap = heap.inner();
     if heap.is_open() {
         heap.held().malloc(task, bytes, handle)
     } else {
@@ -99,6 +101,7 @@ pub extern "C" fn nph_tasks_free(
     ensures { IsCallOnOpen (held_in heap.old) result (held_in heap.new) (freed.new ≡ freed.old)
         (λ h h2. IsOfTask task h result h2 (freed.new ≡ freed.old) (IsFreeCall h task handle freed.old result freed.new h2)) }
 {
+    let heap = heap.inner();
     if heap.is_open() {
         heap.held().free(task, handle, freed)
     } else {
@@ -118,6 +121,7 @@ pub extern "C" fn nph_tasks_write(
     ensures { IsCallOnOpen (held_in heap.old) result (held_in heap.new) (Unit {0})
         (λ h h2. IsOfTask task h result h2 (Unit {0}) (IsWriteCall h task handle at bytes.now result h2)) }
 {
+    let heap = heap.inner();
     if heap.is_open() {
         heap.held().write(task, handle, at, bytes)
     } else {
@@ -137,6 +141,7 @@ pub extern "C" fn nph_tasks_read(
     ensures { IsCallOnOpen (held_in heap.old) result (held_in heap.new) (out.new ≡ out.old)
         (λ h h2. IsOfTask task h result h2 (out.new ≡ out.old) (IsReadCall h task handle at out.old result out.new h2)) }
 {
+    let heap = heap.inner();
     if heap.is_open() {
         heap.held().read(task, handle, at, out)
     } else {
@@ -155,6 +160,7 @@ pub extern "C" fn nph_tasks_length(
     ensures { IsCallOnOpen (held_in heap.old) result (held_in heap.new) (bytes.new ≡ bytes.old)
         (λ h h2. IsOfTask task h result h2 (bytes.new ≡ bytes.old) (IsLengthCall h task handle bytes.old result bytes.new h2)) }
 {
+    let heap = heap.inner();
     if heap.is_open() {
         heap.held().length(task, handle, bytes)
     } else {
@@ -168,6 +174,7 @@ pub extern "C" fn nph_tasks_task(heap: &mut NphHeap, task: u32, figures: &mut Np
     ensures { IsCallOnOpen (held_in heap.old) result (held_in heap.new) (figures.new ≡ figures.old)
         (λ h h2. IsOfTask task h result h2 (figures.new ≡ figures.old) (IsTaskCall h task result figures.new h2)) }
 {
+    let heap = heap.inner();
     if heap.is_open() {
         heap.held().task(task, figures)
     } else {
@@ -186,6 +193,7 @@ pub extern "C" fn nph_tasks_figures(
     ensures { IsCallOnOpen (held_in heap.old) result (held_in heap.new) (figures.new ≡ figures.old)
         (λ h h2. IsOfTask task h result h2 (figures.new ≡ figures.old) (IsFiguresCall h task class figures.old result figures.new h2)) }
 {
+    let heap = heap.inner();
     if heap.is_open() {
         heap.held().figures(task, class, figures)
     } else {
@@ -199,6 +207,7 @@ pub extern "C" fn nph_tasks_unassigned(heap: &mut NphHeap, pages: &mut u32) -> i
     ensures { IsCallOnOpen (held_in heap.old) result (held_in heap.new) (pages.new ≡ pages.old)
         (λ h h2. IsUnassignedCall h result pages.new h2) }
 {
+    let heap = heap.inner();
     if heap.is_open() {
         heap.held().unassigned(pages)
     } else {
@@ -212,6 +221,7 @@ pub extern "C" fn nph_tasks_admit(heap: &mut NphHeap, task: u32, needs: &[NphNee
     ensures { IsCallOnOpen (held_in heap.old) result (held_in heap.new) (Unit {0})
         (λ h h2. IsOfTask task h result h2 (Unit {0}) (IsAdmitCall h task needs.now result h2)) }
 {
+    let heap = heap.inner();
     if heap.is_open() {
         heap.held().admit(task, needs)
     } else {
@@ -229,6 +239,7 @@ pub extern "C" fn nph_tasks_least_quota(
     ensures { IsCallOnOpen (held_in heap.old) result (held_in heap.new) (pages.new ≡ pages.old)
         (λ h h2. IsLeastCall h needs.now result pages.old pages.new h2) }
 {
+    let heap = heap.inner();
     if heap.is_open() {
         heap.held().least_quota(needs, pages)
     } else {
@@ -242,6 +253,7 @@ pub extern "C" fn nph_tasks_last_steps(heap: &mut NphHeap, steps: &mut u64) -> i
     ensures { IsCallOnOpen (held_in heap.old) result (held_in heap.new) (steps.new ≡ steps.old)
         (λ h h2. IsStepsCall h result steps.new h2) }
 {
+    let heap = heap.inner();
     if heap.is_open() {
         heap.held().last_steps(steps)
     } else {

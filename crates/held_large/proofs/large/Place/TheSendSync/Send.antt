@@ -4,7 +4,7 @@ use denote.Struct.Owning.{fields, shape, to}
 use denote.Struct.Struct.{exits_of}
 use Rattle.std_alloc.proofs.SendSync.{quiet}
 use Rattle.c_base.proofs.CallerLemmas.{place-Keyless}
-use Rattle.held_large.specs.Large.{open_heap}
+use Rattle.held_large.specs.contracts.held.Held.{the_row as open_heap}
 use Rattle.held_large.specs.contracts.large.Place.{the_row, the_type}
 use Rattle.held_large.proofs.held.Held.TheSendSync.{the_send as heap-send}
 

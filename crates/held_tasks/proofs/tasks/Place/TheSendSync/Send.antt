@@ -4,7 +4,7 @@ use denote.Struct.Owning.{fields, shape, to}
 use denote.Struct.Struct.{exits_of}
 use Rattle.std_alloc.proofs.SendSync.{quiet}
 use Rattle.c_base.proofs.CallerLemmas.{place-Keyless}
-use Rattle.held_tasks.specs.Tasks.{open_heap}
+use Rattle.held_tasks.specs.contracts.held.HeldTasks.{the_row as open_heap}
 use Rattle.held_tasks.specs.contracts.tasks.Place.{the_row, the_type}
 use Rattle.held_tasks.proofs.held.HeldTasks.TheSendSync.{the_send as heap-send}
 

@@ -1,0 +1,146 @@
+//! `ClosableHeap`: what a caller in C has for its heap, open or closed, for each type of heap that lends nothing.
+ghost use Rattle.std.specs.Prelude.{◌≡◌, IfSome, is_some};
+ghost use Rattle.std.specs.Borrow.{sem};
+ghost use Rattle.cf_base.specs.Settings.{profile_from, profile_of, setting_fault};
+ghost use Rattle.c_base.specs.Opening.{Opening};
+
+use crate::answers::NphNeeded;
+use crate::block::HeapBlock;
+use crate::codes::{DONE, MEMORY, OPEN, of_setting};
+use cf_base::{BytesNeeded, Settings};
+use std::alloc::Global;
+use std::rt::Memory;
+
+/// A type of open heaps, each in a block of its own.
+pub trait Openable: Sized {
+    /// What is true of a heap that was just opened, and what it needs; and the largest handle.
+    ghost opening: { Opening Self };
+
+    /// The memory that `open` asks for.
+    fn bytes_needed(s: &Settings) -> BytesNeeded
+        ensures { opening.needs (profile_of s.now) result };
+
+    /// Opens a heap whose handles are larger than `last`. Returns `None` if out of memory.
+    fn open(memory: Memory, s: &Settings, last: u32) -> Option<Box<Self, Global>>
+        requires { opening.takes s.now.k }
+        ensures { IfSome result (λ b. opening.is_fresh (profile_of s.now) last b.value) };
+
+    /// The largest handle that a number has; 0 if objects have no handles.
+    fn last(&self) -> u32
+        ensures { result ≡ opening.last self.now };
+}
+
+/// A heap in memory of a caller in C, closed or open. `shown` says that the flag is true if and only if the `HeapBlock` has a
+/// heap. `last` is the largest handle of the heaps that it had. Call `close` before it is dropped: a drop does not free the
+/// memory of a heap.
+#[repr(C)]
+#[derive(Drop)]
+pub struct ClosableHeap<T> {
+    place: HeapBlock<T>,
+    last: u32,
+    is_open: bool,
+    ghost shown: { is_open ≡ is_some place.held },
+}
+
+impl<T> ClosableHeap<T> {
+    ghost use Rattle.std.specs.Prelude.{IsTrue};
+    ghost use Rattle.c_base.specs.CallerHeap.{Opened, opened_now};
+    ghost use Rattle.c_base.specs.ClosablePlace.{LendsHeap, held_in};
+
+    /// Returns whether the heap is open.
+    pub fn is_open(&self) -> bool
+        ensures { result ≡ opened_now (held_in self.now) }
+    {
+        self.is_open
+    }
+
+    /// Borrows the open heap. When the borrow ends, the heap as it then is belongs to this struct again.
+    pub fn held(&mut self) -> &mut T
+        requires { IsTrue (opened_now (held_in self.old)) }
+        ensures* writes_back { sem 𝓛 (LendsHeap T.row self.entry result) }
+        ensures value { held_in self.old ≡ Opened result.now }
+    {
+        self.place.lend()
+    }
+}
+
+impl<T: Drop> ClosableHeap<T> {
+    ghost use Rattle.std.specs.Prelude.{IsOk};
+    ghost use Rattle.c_base.specs.CallerHeap.{Opened, closed_now};
+    ghost use Rattle.c_base.specs.ClosablePlace.{held_in};
+
+    /// Opens a heap that is closed: it is this one.
+    pub fn put(&mut self, heap: Box<T, Global>)
+        requires { IsOk (closed_now (held_in self.old)) }
+        ensures { held_in self.new ≡ Opened heap.value }
+    {
+        self.place = HeapBlock::of(heap);
+        self.is_open = true;
+    }
+}
+
+impl<T: Openable + Drop> ClosableHeap<T> {
+    ghost use Rattle.c_base.specs.AtPlace.{IsOpenBy};
+    ghost use Rattle.c_base.specs.CallerHeap.{closed_with};
+    ghost use Rattle.c_base.specs.ClosablePlace.{held_in};
+    ghost use Rattle.c_base.specs.Needed.{AreNeeded};
+
+    /// Writes into `needed` what `open` with these settings asks for. Returns `DONE`, or the code of the first setting out of range,
+    /// and then `needed` is unchanged.
+    pub fn bytes_needed(
+        pages: u32,
+        page_bytes: u32,
+        k: u32,
+        proxies: u32,
+        needed: &mut NphNeeded,
+    ) -> i32
+        ensures { AreNeeded (setting_fault pages page_bytes k proxies) (T.opening.needs (profile_from pages page_bytes k proxies)) result needed.old needed.new }
+    {
+        match Settings::check(pages, page_bytes, k, proxies) {
+            Err(fault) => of_setting(fault),
+            Ok(s) => {
+                let all = T::bytes_needed(&s);
+                *needed = NphNeeded {
+                    total: all.total,
+                    largest: all.largest,
+                    blocks: all.blocks,
+                };
+                DONE
+            }
+        }
+    }
+
+    /// Opens a heap with these settings. Returns `DONE`; else, with nothing changed, `OPEN` if the heap is open already, the code
+    /// of the first setting out of range, or `MEMORY`.
+    pub fn open(&mut self, memory: Memory, pages: u32, page_bytes: u32, k: u32, proxies: u32) -> i32
+        requires { T.opening.takes k }
+        ensures { IsOpenBy (setting_fault pages page_bytes k proxies) (T.opening.is_fresh (profile_from pages page_bytes k proxies)) (held_in self.old) result (held_in self.new) }
+    {
+        if self.is_open {
+            return OPEN;
+        }
+        match Settings::check(pages, page_bytes, k, proxies) {
+            Err(fault) => of_setting(fault),
+            Ok(s) => match T::open(memory, &s, self.last) {
+                Some(heap) => {
+                    self.put(heap);
+                    DONE
+                }
+                None => MEMORY,
+            },
+        }
+    }
+
+    /// Closes the heap and frees its memory; does nothing if it is closed.
+    pub fn close(&mut self, memory: Memory)
+        ensures { held_in self.new ≡ closed_with T.opening.last (held_in self.old) }
+    {
+        if !self.is_open {
+            return;
+        }
+        self.last = self.place.lend().last();
+        self.is_open = false;
+        let place = std::mem::replace(&mut self.place, HeapBlock::nowhere());
+        drop(place.into_box(Global::new(memory)));
+    }
+}
