@@ -1,6 +1,6 @@
 use Rattle.std.proofs.Common.{◌∙◌, sym}
 use Rattle.script_reader.specs.Owned.{owned_command}
-use Rattle.object_model.proofs.CallerLemmas.{going_before}
+use Rattle.script_laws.proofs.CallerLemmas.{going_before}
 use Rattle.large_session.specs.LargeRun.{large_calls, large_run}
 use Rattle.large_session.proofs.ReplyLemmas.{applied_going}
 use Rattle.large_session.proofs.session.LargeSession.apply_ref.Goals as goal

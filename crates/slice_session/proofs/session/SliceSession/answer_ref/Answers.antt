@@ -1,6 +1,6 @@
 use Rattle.std.proofs.Common.{◌∙◌, sym}
 use Rattle.script_reader.specs.Owned.{owned_command}
-use Rattle.object_model.proofs.CallerLemmas.{going_before}
+use Rattle.script_laws.proofs.CallerLemmas.{going_before}
 use Rattle.slice_session.specs.SliceRun.{slice_run, sliced_calls}
 use Rattle.slice_session.proofs.ReplyLemmas.{applied_going}
 use Rattle.slice_session.proofs.session.SliceSession.answer_ref.Goals as goal
