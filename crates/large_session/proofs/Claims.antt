@@ -13,7 +13,7 @@ use Rattle.run_model.specs.ById.{objects_by_id}
 use Rattle.run_model.proofs.CallerLemmas.{none_by_id}
 use Rattle.large_session.specs.LargeRun.{IsGoingLarge, LargeRun, LargeStep, large_calls}
 use Rattle.large_session.specs.Playing.{BeginsAtOne, BeginsLarge, RunsLarge, large_heap}
-use Rattle.object_model.proofs.CallerLemmas.{still_going}
+use Rattle.script_laws.proofs.CallerLemmas.{still_going}
 use Rattle.large_session.proofs.RunInvariant.{large_keeps}
 use Rattle.large_session.proofs.Turns.{begins_going}
 use Rattle.large_session.specs.LargeHeadline.{MeetsLarge, after_in, large_replies, large_reply_in}

@@ -9,7 +9,7 @@ use Rattle.cf_model.specs.Steps.{IsOpeningOrder, IsOpeningWords, ordered_heap}
 use Rattle.id_table.specs.Ids.{Ids}
 use Rattle.script_reader.specs.declared.command.Command.{Command}
 use Rattle.id_table.proofs.CallerLemmas.{none_tied}
-use Rattle.object_model.proofs.CallerLemmas.{turn}
+use Rattle.script_laws.proofs.CallerLemmas.{turn}
 use Rattle.large_objects.specs.Large.{KeepsParts, LargeState}
 use Rattle.large_objects.specs.LargeSteps.{IsEmptyLarge}
 use Rattle.large_session.specs.LargeRun.{IsGoingLarge, LargeRun, LargeStep, large_calls, large_run}

@@ -17,7 +17,7 @@ use Rattle.script_loop.specs.Applying.{Applies}
 use Rattle.script_loop.proofs.CallerLemmas.{reported}
 use Rattle.large_session.specs.LargeRun.{IsGoingLarge, LargeRun, large_calls}
 use Rattle.large_session.specs.Playing.{large_heap}
-use Rattle.object_model.proofs.CallerLemmas.{still_going}
+use Rattle.script_laws.proofs.CallerLemmas.{still_going}
 use Rattle.large_session.proofs.RunInvariant.{large_keeps}
 
 abbrev at : LargeRun → SinkState → Snapshot LargeRun

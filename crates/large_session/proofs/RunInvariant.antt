@@ -10,8 +10,7 @@ use Rattle.cf_model.specs.Steps.{Position}
 use Rattle.large_objects.specs.Large.{LargeState}
 use Rattle.large_objects.specs.LargeSteps.{FreesLarge, IsLargeFault, IsLargeMalloc, IsLargeWrite, StaysKept}
 use Rattle.large_session.specs.LargeRun.{IsReadyLarge, LargeRun, large_calls}
-use Rattle.object_model.proofs.CallerLemmas.{FreesOn, IsAccessFault, KeepsObjects, MallocsOn, WritesOn}
-use Rattle.script_laws.proofs.CallerLemmas.{malloc_refused}
+use Rattle.script_laws.proofs.CallerLemmas.{FreesOn, IsAccessFault, KeepsObjects, MallocsOn, WritesOn, malloc_refused}
 
 -- what each call keeps: the heap is ready, and its inner manager has the same kind and settings
 pub record StaysReady (old new : LargeState) : Type 0 where

@@ -8,7 +8,7 @@ use Rattle.cf_base.specs.declared.answers.Refusal.{Refusal}
 use Rattle.cf_io.specs.Texts.{Reply, said}
 use Rattle.cf_lemmas.proofs.Maps.{remove_missing}
 use Rattle.cf_model.specs.State.{layout_of}
-use Rattle.object_model.proofs.CallerLemmas.{always_taken, bytes_by_id, free_by_id, malloc_by_id, malloc_text_by, refused, turn, write_by_id}
+use Rattle.script_laws.proofs.CallerLemmas.{always_taken, bytes_by_id, free_by_id, malloc_by_id, malloc_text_by, refused, turn, write_by_id}
 use Rattle.page_model.specs.Held.{Objects}
 use Rattle.run_model.specs.Replies.{malloc_text}
 use Rattle.script_reader.specs.declared.command.Command.{Command}

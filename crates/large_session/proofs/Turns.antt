@@ -12,8 +12,7 @@ use Rattle.cf_model.specs.Families.{IsPaged}
 use Rattle.cf_model.specs.Rules.{AreInRange}
 use Rattle.cf_model.specs.Steps.{IsEmptyHeap}
 use Rattle.cf_lemmas.specs.Maps.{vacant}
-use Rattle.script_laws.proofs.CallerLemmas.{CanGoOn, begin_exists}
-use Rattle.object_model.proofs.CallerLemmas.{HasCalls, can_go_on}
+use Rattle.script_laws.proofs.CallerLemmas.{CanGoOn, begin_exists, HasCalls, can_go_on}
 use Rattle.large_session.specs.LargeRun.{IsGoingLarge, LargeRun, LargeStep, large_calls, large_shown}
 use Rattle.large_session.specs.Playing.{BeginsAtOne, BeginsLarge}
 use Rattle.large_session.proofs.RunInvariant.{large_keeps}

@@ -5,7 +5,7 @@ use Rattle.cf_io.specs.Texts.{Reply, said}
 use Rattle.id_table.specs.Ids.{Ids}
 use Rattle.large_objects.specs.Large.{KeepsParts, LargeState}
 use Rattle.large_objects.specs.LargeSteps.{FreesLarge, IsLargeMalloc, IsLargeWrite, StaysKept}
-use Rattle.object_model.specs.ObjectRun.{Calls, IsGoingObjects, ObjectRun, ObjectStep, object_run}
+use Rattle.script_laws.specs.ObjectRun.{Calls, IsGoingObjects, ObjectRun, ObjectStep, object_run}
 use Rattle.run_model.specs.Replies.{malloc_text}
 use Rattle.run_model.specs.Reports.{frag_of, walk_of}
 use Rattle.script_loop.specs.Semantics.{Snapshot, snapshot}

@@ -8,7 +8,7 @@ ghost use Rattle.cf_session.specs.Short.{short_text};
 ghost use Rattle.script_reader.specs.declared.command.Command.TheVariants.{Malloc, Free, Write};
 ghost use Rattle.id_table.specs.Ties.{AreTiedTo};
 ghost use Rattle.large_session.specs.LargeRun.{LargeStep, large_calls, large_run};
-ghost use Rattle.object_model.specs.ObjectRun.{object_bytes};
+ghost use Rattle.script_laws.specs.ObjectRun.{object_bytes};
 ghost use Rattle.script_laws.specs.IdBytes.{read_shown};
 
 use cf_io::Line;

@@ -97,41 +97,19 @@ impl LargeSession {
     {
         // For its contract: an open heap keeps its rules.
         let _open = heap.is_open();
-        answer(&mut self.ids, heap, c, &mut self.buffer, line, out, meter)
-    }
-}
-
-/// Does the command c on the heap, writes its reply to the sink `out`, and returns how the command ended
-/// (`Outcome`). `buffer` gets the bytes of a read, and `line` the text of each line of the reply. If the sink
-/// fails, the result is `Failed`: the command has taken effect, and a prefix of its reply was written.
-fn answer<H: Manager, K: Sink>(
-    ids: &mut IdTable,
-    heap: &mut LargeHeap<H>,
-    c: CommandRef,
-    buffer: &mut [u8],
-    line: &mut Line,
-    out: &mut K,
-    meter: &mut Meter,
-) -> Result<Outcome, Failed>
-    requires going { IsGoingLarge (large_run ids.old heap.old) }
-    requires formed { IsWellFormed (owned_command c) }
-    requires buffer { length buffer.old ≡ 4096 }
-    ensures step { Applies large_heap (large_moment ids.old heap.old (K.state out.old).written) (owned_command c.entry) result
-        (large_moment ids.new heap.new (K.state out.new).written) }
-    ensures sink { SinkFailsIf (is_err result) (K.state out.old) (K.state out.new) }
-{
-    match c {
-        CommandRef::Walk => {
-            let written = walk_lines(heap.inner(), b"", line, out, meter.steps());
-            ended(written, Outcome::Other)
-        }
-        CommandRef::Frag => {
-            let written = frag_line(heap.inner(), b"", line, out, meter.steps());
-            ended(written, Outcome::Other)
-        }
-        _ => {
-            let outcome = build_reply(ids, heap, c, buffer, line, meter);
-            ended(put_line(line, out), outcome)
+        match c {
+            CommandRef::Walk => {
+                let written = walk_lines(heap.inner(), b"", line, out, meter.steps());
+                ended(written, Outcome::Other)
+            }
+            CommandRef::Frag => {
+                let written = frag_line(heap.inner(), b"", line, out, meter.steps());
+                ended(written, Outcome::Other)
+            }
+            _ => {
+                let outcome = build_reply(&mut self.ids, heap, c, &mut self.buffer, line, meter);
+                ended(put_line(line, out), outcome)
+            }
         }
     }
 }

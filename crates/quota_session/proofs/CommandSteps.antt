@@ -11,7 +11,6 @@ use Rattle.cf_io.specs.Texts.{Reply, said}
 use Rattle.cf_model.specs.Rules.{AreInRange}
 use Rattle.cf_model.specs.State.{region_words}
 use Rattle.page_model.specs.Image.{slot_for}
-use Rattle.object_model.proofs.CallerLemmas.{HasCalls, step_exists}
 use Rattle.page_model.proofs.CallerLemmas.{held_of_bytes, image_empty}
 use Rattle.quota_heap.specs.State.{KeepsTasks, empty_state, held_by, quota_of}
 use Rattle.quota_session.specs.Tasks.{quota_text, quotas_after}
@@ -23,7 +22,7 @@ use Rattle.quota_model.specs.declared.answers.Need.{Need}
 use Rattle.quota_model.specs.declared.answers.QuotaFault.{QuotaFault}
 use Rattle.quota_model.proofs.CallerLemmas.{enough_iff, first_quotas, first_shared, granted_quotas, none_iff}
 use Rattle.script_laws.specs.ValidItems.{IsValidCommand}
-use Rattle.script_laws.proofs.CallerLemmas.{CanGoOn}
+use Rattle.script_laws.proofs.CallerLemmas.{HasCalls, object_step_exists, CanGoOn}
 use Rattle.script_reader.specs.declared.command.Command.{Command}
 use Rattle.script_reader.specs.declared.command.Command.TheVariants as command
 use Rattle.quota_session.specs.Playing.{BeginsTasks, BeginsQuotas}
@@ -84,7 +83,7 @@ module _ (law : PageLaw) (old : QuotaRun) (going : IsGoingQuotas old) where
   present_there : (c : Command) → IsValidCommand c → (reply : Reply) × (new : QuotaRun) × StepsPresent old c reply new
   present_there c can =
       let now = old.session.present in
-      let a = step_exists (task_calls now) (task_there law now going.sixteen.present) (present_run old.session old.heap) c (present_going old going) can in
+      let a = object_step_exists (task_calls now) (task_there law now going.sixteen.present) (present_run old.session old.heap) c (present_going old going) can in
       (a.0, record old { session = with_ids old.session a.1.ids; heap = a.1.heap }, record { ids = a.1.ids; step = a.2; whole = refl })
 
   -- every command of the grammar has a reply

@@ -8,8 +8,8 @@ use Rattle.cf_base.specs.declared.answers.Refusal.{Refusal}
 use Rattle.cf_io.specs.Texts.{Reply, said}
 use Rattle.cf_lemmas.proofs.Renaming.{CountAlike}
 use Rattle.cf_lemmas.proofs.Maps.{remove_missing}
-use Rattle.object_model.specs.ObjectRun.{IsGoingObjects}
-use Rattle.object_model.proofs.CallerLemmas.{always_taken, by_id, bytes_by_id, free_by_id, malloc_by_id, malloc_text_by, refused, write_by_id}
+use Rattle.script_laws.specs.ObjectRun.{IsGoingObjects}
+use Rattle.script_laws.proofs.CallerLemmas.{always_taken, by_id, bytes_by_id, free_by_id, malloc_by_id, malloc_text_by, refused, write_by_id}
 use Rattle.page_model.specs.Held.{Objects}
 use Rattle.quota_heap.specs.State.{objects_by, quota_of}
 use Rattle.quota_heap.specs.Steps.{IsMallocStep}

@@ -1,4 +1,4 @@
--- For clause `going` of `answer_ref` and the law `each_command_has_its_turn`: after each command the heap of tasks keeps its rules, and each task's ids name
+-- For clause `going` of `apply_ref` and the law `each_command_has_its_turn`: after each command the heap of tasks keeps its rules, and each task's ids name
 -- its objects (`IsGoingQuotas`).
 use Rattle.std.proofs.Common.{◌≡◌, ◌≢◌, ℕ, ◌<◌, ◌≤◌, List, [], ◌∷◌, ◌++◌, Some, cond, length, arith, sym, ◌∙◌, ap, subst, inl, inr}
 use Rattle.std.specs.Prelude.{IsTrue, Option, Result, Ok, Err}
@@ -24,8 +24,8 @@ use Rattle.quota_session.specs.Playing.{quota_tasks}
 use Rattle.quota_session.specs.QuotaRun.{AreTasksTied, HasSixteen, IsGoingQuotas, QuotaRun, QuotaStep, SetsQuota, StepsPresent, TaskSession, ids_of}
 use Rattle.quota_session.specs.QuotaRun.{needs_of, present_run, quota_run, with_ids, with_need}
 use Rattle.quota_session.specs.Transcript.{one_need_more}
-use Rattle.object_model.specs.ObjectRun.{IsGoingObjects}
-use Rattle.object_model.proofs.CallerLemmas.{turn, still_going as still_ready}
+use Rattle.script_laws.specs.ObjectRun.{IsGoingObjects}
+use Rattle.script_laws.proofs.CallerLemmas.{turn, still_going as still_ready}
 use Rattle.quota_session.specs.TaskRun.{TaskRun, TaskStep, task_calls, task_run}
 use Rattle.quota_session.proofs.TaskKept.{KeepsRest, task_keeps}
 

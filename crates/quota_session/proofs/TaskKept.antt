@@ -9,8 +9,7 @@ use Rattle.cf_base.specs.declared.answers.Handle.{Handle}
 use Rattle.cf_base.specs.declared.answers.Refusal.{Refusal}
 use Rattle.cf_lemmas.proofs.MapValues.{get-map_values}
 use Rattle.cf_model.specs.Steps.{Position, number_of}
-use Rattle.object_model.proofs.CallerLemmas.{FreesOn, IsAccessFault, KeepsObjects, MallocsOn, WritesOn}
-use Rattle.script_laws.proofs.CallerLemmas.{malloc_refused}
+use Rattle.script_laws.proofs.CallerLemmas.{FreesOn, IsAccessFault, KeepsObjects, MallocsOn, WritesOn, malloc_refused}
 use Rattle.page_model.specs.Bytes.{written}
 use Rattle.page_model.specs.Held.{Placed, objects}
 use Rattle.page_model.specs.Paging.{class_for}

@@ -8,7 +8,7 @@ use Rattle.cf_base.specs.declared.answers.Refusal.{Refusal}
 use Rattle.cf_base.specs.declared.answers.Totals.{Totals}
 use Rattle.cf_io.specs.Texts.{Reply, said}
 use Rattle.id_table.specs.Ids.{Ids}
-use Rattle.object_model.specs.ObjectRun.{Calls, ObjectRun, ObjectStep, object_run}
+use Rattle.script_laws.specs.ObjectRun.{Calls, ObjectRun, ObjectStep, object_run}
 use Rattle.page_model.specs.Arrangement.{live, used_pages}
 use Rattle.page_model.specs.Figures.{figures_of, totals_of}
 use Rattle.page_model.specs.Held.{Placed}

@@ -79,8 +79,9 @@ impl ModeHandler<QuotaHeap> for QuotaHandler {
         let Some(settings) = self.settings else {
             unreachable!();
         };
+        self.meter.lap();
         self.session
-            .apply_ref(heap, &settings, command, sink, &mut self.meter)?;
+            .apply_ref(heap, &settings, command, sink, self.meter.steps())?;
         Ok(())
     }
 }

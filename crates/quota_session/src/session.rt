@@ -92,35 +92,13 @@ impl QuotaSession {
         ensures steps { meter.new ≤ most_tasks_steps (quota_run (Some (profile_of s.now)) self.old heap.old) c.now }
         ensures sink { SinkFailsIf (is_err result) (K.state out.old) (K.state out.new) }
     {
-        self.apply_ref(heap, s, c.as_ref(), out, meter)
-    }
-
-    /// The same as `apply`, for a command whose bytes are borrowed.
-    pub fn apply_ref<K: Sink>(
-        &mut self,
-        heap: &mut QuotaHeap,
-        s: &Settings,
-        c: CommandRef,
-        out: &mut K,
-        meter: &mut Meter,
-    ) -> Result<Outcome, Failed>
-        requires opened { IsTrue heap.old.is_open }
-        requires settings { heap.old.profile ≡ profile_of s.now }
-        requires tied { AreTasksTied self.old heap.old }
-        requires formed { IsWellFormed (owned_command c) }
-        ensures step { Applies quota_tasks (quota_moment (Some (profile_of s.now)) self.old heap.old (K.state out.old).written)
-            (owned_command c.entry) result (quota_moment (Some (profile_of s.now)) self.new heap.new (K.state out.new).written) }
-        ensures going { IsGoingQuotas (quota_run (Some (profile_of s.now)) self.new heap.new) }
-        ensures steps { meter.new ≤ most_tasks_steps (quota_run (Some (profile_of s.now)) self.old heap.old) (owned_command c.entry) }
-        ensures sink { SinkFailsIf (is_err result) (K.state out.old) (K.state out.new) }
-    {
         meter.lap();
-        self.answer_ref(heap, s, c, out, meter.steps())
+        self.apply_ref(heap, s, c.as_ref(), out, meter.steps())
     }
 
-    /// The same as `apply_ref`, but on a ledger that the caller keeps: the call doesn't reset it, and
-    /// raises it by at most `most_tasks_steps` of the command.
-    pub fn answer_ref<K: Sink>(
+    /// `apply` for a command whose bytes are borrowed, and on a ledger that the caller keeps: the call doesn't
+    /// reset it, and raises it by at most `most_tasks_steps` of the command.
+    pub fn apply_ref<K: Sink>(
         &mut self,
         heap: &mut QuotaHeap,
         s: &Settings,

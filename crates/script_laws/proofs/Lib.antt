@@ -33,3 +33,7 @@ pub mod Exact
 pub mod OneTranscript
 pub mod WrongReplies
 pub mod OneOutput
+pub mod ObjectTurns
+pub mod ObjectSteps
+pub mod ObjectsById
+pub mod ObjectReads

@@ -263,17 +263,6 @@ module _ (kind : Kind) where
   ordered_run (asks c ∷ rest) once can = run_from None (asks c ∷ rest) tt tt (tt, once) can
   ordered_run (bad n ∷ rest) once can = run_from None (bad n ∷ rest) tt tt (tt, once) can
 
--- a run leaves its manager open
-abbrev IsOpenRun : Option RunState → Type 0
-IsOpenRun None = ⊤
-IsOpenRun (Some s) = IsGoing s
-
-on_after : (kind : Kind) (old : Option RunState) → IsOpenRun old → (i : Item) (reply : Reply) (new : Option RunState) → ItemStep kind old i reply new → IsOpenRun new
-on_after kind old on (starts p) reply new (s, begins, is) = rw is (begins_going kind p s begins.0)
-on_after kind None on (asks c) reply new (none, is) = rw is tt
-on_after kind (Some old) on (asks c) reply new (s, turn, is) = rw is (step_going old s c reply on turn.step)
-on_after kind old on (bad n) reply new (named, is) = rw is on
-
 -- ---- the items of a script
 
 -- the reader is past the `heap` line

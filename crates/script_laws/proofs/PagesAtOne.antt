@@ -84,10 +84,6 @@ module _ (p : Paging) (m n : Objects) (a : CountAlike m n) where
   unfolding asked_bytes
   asked_alike = a.sums length
 
-  taken_alike : taken_bytes p n ≡ taken_bytes p m
-  unfolding taken_bytes
-  taken_alike = ap (λ k. 8 * k) (a.sums (λ v. slot_words p (class_for p (length v))))
-
   pub figures_alike : (c : ℕ) → figures_at_one p n c ≡ figures_at_one p m c
   figures_alike c = ap (λ k. record (figures_at_one p m c) { live = k; pages = ceil_div k (slots_of p c); not_full = part_pages k (slots_of p c) })
       (live_alike c)

@@ -29,14 +29,10 @@ use Rattle.run_model.specs.Plays.{PlayRun}
 use Rattle.run_model.specs.Replies.{block_text_at, malloc_text, peek_text, place_text, read_text, resize_text}
 use Rattle.run_model.specs.Reports.{frag_of, walk_of}
 use Rattle.run_model.specs.Sessions.{CostsAtMost, CostsByKind}
-use Rattle.run_model.specs.Steps.{bound_text, class_to_bound}
+use Rattle.run_model.specs.Steps.{Stays, bound_text, class_to_bound}
 use Rattle.run_model.specs.Texts.{Reply, said, with_number}
 use Rattle.script_laws.specs.ShownHeap.{IsArranged, ShownHeap, heap_opened, move_counted}
 use Rattle.script_laws.specs.ShownWords.{ShowsWord}
-
--- the reply is the one line `text`, and the heap doesn't change
-abbrev pub OnlyReplies : ShownHeap → List ℕ → Reply → ShownHeap → Type 0
-OnlyReplies old text reply new = (reply ≡ said text) × (new ≡ old)
 
 -- Command `m` with the reply `ok`: the id names a new object of `n` zeros at `place`. With pages it is in a free slot of its class, on a partly full page if
 -- the class has one, else on a free page; with blocks in a block of the least bucket that serves. `number` is the manager's own number for the object, below
@@ -69,7 +65,7 @@ pub record IsRefusedMalloc (old : ShownHeap) (n : ℕ) (reply : Reply) (new : Sh
 -- Command `m` for the id, by the object that the id names before it: if there is one, the reply is `live` and nothing changes; else the malloc is done or
 -- refused.
 abbrev pub ShowsMalloc : Option Placed → ShownHeap → ℕ → ℕ → Reply → ShownHeap → Type 0
-ShowsMalloc (Some x) old id n reply new = OnlyReplies old (codes "live") reply new
+ShowsMalloc (Some x) old id n reply new = Stays old (codes "live") reply new
 ShowsMalloc None old id n reply new = MallocSucceeds old id n reply new ⊎ IsRefusedMalloc old n reply new
 
 -- Command `f` for a live id: its object `x` is removed. With pages an object of a partly full page of the same class moves into the slot of x, if the page of x
@@ -93,7 +89,7 @@ pub record FreeSucceeds (old : ShownHeap) (id : ℕ) (x : Placed) (reply : Reply
 
 -- command `f` for the id, by the object that the id names: if there is none, the reply is `unknown`, and nothing changes
 abbrev pub ShowsFree : Option Placed → ShownHeap → ℕ → Reply → ShownHeap → Type 0
-ShowsFree None old id reply new = OnlyReplies old (codes "unknown") reply new
+ShowsFree None old id reply new = Stays old (codes "unknown") reply new
 ShowsFree (Some x) old id reply new = FreeSucceeds old id x reply new
 
 -- the heap `s` with the object `x` under the id
@@ -102,7 +98,7 @@ heap_with s id x = record s { heap = record s.heap { held = insert s.heap.held i
 
 -- command `w` for the id, by the object that the id names: the bytes are written from byte `at` on if they lie within the object, else the reply is `range`
 abbrev pub ShowsWrite : Option Placed → ShownHeap → ℕ → ℕ → List ℕ → Reply → ShownHeap → Type 0
-ShowsWrite None old id at bytes reply new = OnlyReplies old (codes "unknown") reply new
+ShowsWrite None old id at bytes reply new = Stays old (codes "unknown") reply new
 ShowsWrite (Some x) old id at bytes reply new =
     (reply ≡ said (if nat_le (at + length bytes) (length x.bytes) then codes "ok" else codes "range"))
     × (new ≡ if nat_le (at + length bytes) (length x.bytes) then heap_with old id (record x { bytes = written x.bytes at bytes }) else old)
@@ -151,7 +147,7 @@ pub record IsRefusedResize (old : ShownHeap) (id n : ℕ) (reply : Reply) (new :
 
 -- command `z` for the id, by the object that the id names: if there is none, the reply is `unknown`, and nothing changes
 abbrev pub ShowsResize : Option Placed → ShownHeap → ℕ → ℕ → Reply → ShownHeap → Type 0
-ShowsResize None old id n reply new = OnlyReplies old (codes "unknown") reply new
+ShowsResize None old id n reply new = Stays old (codes "unknown") reply new
 ShowsResize (Some x) old id n reply new = ResizeSucceeds old id x n reply new ⊎ IsRefusedResize old id n reply new
 
 -- command `k`: if no object is live, the class with slots of `slot_words` words gets the bound `k`, and the reply is `ok`; else, or without such a class,
@@ -162,7 +158,7 @@ ShowsBound old slot_words k reply new = (reply ≡ said (bound_text (class_to_bo
 
 -- command `p`: word `word` of the region in 16 hexadecimal digits, with the value that objects and blocks require (`ShowsWord`); `range` past the region
 abbrev pub Peeks : ShownHeap → ℕ → Reply → ShownHeap → Type 0
-Peeks old word reply new = (value : ℕ) × OnlyReplies old (peek_text (if nat_lt word (region_words old.heap.profile) then Some value else None)) reply new
+Peeks old word reply new = (value : ℕ) × Stays old (peek_text (if nat_lt word (region_words old.heap.profile) then Some value else None)) reply new
     × ShowsWord old word value
 
 -- the reply to `steps` with pages: the steps of the last malloc, free or resize, the bound on them, how many objects have moved, and the words of their slots
@@ -182,16 +178,16 @@ abbrev pub IsAnswer : ShownHeap → Command → Reply → ShownHeap → Type 0
 IsAnswer old (Malloc id n) reply new = ShowsMalloc (get old.heap.held id) old id n reply new
 IsAnswer old (Free id) reply new = ShowsFree (get old.heap.held id) old id reply new
 IsAnswer old (Write id at bytes) reply new = ShowsWrite (get old.heap.held id) old id at bytes reply new
-IsAnswer old (Read id at count) reply new = OnlyReplies old (read_text (get old.heap.held id) at count) reply new
-IsAnswer old (Place id) reply new = OnlyReplies old (place_text (get old.heap.held id)) reply new
-IsAnswer old (Block id i) reply new = OnlyReplies old (block_text_at old.heap (get old.heap.held id) i) reply new
+IsAnswer old (Read id at count) reply new = Stays old (read_text (get old.heap.held id) at count) reply new
+IsAnswer old (Place id) reply new = Stays old (place_text (get old.heap.held id)) reply new
+IsAnswer old (Block id i) reply new = Stays old (block_text_at old.heap (get old.heap.held id) i) reply new
 IsAnswer old (Peek word) reply new = Peeks old word reply new
 IsAnswer old Walk reply new = (reply ≡ walk_of old.heap.kind old.heap) × (new ≡ old)
 IsAnswer old Frag reply new = (reply ≡ frag_of old.heap) × (new ≡ old)
-IsAnswer old Steps reply new = OnlyReplies old (steps_shown old.heap.kind old) reply new
+IsAnswer old Steps reply new = Stays old (steps_shown old.heap.kind old) reply new
 IsAnswer old (Bound slot_words k) reply new = ShowsBound old slot_words k reply new
 IsAnswer old (Resize id n) reply new = ShowsResize (get old.heap.held id) old id n reply new
-IsAnswer old command reply new = OnlyReplies old (codes "none") reply new
+IsAnswer old command reply new = Stays old (codes "none") reply new
 
 -- the reply to the `heap` line with settings `p` is `ok`, and the heap after it is empty and arranged by the rules (`IsArranged`)
 abbrev pub OpensEmpty : Kind → Profile → Reply → ShownHeap → Type 0

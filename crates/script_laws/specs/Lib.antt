@@ -9,3 +9,4 @@ pub mod AtOne
 pub mod Histories
 pub mod OneOutput
 pub mod ValidItems
+pub mod ObjectRun

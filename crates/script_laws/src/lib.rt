@@ -1,6 +1,7 @@
 //! What is claimed of the replies to every script in modes `run` and `compare`, by its lines and replies alone
 //! (`MeetsHeadline`), and the transcript: the replies if every bound is 1, as a function of the kind and the
-//! script. The public functions do nothing: the contract of each is a theorem on runs.
+//! script. `ObjectRun` defines the runs of a session over any heap of objects, by the calls of the heap. The public
+//! functions do nothing: the contract of each is a theorem on runs.
 #![tactic(auto)]
 
 mod headline;

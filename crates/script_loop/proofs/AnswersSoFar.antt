@@ -40,16 +40,6 @@ nothing_left r line more ended over = rw over refl
 bounding_opening : (b : Stage) → b ≡ Bounding → b ≡ Opening → ⊥
 bounding_opening b leads at = absurd (let e : Bounding ≡ Opening = sym leads ∙ at in cc)
 
-pub waits_for_more : (r r' : Reading) → Answers r next.NeedMore r' → IsWaiting r'
-waits_for_more r r' needs = record { going = needs.passes.still; quiet = sym (needs.passes.reads.left [] false) ∙ needs.none_left; room = λ _. needs.few }
-
-pub waits_for_nothing : (r r' : Reading) → Answers r next.End r' → IsWaiting r'
-waits_for_nothing r r' over = record {
-  going = over.passes.still;
-  quiet = sym (over.passes.reads.left [] false) ∙ (let same : items_left r [] false ≡ items_left r [] true = rw over.shown refl in same ∙ over.none_left);
-  room = λ is. absurd (true≢false (sym over.shown ∙ sym over.passes.reads.same_end ∙ is));
-}
-
 -- the reader's next item is a bad line, and the reader stops at it
 pub record IsBadAt (r : Reading) (line : ℕ) (r' : Reading) : Type 0 where
   pub first : (more : List ℕ) (ended : Bool) → items_left r more ended ≡ bad line ∷ []
@@ -138,28 +128,6 @@ module _ {S P : Type 0} (m : Semantics S P) where
   cut_next {old} {mid} {new} {p} {t} {out} a b = subst (λ (l : List ℕ). CutOff m old l new (t ++ out)) (append-nil p) (cut_then a b)
 
   -- ---- one result of the reader
-
-  -- the reader passed nothing but blank lines and comments
-  pub answered_blank : (r r' : Reading) (s : S) → PassesOver r r'
-      → Answered m (record { reading = r; state = s }) [] (record { reading = r'; state = s }) [] false
-  answered_blank r r' s passes = record {
-    done = [];
-    replies = [];
-    run = (refl, ap (λ (a : Stage). run_in a s) passes.same_stage);
-    text_is = refl;
-    stops = refl;
-    left = passes.reads.left;
-    plan = refl;
-    untouched = λ at. (sym passes.same_stage ∙ at, refl);
-    silent = λ is at. refl;
-  }
-
-  pub ready_blank : (r r' : Reading) (s : S) → PassesOver r r' → IsReadyAt m r.stage s → IsReadyAt m r'.stage s
-  ready_blank r r' s passes ready = subst (λ (a : Stage). IsReadyAt m a s) (sym passes.same_stage) ready
-
-  -- the reader returned the `heap` line
-  pub fresh_at : (a : Stage) (s : S) → a ≡ Opening → IsReadyAt m a s → m.is_fresh s
-  fresh_at a s is ready = subst (λ (z : Stage). IsReadyAt m z s) is ready
 
   pub ready_open : (b : Stage) (t : S) → b ≡ Bounding → m.is_going t → IsReadyAt m b t
   ready_open b t leads going = subst (λ (a : Stage). IsReadyAt m a t) (sym leads) going

@@ -26,11 +26,6 @@ run_after a Opening k leads s = absurd (never_opening a Opening k leads refl)
 run_after a Bounding k leads s = refl
 run_after a Running k leads s = refl
 
-pub going_at : {S P : Type 0} (m : Semantics S P) (a b : Stage) (k : Bool) (s : S) → stage_after_command a k ≡ Some b → IsReadyAt m a s → m.is_going s
-going_at m Opening b k s leads ready = absurd cc
-going_at m Bounding b k s leads ready = ready
-going_at m Running b k s leads ready = ready
-
 pub going_after : {S P : Type 0} (m : Semantics S P) (a b : Stage) (k : Bool) (s : S) → stage_after_command a k ≡ Some b → m.is_going s → IsReadyAt m b s
 going_after m a Opening k s leads going = absurd (never_opening a Opening k leads refl)
 going_after m a Bounding k s leads going = going

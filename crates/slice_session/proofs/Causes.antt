@@ -17,8 +17,8 @@ use Rattle.slice_model.specs.declared.answers.SliceRefusal.{SliceRefusal}
 use Rattle.slice_model.specs.declared.answers.SliceRefusal.TheVariants as refusal
 use Rattle.slice_model.proofs.CallerLemmas.{given_or_refused, one_cause}
 use Rattle.sliced_heap.specs.Shown.{SlicedState, plan_in, working_in, StaysOpen}
-use Rattle.object_model.proofs.CallerLemmas.{refused}
-use Rattle.object_model.specs.ObjectRun.{FreesId, MallocsId, ids_without}
+use Rattle.script_laws.proofs.CallerLemmas.{refused}
+use Rattle.script_laws.specs.ObjectRun.{FreesId, MallocsId, ids_without}
 use Rattle.slice_session.specs.SliceRun.{Does, IsGoingSliced, SliceRun, SliceStep}
 use Rattle.run_model.specs.Steps.{Stays, ids_given}
 use Rattle.slice_session.specs.SliceRun.{slice_free_text, slice_malloc_text, slice_run, sliced_calls}

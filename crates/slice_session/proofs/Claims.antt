@@ -13,7 +13,7 @@ use Rattle.slice_session.specs.Playing.{BeginsSliced, BeginsSlices, RunsSliced, 
 use Rattle.slice_session.specs.SliceRun.{IsGoingSliced, SliceRun, SliceStep, sliced_calls}
 use Rattle.slice_session.proofs.OpenLemmas.{begins_going}
 use Rattle.slice_session.proofs.Plays.{play_seen}
-use Rattle.object_model.proofs.CallerLemmas.{still_going}
+use Rattle.script_laws.proofs.CallerLemmas.{still_going}
 use Rattle.slice_session.proofs.RunInvariant.{sliced_keeps}
 use Rattle.run_model.specs.ById.{objects_by_id}
 use Rattle.run_model.proofs.CallerLemmas.{none_by_id}

@@ -6,9 +6,8 @@ use Rattle.std.specs.FinMap.{empty}
 use Rattle.cf_base.specs.Settings.{Profile}
 use Rattle.cf_io.specs.Texts.{Reply, said, with_number}
 use Rattle.cf_model.specs.Rules.{AreInRange}
-use Rattle.object_model.proofs.CallerLemmas.{HasCalls, can_go_on}
 use Rattle.run_model.specs.Replies.{peek_text}
-use Rattle.script_laws.proofs.CallerLemmas.{CanGoOn}
+use Rattle.script_laws.proofs.CallerLemmas.{HasCalls, can_go_on, CanGoOn}
 use Rattle.script_reader.specs.declared.command.Command.{Command}
 use Rattle.script_reader.specs.declared.command.Command.TheVariants as command
 use Rattle.slice_model.specs.State.{left_of}

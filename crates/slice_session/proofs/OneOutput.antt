@@ -18,14 +18,14 @@ use Rattle.slice_model.proofs.CallerLemmas.{one_free, one_malloc, one_slice, one
 use Rattle.sliced_heap.specs.Access.{access_fault}
 use Rattle.sliced_heap.specs.Shown.{SlicedState, StaysOpen, plan_in, working_in}
 use Rattle.slice_session.specs.Playing.{BeginsSliced, BeginsSlices, RunsSliced, SlicePlay, run_of_play, slices}
-use Rattle.object_model.specs.ObjectRun.{FreesId, MallocsId, WritesId, ids_without}
+use Rattle.script_laws.specs.ObjectRun.{FreesId, MallocsId, WritesId, ids_without}
 use Rattle.slice_session.specs.SliceRun.{IsGoingSliced, SliceRun, SliceStep, StepsSliced}
 use Rattle.run_model.specs.Replies.{write_text}
 use Rattle.run_model.specs.Steps.{Stays, ids_given}
 use Rattle.slice_session.specs.SliceRun.{slice_free_text, slice_malloc_text, sliced_calls}
 use Rattle.slice_session.proofs.OpenLemmas.{begins_going}
 use Rattle.slice_session.proofs.Plays.{play_seen}
-use Rattle.object_model.proofs.CallerLemmas.{still_going}
+use Rattle.script_laws.proofs.CallerLemmas.{still_going}
 use Rattle.slice_session.proofs.RunInvariant.{sliced_keeps}
 use Rattle.slice_session.proofs.Claims.{GoesOn}
 

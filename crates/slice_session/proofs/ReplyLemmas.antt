@@ -1,4 +1,4 @@
--- For `answer_ref` and `commands.rt`: a run over a sliced heap stays in progress after a command, a malloc by the heap is a step of the run, and the replies to
+-- For `apply_ref` and `commands.rt`: a run over a sliced heap stays in progress after a command, a malloc by the heap is a step of the run, and the replies to
 -- `s` and `r` are those of the model.
 use Rattle.std.proofs.Common.{◌≡◌, ◌<◌, ℕ, List, Option, Result, Ok, Err, length, Some, None, false, ap, refl, subst, sym}
 use Rattle.std.specs.Prelude.{codes, is_some, option_map}
@@ -11,8 +11,8 @@ use Rattle.cf_io.specs.Lines.{line_capacity}
 use Rattle.cf_io.specs.Texts.{Reply, said, with_number}
 use Rattle.cf_session.specs.declared.outcome.Outcome.{Outcome}
 use Rattle.id_table.specs.Ids.{Ids}
-use Rattle.object_model.specs.ObjectRun.{MallocsId}
-use Rattle.object_model.proofs.CallerLemmas.{still_going}
+use Rattle.script_laws.specs.ObjectRun.{MallocsId}
+use Rattle.script_laws.proofs.CallerLemmas.{still_going}
 use Rattle.run_model.specs.Steps.{Stays}
 use Rattle.script_loop.specs.Semantics.{snapshot}
 use Rattle.script_reader.specs.declared.command.Command.{Command}

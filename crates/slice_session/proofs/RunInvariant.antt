@@ -8,7 +8,7 @@ use Rattle.cf_base.specs.declared.answers.AccessFault.TheVariants as access
 use Rattle.cf_base.specs.declared.answers.Handle.{Handle}
 use Rattle.cf_io.specs.Texts.{Reply, said}
 use Rattle.cf_model.specs.Steps.{Position}
-use Rattle.object_model.proofs.CallerLemmas.{FreesOn, IsAccessFault, KeepsObjects, MallocsOn, WritesOn}
+use Rattle.script_laws.proofs.CallerLemmas.{FreesOn, IsAccessFault, KeepsObjects, MallocsOn, WritesOn}
 use Rattle.page_model.specs.Held.{Objects, objects}
 use Rattle.script_laws.specs.IdBytes.{is_ok}
 use Rattle.script_reader.specs.declared.command.Command.{Command}

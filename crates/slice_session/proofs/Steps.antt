@@ -35,8 +35,7 @@ use Rattle.slice_model.specs.Steps.{AddsObject, IsRefusedBy}
 use Rattle.slice_model.proofs.CallerLemmas.{given_or_refused, kept_begun, lacking_is_no_place, no_place_is_lacking, objects_sliced}
 use Rattle.sliced_heap.specs.Access.{access_fault}
 use Rattle.sliced_heap.specs.Shown.{SlicedState, plan_in, working_in}
-use Rattle.object_model.specs.ObjectRun.{WritesId}
-use Rattle.object_model.proofs.CallerLemmas.{bytes_by_id, free_by_id, malloc_by_id, refused, taken_unless, write_by_id}
+use Rattle.script_laws.specs.ObjectRun.{WritesId}
 use Rattle.slice_session.specs.SliceRun.{Does, IsGoingSliced, SliceRun, SliceStep, StepsSliced}
 use Rattle.run_model.specs.Steps.{Stays}
 use Rattle.slice_session.specs.SliceRun.{slice_free_text, slice_malloc_text, sliced_calls}
@@ -44,7 +43,7 @@ use Rattle.slice_session.proofs.RunInvariant.{sliced_keeps}
 use Rattle.run_model.specs.ById.{objects_by_id}
 use Rattle.script_laws.specs.IdBytes.{read_shown}
 use Rattle.script_laws.specs.RepliesById.{ok_or, put_unless}
-use Rattle.script_laws.proofs.CallerLemmas.{live_alike, needed_with_alike}
+use Rattle.script_laws.proofs.CallerLemmas.{bytes_by_id, free_by_id, malloc_by_id, refused, taken_unless, write_by_id, live_alike, needed_with_alike}
 use Rattle.run_model.proofs.CallerLemmas.{by_id_counts}
 use Rattle.slice_session.specs.ShownSlices.{ShownJob, ShownSlices, after_slice, job_takes, needed_beside, noted, words_left}
 use Rattle.slice_session.specs.SliceHeadline.{AnswersSliced, after, after_free, after_malloc, slice_line, slice_malloc_line, slice_fault, slice_refusal, with_objects}

@@ -5,7 +5,7 @@ use Rattle.cf_base.specs.declared.answers.Refusal.TheVariants as shown
 use Rattle.cf_io.specs.Texts.{Reply, said, with_number}
 use Rattle.cf_model.specs.Costs.{words_touched}
 use Rattle.id_table.specs.Ids.{Ids}
-use Rattle.object_model.specs.ObjectRun.{Calls, IsGoingObjects, ObjectRun, ObjectStep, object_run}
+use Rattle.script_laws.specs.ObjectRun.{Calls, IsGoingObjects, ObjectRun, ObjectStep, object_run}
 use Rattle.page_model.specs.Held.{objects}
 use Rattle.run_model.specs.Replies.{malloc_text, peek_text}
 use Rattle.run_model.specs.Steps.{Stays}

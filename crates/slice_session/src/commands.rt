@@ -6,7 +6,7 @@ ghost use Rattle.cf_io.specs.Texts.{said};
 ghost use Rattle.cf_session.specs.Apply.{outcome_in};
 ghost use Rattle.cf_session.specs.Short.{short_text};
 ghost use Rattle.cf_model.specs.Costs.{words_touched};
-ghost use Rattle.object_model.specs.ObjectRun.{object_bytes};
+ghost use Rattle.script_laws.specs.ObjectRun.{object_bytes};
 ghost use Rattle.run_model.specs.Replies.{peek_text};
 ghost use Rattle.script_laws.specs.IdBytes.{read_shown};
 ghost use Rattle.script_reader.specs.declared.command.Command.TheVariants.{Malloc, Free, Slice, Write};

@@ -71,8 +71,9 @@ impl ModeHandler<SlicedHeap> for SliceHandler {
         command: CommandRef,
         sink: &mut K,
     ) -> Result<(), Failed> {
+        self.meter.lap();
         self.session
-            .apply_ref(heap, command, sink, &mut self.meter)?;
+            .apply_ref(heap, command, sink, self.meter.steps())?;
         Ok(())
     }
 }

@@ -79,33 +79,13 @@ impl SliceSession {
         ensures steps { meter.new ≤ most_steps heap.old.quantum c.now }
         ensures sink { SinkFailsIf (is_err result) (K.state out.old) (K.state out.new) }
     {
-        self.apply_ref(heap, c.as_ref(), out, meter)
-    }
-
-    /// The same as `apply`, for a command whose bytes are borrowed.
-    pub fn apply_ref<K: Sink>(
-        &mut self,
-        heap: &mut SlicedHeap,
-        c: CommandRef,
-        out: &mut K,
-        meter: &mut Meter,
-    ) -> Result<Outcome, Failed>
-        requires open { IsTrue heap.old.is_open }
-        requires tied { AreTiedTo self.old (objects heap.old.held) }
-        requires formed { IsWellFormed (owned_command c) }
-        ensures step { Applies sliced (snapshot (slice_run self.old heap.old) (K.state out.old).written) (owned_command c.entry) result
-            (snapshot (slice_run self.new heap.new) (K.state out.new).written) }
-        ensures going { IsGoingSliced (slice_run self.new heap.new) }
-        ensures steps { meter.new ≤ most_steps heap.old.quantum (owned_command c.entry) }
-        ensures sink { SinkFailsIf (is_err result) (K.state out.old) (K.state out.new) }
-    {
         meter.lap();
-        self.answer_ref(heap, c, out, meter.steps())
+        self.apply_ref(heap, c.as_ref(), out, meter.steps())
     }
 
-    /// The same as `apply_ref`, but on a ledger that the caller keeps: the call doesn't reset it, and
-    /// raises it by at most `most_steps` of the command.
-    pub fn answer_ref<K: Sink>(
+    /// `apply` for a command whose bytes are borrowed, and on a ledger that the caller keeps: the call doesn't
+    /// reset it, and raises it by at most `most_steps` of the command.
+    pub fn apply_ref<K: Sink>(
         &mut self,
         heap: &mut SlicedHeap,
         c: CommandRef,
@@ -123,40 +103,10 @@ impl SliceSession {
     {
         // For its contract: an open heap keeps its rules.
         let _open = heap.is_open();
-        answer(
-            &mut self.ids,
-            heap,
-            c,
-            &mut self.buffer,
-            &mut self.line,
-            out,
-            steps,
-        )
+        let line = &mut self.line;
+        let outcome = build_reply(&mut self.ids, heap, c, &mut self.buffer, line, steps);
+        ended(put_line(line, out), outcome)
     }
-}
-
-/// Does the command c on the heap and writes its reply to the sink `out`. `buffer` gets the bytes of a read,
-/// and `line` the text of the reply. Returns how the command ended, by its reply. If the sink fails, the result
-/// is `Failed`: the command has taken effect, and a prefix of its reply was written.
-fn answer<K: Sink>(
-    ids: &mut IdTable,
-    heap: &mut SlicedHeap,
-    c: CommandRef,
-    buffer: &mut [u8],
-    line: &mut Line,
-    out: &mut K,
-    steps: &mut Steps,
-) -> Result<Outcome, Failed>
-    requires going { IsGoingSliced (slice_run ids.old heap.old) }
-    requires formed { IsWellFormed (owned_command c) }
-    requires buffer { length buffer.old ≡ 4096 }
-    ensures step { Applies sliced (snapshot (slice_run ids.old heap.old) (K.state out.old).written) (owned_command c.entry) result
-        (snapshot (slice_run ids.new heap.new) (K.state out.new).written) }
-    ensures steps { RoseAtMost steps.old steps.new (most_steps heap.old.quantum (owned_command c.entry)) }
-    ensures sink { SinkFailsIf (is_err result) (K.state out.old) (K.state out.new) }
-{
-    let outcome = build_reply(ids, heap, c, buffer, line, steps);
-    ended(put_line(line, out), outcome)
 }
 
 /// Does the command c on the heap and builds the text of its reply in `line`, but writes it to no sink.

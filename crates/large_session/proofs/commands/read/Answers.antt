@@ -1,6 +1,6 @@
 use Rattle.std.proofs.Common.{◌∙◌, length, sym}
 use Rattle.large_session.specs.LargeRun.{large_calls, large_run}
-use Rattle.object_model.proofs.CallerLemmas.{read_fault, read_said, read_unknown}
+use Rattle.script_laws.proofs.CallerLemmas.{read_fault, read_said, read_unknown}
 use Rattle.large_session.proofs.RunInvariant.{fault_on}
 use Rattle.large_session.proofs.commands.read.Goals as goal
 

@@ -1,4 +1,4 @@
-use Rattle.object_model.proofs.CallerLemmas.{step_exists, still_going}
+use Rattle.script_laws.proofs.CallerLemmas.{object_step_exists, still_going}
 use Rattle.large_session.specs.LargeRun.{large_calls}
 use Rattle.large_session.proofs.RunInvariant.{large_keeps}
 use Rattle.large_session.proofs.Turns.{begins_going, begins_large, large_there}
@@ -11,7 +11,7 @@ pub returns-clause-begun : goal.returns-clause-begun
 returns-clause-begun c = begins_going
 
 pub returns-clause-answered : goal.returns-clause-answered
-returns-clause-answered c = step_exists large_calls large_there
+returns-clause-answered c = object_step_exists large_calls large_there
 
 pub returns-clause-going : goal.returns-clause-going
 returns-clause-going c = still_going large_calls large_keeps

@@ -1,5 +1,4 @@
-use Rattle.object_model.proofs.CallerLemmas.{names_objects}
-use Rattle.script_laws.proofs.CallerLemmas.{any_reads_are_shown}
+use Rattle.script_laws.proofs.CallerLemmas.{names_objects, any_reads_are_shown}
 use Rattle.large_session.specs.LargeRun.{LargeStep, large_calls}
 use Rattle.large_session.specs.Playing.{BeginsAtOne}
 use Rattle.large_session.proofs.RunInvariant.{large_keeps}

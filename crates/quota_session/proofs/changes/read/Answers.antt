@@ -1,5 +1,5 @@
 use Rattle.std.proofs.Common.{◌∙◌, Some, length, sym}
-use Rattle.object_model.proofs.CallerLemmas.{read_fault, read_said, read_unknown}
+use Rattle.script_laws.proofs.CallerLemmas.{read_fault, read_said, read_unknown}
 use Rattle.quota_session.specs.TaskRun.{task_calls, task_run}
 use Rattle.quota_session.proofs.TaskKept.{bytes_by, fault_on}
 use Rattle.quota_session.proofs.changes.read.Goals as goal

@@ -1,6 +1,6 @@
 use Rattle.std.proofs.Common.{◌∙◌, length, sym}
 use Rattle.std.specs.Prelude.{Ok}
-use Rattle.object_model.proofs.CallerLemmas.{read_fault, read_said, read_unknown}
+use Rattle.script_laws.proofs.CallerLemmas.{read_fault, read_said, read_unknown}
 use Rattle.page_model.specs.Held.{objects}
 use Rattle.slice_model.specs.Runs.{Read}
 use Rattle.slice_model.proofs.CallerLemmas.{call_on_map}

@@ -1,4 +1,4 @@
-use Rattle.object_model.proofs.CallerLemmas.{step_exists, still_going}
+use Rattle.script_laws.proofs.CallerLemmas.{object_step_exists, still_going}
 use Rattle.slice_session.specs.SliceRun.{sliced_calls}
 use Rattle.slice_session.proofs.RunInvariant.{sliced_keeps}
 use Rattle.slice_session.proofs.OpenLemmas.{begins_going}
@@ -12,7 +12,7 @@ pub returns-clause-begun : goal.returns-clause-begun
 returns-clause-begun c = begins_going
 
 pub returns-clause-answered : goal.returns-clause-answered
-returns-clause-answered c = step_exists sliced_calls sliced_there
+returns-clause-answered c = object_step_exists sliced_calls sliced_there
 
 pub returns-clause-going : goal.returns-clause-going
 returns-clause-going c = still_going sliced_calls sliced_keeps

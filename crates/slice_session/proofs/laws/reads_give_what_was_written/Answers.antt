@@ -1,5 +1,4 @@
-use Rattle.object_model.proofs.CallerLemmas.{names_objects}
-use Rattle.script_laws.proofs.CallerLemmas.{any_reads_are_shown}
+use Rattle.script_laws.proofs.CallerLemmas.{names_objects, any_reads_are_shown}
 use Rattle.slice_session.specs.Playing.{BeginsSlices}
 use Rattle.slice_session.specs.SliceRun.{SliceStep, sliced_calls}
 use Rattle.slice_session.proofs.OpenLemmas.{begins_going}

@@ -4,7 +4,7 @@ use Rattle.script_reader.specs.Owned.{owned_command}
 use Rattle.quota_session.specs.Layout.{tasks_session}
 use Rattle.quota_session.specs.QuotaRun.{quota_run}
 use Rattle.quota_session.proofs.RunInvariant.{applied_going, going_before}
-use Rattle.quota_session.proofs.session.QuotaSession.answer_ref.Goals as goal
+use Rattle.quota_session.proofs.session.QuotaSession.apply_ref.Goals as goal
 
 pub invariant_of-self : goal.invariant_of-self
 invariant_of-self g c = (

@@ -9,8 +9,8 @@ use Rattle.cf_base.specs.declared.answers.AccessFault.TheVariants as access
 use Rattle.cf_base.specs.declared.answers.Handle.{Handle}
 use Rattle.cf_base.specs.declared.answers.Refusal.{Refusal}
 use Rattle.cf_lemmas.proofs.Tests.{le_no, le_yes}
-use Rattle.object_model.specs.ObjectRun.{Calls, FreesId, IsGoingObjects, MallocsId, ObjectRun, ObjectStep, WritesId, ids_without, object_bytes}
-use Rattle.object_model.proofs.Turns.{FreesOn, KeepsObjects, MallocsOn, WritesOn}
+use Rattle.script_laws.specs.ObjectRun.{Calls, FreesId, IsGoingObjects, MallocsId, ObjectRun, ObjectStep, WritesId, ids_without, object_bytes}
+use Rattle.script_laws.proofs.ObjectTurns.{FreesOn, KeepsObjects, MallocsOn, WritesOn}
 use Rattle.page_model.specs.Bytes.{written}
 use Rattle.page_model.specs.Held.{Objects}
 use Rattle.run_model.specs.ById.{objects_by_id}

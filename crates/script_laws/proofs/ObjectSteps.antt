@@ -9,15 +9,15 @@ use Rattle.cf_base.specs.declared.answers.AccessFault.{AccessFault}
 use Rattle.cf_base.specs.declared.answers.Handle.{Handle}
 use Rattle.cf_model.specs.Rules.{AreInRange}
 use Rattle.cf_model.specs.Steps.{Position}
-use Rattle.object_model.specs.ObjectRun.{Calls, FreesId, IsGoingObjects, MallocsId, ObjectRun, ObjectStep, WritesId, object_bytes, ids_without}
-use Rattle.object_model.proofs.Turns.{KeepsObjects, still_going}
+use Rattle.script_laws.specs.ObjectRun.{Calls, FreesId, IsGoingObjects, MallocsId, ObjectRun, ObjectStep, WritesId, object_bytes, ids_without}
+use Rattle.script_laws.proofs.ObjectTurns.{KeepsObjects, still_going}
 use Rattle.page_model.specs.Bytes.{AreBytes}
 use Rattle.run_model.specs.Replies.{write_text}
 use Rattle.run_model.specs.Steps.{Stays, ids_given}
 use Rattle.run_model.specs.Texts.{Reply, said}
 use Rattle.script_laws.specs.IdBytes.{read_shown}
 use Rattle.script_laws.specs.ValidItems.{IsValidCommand}
-use Rattle.script_laws.proofs.CallerLemmas.{CanGoOn}
+use Rattle.script_laws.proofs.RunsExist.{CanGoOn}
 use Rattle.script_reader.specs.declared.command.Command.{Command}
 use Rattle.script_reader.specs.declared.command.Command.TheVariants as command
 
@@ -84,9 +84,9 @@ module _ {S R F : Type 0} (calls : Calls S R F) (there : HasCalls calls) (old : 
   step_there c can = other_at c
 
 -- every command of the grammar has a reply
-pub step_exists : {S R F : Type 0} (calls : Calls S R F) → HasCalls calls → (old : ObjectRun S) (c : Command) → IsGoingObjects calls old → IsValidCommand c
+pub object_step_exists : {S R F : Type 0} (calls : Calls S R F) → HasCalls calls → (old : ObjectRun S) (c : Command) → IsGoingObjects calls old → IsValidCommand c
     → (reply : Reply) × (new : ObjectRun S) × ObjectStep calls old c reply new
-step_exists calls there old c going can = (let s = step_there calls there old going c can in (s.reply, s.new, s.done))
+object_step_exists calls there old c going can = (let s = step_there calls there old going c can in (s.reply, s.new, s.done))
 
 -- a run can be continued after each command
 abbrev pub can_go_on : {S R F : Type 0} (calls : Calls S R F) {Stay : S → S → Type 0} → KeepsObjects calls Stay → HasCalls calls
@@ -97,5 +97,5 @@ can_go_on calls rules there begins going begin_exists = record {
   begins_going = going;
   still_going = λ old c reply new going can step. still_going calls rules old new c reply going step;
   begin_exists = begin_exists;
-  step_exists = step_exists calls there;
+  step_exists = object_step_exists calls there;
 }

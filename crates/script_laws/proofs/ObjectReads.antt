@@ -6,8 +6,8 @@ use Rattle.hex.specs.Hex.{encode_lower}
 use Rattle.cf_base.specs.declared.answers.AccessFault.{AccessFault}
 use Rattle.cf_base.specs.declared.answers.AccessFault.TheVariants as access
 use Rattle.cf_lemmas.proofs.Tests.{le_no, le_yes}
-use Rattle.object_model.specs.ObjectRun.{Calls, ObjectRun, object_bytes}
-use Rattle.object_model.proofs.Turns.{IsAccessFault}
+use Rattle.script_laws.specs.ObjectRun.{Calls, ObjectRun, object_bytes}
+use Rattle.script_laws.proofs.ObjectTurns.{IsAccessFault}
 use Rattle.run_model.specs.Replies.{write_text}
 use Rattle.script_laws.specs.IdBytes.{read_shown}
 

@@ -11,14 +11,14 @@ use Rattle.cf_base.specs.declared.answers.Handle.{Handle}
 use Rattle.cf_model.specs.Steps.{Position}
 use Rattle.id_table.specs.Ids.{Ids}
 use Rattle.id_table.specs.Ties.{AreTiedTo}
-use Rattle.object_model.specs.ObjectRun.{Calls, FreesId, IsGoingObjects, MallocsId, ObjectRun, ObjectStep, WritesId, ids_without, object_run}
+use Rattle.script_laws.specs.ObjectRun.{Calls, FreesId, IsGoingObjects, MallocsId, ObjectRun, ObjectStep, WritesId, ids_without, object_run}
 use Rattle.page_model.specs.Bytes.{written}
 use Rattle.page_model.specs.Held.{Objects}
 use Rattle.run_model.specs.Replies.{malloc_text, write_text}
 use Rattle.run_model.specs.Steps.{Stays, ids_given}
 use Rattle.run_model.specs.Texts.{Reply, said}
 use Rattle.script_laws.specs.IdBytes.{is_ok, read_shown}
-use Rattle.script_laws.proofs.CallerLemmas.{IsSame, Named, NamedTurn, NamesObjects, refuses, same_named, still_tied, through}
+use Rattle.script_laws.proofs.NamedTurns.{IsSame, Named, NamedTurn, NamesObjects, refuses, same_named, still_tied, through}
 use Rattle.script_reader.specs.declared.command.Command.{Command}
 use Rattle.script_reader.specs.declared.command.Command.TheVariants as command
 
