@@ -1,11 +1,13 @@
 pub mod FreeParts
+pub mod SlotSteps
 pub mod Fresh
 pub mod Loosen
 pub mod MovingWords
 pub mod Rights
-pub mod LoosenTlsf
-pub mod TlsfWords
-pub mod TlsfRights
+pub mod LoosenTag
+pub mod TagWords
+pub mod TagRights
+pub mod TagSent
 pub mod Sent
 pub mod SettingsStay
 pub mod HandleLaws

@@ -12,9 +12,11 @@ pub mod Restored
 pub mod Moving
 pub mod NonMoving
 pub mod NonMovingPlace
+pub mod LooseTag
+pub mod LooseTagLoan
+pub mod Tag
 pub mod Tlsf
-pub mod LooseTlsf
-pub mod LooseTlsfLoan
+pub mod Half
 pub mod Needed
 pub mod Most
 pub mod Slots
@@ -23,3 +25,4 @@ pub mod Bound
 pub mod PagesNeeded
 pub mod MovingPlace
 pub mod TlsfPlace
+pub mod HalfPlace

@@ -20,12 +20,12 @@ manager_bytes NonMoving p = paged_bytes NonMoving p
 manager_bytes Tlsf p = tag_bytes Tlsf p
 manager_bytes HalfFit p = tag_bytes HalfFit p
 
--- the bytes of the block of an open heap of each kind that has a library (`Held`)
+-- the bytes of the block of an open heap of each kind (`Held`)
 abbrev pub held_size : Kind → ℕ
 held_size Moving = 1528
 held_size NonMoving = 1528
 held_size Tlsf = 512
-held_size HalfFit = 0
+held_size HalfFit = 512
 
 -- the manager, the handles of `count` numbers, and the block of the open heap
 abbrev pub held_bytes : Kind → Profile → ℕ → BytesNeeded

@@ -1,16 +1,17 @@
 -- For `Lendable` of `Held`: a heap with its own words in their place is the same.
 use Rattle.std.specs.Prelude.{◌≡◌, Option, Some, None, refl}
 use mathlib.Core.Path.{ap}
+use Rattle.cf_base.specs.declared.kind.Kind.{Kind}
 use Rattle.cf_base.specs.declared.kind.Kind.TheVariants.{Moving}
 use Rattle.paged_heap.specs.Layout.{state_in}
 use Rattle.paged_heap.specs.declared.open_heap.OpenHeap.{OpenHeap}
 use Rattle.c_base.specs.Lending.{AreWords}
 use Rattle.c_base.proofs.CallerLemmas.{same_words}
 use Rattle.held_heap.specs.Loose.{Fits, held_all, inner_all, state_of}
-use Rattle.held_heap.specs.LooseTlsf as tlsf
+use Rattle.held_heap.specs.LooseTag as tag
 use Rattle.held_heap.specs.declared.loose.LooseHeld.{LooseHeld}
-use Rattle.held_heap.specs.declared.loose_tlsf.LooseOpen.{LooseOpen}
-use Rattle.held_heap.specs.declared.loose_tlsf.LooseTlsf.{LooseTlsf}
+use Rattle.held_heap.specs.declared.loose_tag.LooseOpen.{LooseOpen}
+use Rattle.held_heap.specs.declared.loose_tag.LooseTag.{LooseTag}
 
 same_inner : (o : Option OpenHeap) → AreWords (state_in Moving o).words → inner_all o (state_in Moving o).words ≡ o
 same_inner None below = refl
@@ -19,9 +20,9 @@ same_inner (Some h) below = ap (λ ws. Some (record h { region = ws })) (same_wo
 pub moving_restored : (a : LooseHeld) → Fits a → AreWords (state_of a).heap.words → held_all a (state_of a).heap.words ≡ a
 moving_restored a fit below = ap (λ o. record a { heap = record a.heap { inner = o } }) (same_inner a.heap.inner below)
 
-same_blocks : (o : Option LooseOpen) → AreWords (tlsf.state_seen o).words → tlsf.inner_all o (tlsf.state_seen o).words ≡ o
-same_blocks None below = refl
-same_blocks (Some h) below = ap (λ ws. Some (record h { blocks = record h.blocks { region = ws } })) (same_words h.blocks.region below)
+same_blocks : (kind : Kind) (o : Option LooseOpen) → AreWords (tag.state_seen kind o).words → tag.inner_all o (tag.state_seen kind o).words ≡ o
+same_blocks kind None below = refl
+same_blocks kind (Some h) below = ap (λ ws. Some (record h { blocks = record h.blocks { region = ws } })) (same_words h.blocks.region below)
 
-pub tlsf_restored : (a : LooseTlsf) → tlsf.Fits a → AreWords (tlsf.state_of a).heap.words → tlsf.held_all a (tlsf.state_of a).heap.words ≡ a
-tlsf_restored a fit below = ap (λ o. record a { heap = record a.heap { inner = o } }) (same_blocks a.heap.inner below)
+pub tag_restored : (rule : tag.Rule) (a : LooseTag) → tag.Fits rule a → AreWords (tag.state_of rule.kind a).heap.words → tag.held_all a (tag.state_of rule.kind a).heap.words ≡ a
+tag_restored rule a fit below = ap (λ o. record a { heap = record a.heap { inner = o } }) (same_blocks rule.kind a.heap.inner below)

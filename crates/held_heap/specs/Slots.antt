@@ -1,21 +1,27 @@
--- For `Held` over a manager with pages: the words of an object's slot, before a free clears them, and the class of a length.
+-- For `Held`: the words of an object's slot or block, before a free clears them, and over a manager with pages the class of a length.
 use Rattle.std.specs.Prelude.{◌≡◌, ℕ, ℤ, pos, Option, Some, None, option_map}
 use Rattle.std.specs.FinMap.{get}
 use Rattle.cf_base.specs.Classes.{class_of}
 use Rattle.cf_base.specs.declared.kind.Kind.{Kind}
+use Rattle.cf_model.specs.Families.{family_of, paged, tiled}
 use Rattle.cf_model.specs.State.{HeapState, paging_in}
 use Rattle.cf_model.specs.Steps.{slot_in}
-use Rattle.paged_heap.specs.Slots.{slot_words_steps}
+use Rattle.paged_heap.specs.Slots as page
 use Rattle.step_ledger.specs.Counting.{RoseBy}
+use Rattle.tag_heap.specs.Costs.{block_words_steps}
 use Rattle.held_heap.specs.Calls.{found_code, found_number}
 use Rattle.c_base.specs.Handles.{number_in}
 use Rattle.held_heap.specs.HeldState.{HeldState}
 
--- the words of the slot of object n, which its free would return; none if it is not live
+-- the words of the slot or block of object n, which its free would return; none if it is not live
 abbrev pub slot_words_of : Kind → HeapState → ℕ → Option ℕ
 slot_words_of kind s n = option_map (slot_in kind s) (get s.held n)
 
--- a call for the words of the slot of the object that `handle` names; the heap is unchanged
+-- the exact steps of a call for the words of an object's slot or block, by its result
+abbrev pub slot_words_steps : Kind → Option ℕ → ℕ
+slot_words_steps kind words = elim (family_of kind) [ paged ↦ page.slot_words_steps kind words | tiled ↦ block_words_steps words ]
+
+-- a call for the words of the slot or block of the object that `handle` names; the heap is unchanged
 pub record IsSlotWordsCall (of_kind : Kind) (old : HeldState) (handle before : ℕ) (code : ℤ) (after : ℕ) (new : HeldState) : Type 0 where
   pub by_code : code ≡ found_code (slot_words_of of_kind old.heap (number_in old.handles handle))
   pub by_kind : old.heap.kind ≡ of_kind

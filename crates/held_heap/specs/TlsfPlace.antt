@@ -5,14 +5,15 @@ use Rattle.c_base.specs.Place as base
 use Rattle.c_base.specs.contracts.heap.LendableHeap.{the_row as heap_row}
 use Rattle.c_base.specs.declared.heap.LendableHeap.{LendableHeap}
 use Rattle.held_heap.specs.HeldState.{HeldState}
-use Rattle.held_heap.specs.Tlsf.{loose_heap, open_heap}
-use Rattle.held_heap.specs.contracts.loose_tlsf.HeldTlsfHeapLendableLooseTlsf.TheImpl.{ghosts}
+use Rattle.held_heap.specs.Tag.{loose_heap}
+use Rattle.held_heap.specs.Tlsf.{open_heap}
+use Rattle.held_heap.specs.contracts.loose_tag.HeldTlsfHeapLendableLooseTag.TheImpl.{ghosts}
 use Rattle.held_heap.specs.contracts.tlsf.NphHeap.{the_row}
-use Rattle.held_heap.specs.declared.loose_tlsf.LooseTlsf.{LooseTlsf}
+use Rattle.held_heap.specs.declared.loose_tag.LooseTag.{LooseTag}
 use Rattle.held_heap.specs.declared.tlsf.NphHeap.{NphHeap}
 
 -- the `LendableHeap` that the struct is
-abbrev pub inner_of : NphHeap → LendableHeap HeldState LooseTlsf
+abbrev pub inner_of : NphHeap → LendableHeap HeldState LooseTag
 inner_of n = record {
   place = record { at = n.place.at; held = n.place.held };
   loan = record { of = record {}; heap = n.loan.heap; block = n.loan.block; words = n.loan.words };
@@ -25,7 +26,7 @@ inner_of n = record {
 }
 
 -- the struct that a `LendableHeap` is
-abbrev pub outer_of : LendableHeap HeldState LooseTlsf → NphHeap
+abbrev pub outer_of : LendableHeap HeldState LooseTag → NphHeap
 outer_of h = record {
   place = record { at = h.place.at; held = h.place.held };
   loan = record { of = record {}; heap = h.loan.heap; block = h.loan.block; words = h.loan.words };
@@ -42,5 +43,5 @@ abbrev pub held_in : NphHeap → CallerHeap HeldState
 held_in n = base.held_in (inner_of n)
 
 -- s is the borrow of the struct, r that of the `LendableHeap` in the same memory: when r ends, the struct is what r leaves
-abbrev pub LendsInner : MutBor NphHeap → MutBor (LendableHeap HeldState LooseTlsf) → Fml
+abbrev pub LendsInner : MutBor NphHeap → MutBor (LendableHeap HeldState LooseTag) → Fml
 LendsInner s r = Lends the_row (heap_row open_heap loose_heap ghosts) s r outer_of

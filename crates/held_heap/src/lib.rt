@@ -1,13 +1,14 @@
 //! An open heap in a block of memory whose address a caller in C holds: its calls, their codes and results. The
-//! libraries `norphuen`, `norphuen_nonmoving` and `norphuen_tlsf` export them, each for one manager.
+//! libraries `norphuen`, `norphuen_nonmoving`, `norphuen_tlsf` and `norphuen_half` export them, each for one manager.
 #![tactic(auto)]
 
 mod class_bound;
 mod counts;
+pub mod half;
 mod held;
 pub mod laws;
 mod loose;
-mod loose_tlsf;
+mod loose_tag;
 pub mod most;
 pub mod moving;
 pub mod nonmoving;

@@ -1,11 +1,15 @@
-//! The kind of a manager, known by its type, and how much of its region is free.
+//! The kind of a manager, known by its type, how much of its region is free, and the words of an object's slot or block.
 ghost use Rattle.std.specs.Prelude.{◌≡◌};
 ghost use Rattle.cf_base.specs.declared.kind.Kind.{Kind};
 ghost use Rattle.held_heap.specs.Counts.{free_left};
 ghost use Rattle.held_heap.specs.HeldState.{IsOpenOfKind};
+ghost use Rattle.held_heap.specs.Slots.{slot_words_of, slot_words_steps};
+ghost use Rattle.step_ledger.specs.Counting.{RoseBy};
 
+use cf_base::Handle;
 use cf_model::Manager;
 use paged_heap::{PageKind, PagedHeap};
+use step_ledger::Steps;
 use tag_heap::{FitPolicy, TagHeap};
 
 /// A manager whose type fixes its kind.
@@ -17,6 +21,12 @@ pub trait OfKind: Manager {
     fn free_left(&self) -> u64
         requires { IsOpenOfKind of_kind (Self.state self.now) }
         ensures { result ≡ free_left (Self.state self.now) };
+
+    /// The words of an object's slot or block; none if the handle isn't live.
+    fn words_of(&self, h: Handle, steps: &mut Steps) -> Option<u32>
+        requires { IsOpenOfKind of_kind (Self.state self.now) }
+        ensures value { result ≡ slot_words_of of_kind (Self.state self.now) h.0 }
+        ensures steps { RoseBy steps.old steps.new (slot_words_steps of_kind result) };
 }
 
 impl<A: PageKind> OfKind for PagedHeap<A> {
@@ -24,6 +34,10 @@ impl<A: PageKind> OfKind for PagedHeap<A> {
 
     fn free_left(&self) -> u64 {
         u64::from(self.free_pages())
+    }
+
+    fn words_of(&self, h: Handle, steps: &mut Steps) -> Option<u32> {
+        self.slot_words(h, steps)
     }
 }
 
@@ -33,5 +47,9 @@ impl<B: FitPolicy> OfKind for TagHeap<B> {
     fn free_left(&self) -> u64 {
         let usage = self.usage();
         usage.held.saturating_sub(usage.taken)
+    }
+
+    fn words_of(&self, h: Handle, steps: &mut Steps) -> Option<u32> {
+        self.block_words(h, steps)
     }
 }

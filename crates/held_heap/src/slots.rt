@@ -1,22 +1,23 @@
-//! Calls of an open heap with pages for a caller that plans a call: the words of an object's slot, and the class of a
-//! length.
+//! Calls of an open heap for a caller that plans a call: the words of an object's slot or block, and with pages the class
+//! of a length.
 ghost use Rattle.held_heap.specs.Slots.{IsClassCall, IsSlotWordsCall};
 
 use crate::held::Held;
+use crate::of_kind::OfKind;
 use c_base::{DONE, SIZE, UNKNOWN};
 use cf_base::Handle;
 use paged_heap::{PageKind, PagedHeap};
 use step_ledger::Meter;
 
-impl<A: PageKind> Held<PagedHeap<A>> {
-    /// Writes the words of an object's slot into `words`: those that a free of it would return. Returns `DONE`, or `UNKNOWN`
-    /// if the handle isn't live; then `words` is unchanged.
+impl<H: OfKind> Held<H> {
+    /// Writes the words of an object's slot or block into `words`: those that a free of it would return. Returns `DONE`, or
+    /// `UNKNOWN` if the handle isn't live; then `words` is unchanged.
     pub fn slot_words(&mut self, handle: u32, words: &mut u32) -> i32
-        ensures { IsSlotWordsCall A.kind self.old handle words.old result words.new self.new }
+        ensures { IsSlotWordsCall H.of_kind self.old handle words.old result words.new self.new }
     {
         let number = self.handles.number_in(handle);
         let mut meter = Meter::for_library(self.memory);
-        let answer = self.heap.slot_words(Handle(number), meter.steps());
+        let answer = self.heap.words_of(Handle(number), meter.steps());
         self.steps = meter.lap();
         match answer {
             Some(n) => {
@@ -26,7 +27,9 @@ impl<A: PageKind> Held<PagedHeap<A>> {
             None => UNKNOWN,
         }
     }
+}
 
+impl<A: PageKind> Held<PagedHeap<A>> {
     /// Writes the class of an object of `bytes` bytes, numbered from 0, into `class`. Returns `DONE`, or `SIZE` if it needs
     /// more than a page; then `class` is unchanged.
     pub fn class_of(&mut self, bytes: u32, class: &mut u32) -> i32

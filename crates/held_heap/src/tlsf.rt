@@ -7,12 +7,13 @@ ghost use Rattle.c_base.specs.CallerHeap.{block_in, heap_of, lent_now, opened_no
 ghost use Rattle.c_base.specs.HeapBlock.{place_owns};
 ghost use Rattle.c_base.specs.Lent.{loan_owns};
 ghost use Rattle.held_heap.specs.HeldState.{HeldState, held_code};
-ghost use Rattle.held_heap.specs.LooseTlsf.{lending};
-ghost use Rattle.held_heap.specs.Tlsf.{loose_heap, open_heap};
+ghost use Rattle.held_heap.specs.LooseTag.{lending};
+ghost use Rattle.held_heap.specs.Tag.{loose_heap};
+ghost use Rattle.held_heap.specs.Tlsf.{open_heap, rule};
 ghost use denote.RawPtr.{Ptr, coded_ptr};
 
 use crate::held::Held;
-use crate::loose_tlsf::LooseTlsf;
+use crate::loose_tag::LooseTag;
 use c_base::{DONE, LendableHeap, MEMORY, Nothing, NphNeeded, Sealed, needed_with, of_setting};
 use cf_base::Settings;
 use std::alloc::Global;
@@ -56,7 +57,7 @@ pub struct Lent {
 }
 
 impl Model for Lent {
-    ghost also_owns = { λ l. loan_owns loose_heap lending l.block l.words l.heap };
+    ghost also_owns = { λ l. loan_owns loose_heap (lending rule) l.block l.words l.heap };
 }
 
 unsafe impl Send for Lent {}
@@ -82,11 +83,11 @@ impl NphHeap {
     ghost use Rattle.held_heap.specs.TlsfPlace.{LendsInner, held_in, inner_of};
 
     /// Borrows the `LendableHeap` that this is in memory.
-    pub fn inner(&mut self) -> &mut LendableHeap<Open, LooseTlsf>
+    pub fn inner(&mut self) -> &mut LendableHeap<Open, LooseTag>
         ensures* writes_back { sem 𝓛 (LendsInner self.entry result) }
         ensures value { result.now ≡ inner_of self.old }
     {
-        unsafe { &mut *(self as *mut NphHeap as *mut LendableHeap<Open, LooseTlsf>) }
+        unsafe { &mut *(self as *mut NphHeap as *mut LendableHeap<Open, LooseTag>) }
     }
 
     /// Writes into `needed` what `open` with these settings asks for. Returns `DONE`, or the code of the first setting

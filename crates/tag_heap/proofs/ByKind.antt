@@ -6,14 +6,16 @@ use Rattle.cf_base.specs.declared.answers.Handle.{Handle}
 use Rattle.cf_base.specs.declared.answers.Refusal.{Refusal}
 use Rattle.cf_base.specs.declared.kind.Kind.{Kind}
 use Rattle.cf_base.specs.declared.kind.Kind.TheVariants.{Moving, NonMoving, Tlsf, HalfFit}
+use Rattle.page_model.specs.Held.{Placed}
 use Rattle.page_model.specs.Steps.{CallResult}
 use Rattle.block_model.specs.Buckets.{FreeLists}
 use Rattle.block_model.specs.FreeOrder.{AreListsOf, BlocksWithLists}
+use Rattle.block_model.specs.Tiling.{size_at}
 use Rattle.cf_model.specs.Answers.{block_in}
 use Rattle.cf_model.specs.Families.{IsTiled, free_lists_of, list_count_of, paged, tiled}
 use Rattle.cf_model.specs.Ordered.{BlockMallocInOrder, IsOrderedMalloc}
 use Rattle.cf_model.specs.State.{HeapState}
-use Rattle.cf_model.specs.Steps.{BlocksStayIn, frames_left, opening_frames}
+use Rattle.cf_model.specs.Steps.{BlocksStayIn, frames_left, opening_frames, slot_in}
 use Rattle.tag_heap.specs.Heap.{Heap, order_of, state_of}
 
 not_paged : paged ≡ tiled → ⊥
@@ -35,6 +37,10 @@ module _ (k : Kind) (is : IsTiled k) where
 
   pub no_block : (s : HeapState) (h i : ℕ) → block_in k s h i ≡ None
   no_block s h i = of_tiled (λ k. block_in k s h i ≡ None) refl refl k is
+
+  -- the words of an object are those of its block
+  pub slot_is : (s : HeapState) (x : Placed) → slot_in k s x ≡ size_at s.tiling x.place
+  slot_is s x = of_tiled (λ k. slot_in k s x ≡ size_at s.tiling x.place) refl refl k is
 
   pub blocks_stay : (old : HeapState) (h : ℕ) (new : HeapState) → BlocksStayIn k old h new
   blocks_stay old h new = of_tiled (λ k. BlocksStayIn k old h new) tt tt k is

@@ -1,6 +1,6 @@
 -- For calls that look an object up by its number: its address is that of the proxy, its bytes are in a block large enough for them, and a range of bytes
 -- passes its end or not.
-use Rattle.std.proofs.Common.{◌≡◌, ℕ, ◌+◌, ◌/◌, ◌^◌, ◌<◌, ◌≤◌, List, length, Some, arith, sym, ◌∙◌, ap}
+use Rattle.std.proofs.Common.{◌≡◌, ℕ, ◌+◌, ◌/◌, ◌^◌, ◌<◌, ◌≤◌, List, length, Option, Some, None, arith, sym, ◌∙◌, ap}
 use Rattle.std.specs.Prelude.{option_map}
 use Rattle.std.specs.Ordering.{nat_cmp}
 use Rattle.std.specs.FinMap.{FinMap, get}
@@ -10,15 +10,29 @@ use Rattle.page_model.specs.Held.{Placed}
 use Rattle.page_model.specs.Bytes.{bytes_at}
 use Rattle.block_model.specs.Tiling.{size_at, size_of}
 use Rattle.block_model.proofs.CallerLemmas.{lies}
+use Rattle.cf_model.specs.Families.{IsTiled}
 use Rattle.cf_model.specs.ReadObjects.{read_objects}
-use Rattle.cf_model.specs.Steps.{PassesEnd}
+use Rattle.cf_model.specs.Steps.{PassesEnd, slot_in}
 use Rattle.tag_heap.specs.Access.{HoldsBytesAt}
 use Rattle.tag_heap.specs.Heap.{Heap, IsValid, held_in, state_of}
-use Rattle.tag_heap.proofs.Preserved.{has_place, places-read}
+use Rattle.tag_heap.proofs.ByKind.{slot_is}
+use Rattle.tag_heap.proofs.Preserved.{has_place, no_place, places-read}
 
 -- the address of a handle is that of its proxy
 pub place_described : (words : List ℕ) (at : FinMap nat_cmp ℕ) (q : ℕ) → get at q ≡ option_map (λ (x : Placed). x.place) (get (read_objects words at) q)
 place_described words at q = ap (λ m. get m q) (sym (places-read words at)) ∙ get-map_values (λ (x : Placed). x.place) (read_objects words at) q
+
+-- the words of the block of a number; none if the number has no address
+module _ {k : Kind} (h : Heap) (v : IsValid k h) (is : IsTiled k) (q : ℕ) where
+  abbrev words_at : Option Placed → Option ℕ
+  words_at = option_map (slot_in k (state_of k h))
+
+  pub block_words_are : (a n : ℕ) → get h.proxies.places q ≡ Some a → n ≡ size_at h.tagged.blocks a → Some n ≡ words_at (get (held_in h) q)
+  block_words_are a n some size =
+      ap Some (size ∙ sym (slot_is k is (state_of k h) (record { place = a; bytes = bytes_at h.tagged.words (a + 1) }))) ∙ sym (ap words_at (has_place h v q a some))
+
+  pub no_block_words : get h.proxies.places q ≡ None → None ≡ words_at (get (held_in h) q)
+  no_block_words none = sym (ap words_at (no_place h v q none))
 
 module _ {k : Kind} (h : Heap) (v : IsValid k h) (q a : ℕ) (some : get h.proxies.places q ≡ Some a) where
   abbrev pub bytes : List ℕ

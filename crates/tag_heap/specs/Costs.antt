@@ -65,6 +65,11 @@ abbrev pub access_steps : ℕ → ℕ → Result Unit AccessFault → ℕ
 access_steps from count (Ok done) = 2 + words_touched from count
 access_steps from count (Err e) = fault_steps e
 
+-- the exact steps of a call for the words of an object's block, by its result: the proxy, and if the number is live the block's header
+abbrev pub block_words_steps : Option ℕ → ℕ
+block_words_steps (Some words) = 2
+block_words_steps None = 1
+
 -- the most steps of each call of a kind with blocks; a resize is always refused, after at most 1 step, and the totals take at most 3 steps and 2 for each
 -- free block
 abbrev pub block_bounds : Bounds

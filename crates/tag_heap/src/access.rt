@@ -1,15 +1,16 @@
 //! The calls of an open heap with blocks that look an object up by its handle: its address, its length,
-//! reads and writes of its bytes, and why a resize is refused. Also `peek`, which reads any word of the
-//! region.
-ghost use Rattle.std.specs.Prelude.{◌≡◌, ℕ, length, slice_get};
+//! the words of its block, reads and writes of its bytes, and why a resize is refused. Also `peek`,
+//! which reads any word of the region.
+ghost use Rattle.std.specs.Prelude.{◌≡◌, ℕ, length, option_map, slice_get};
+ghost use Rattle.std.specs.FinMap as map;
 ghost use Rattle.step_ledger.specs.Counting.{RoseBy};
 ghost use Rattle.cf_model.specs.Answers.{place_of};
 ghost use Rattle.cf_model.specs.Costs.{length_steps, peek_steps};
 ghost use Rattle.cf_model.specs.Room.{length_of};
 ghost use Rattle.cf_model.specs.Rules.{KeepsRules};
-ghost use Rattle.cf_model.specs.Steps.{IsReadAnswer, IsResizeFault, IsWriteStep};
+ghost use Rattle.cf_model.specs.Steps.{IsReadAnswer, IsResizeFault, IsWriteStep, slot_in};
 ghost use Rattle.tag_heap.specs.Access.{IsFound};
-ghost use Rattle.tag_heap.specs.Costs.{access_steps, found_steps};
+ghost use Rattle.tag_heap.specs.Costs.{access_steps, block_words_steps, found_steps};
 ghost use Rattle.tag_heap.specs.Heap.{state_of};
 
 use crate::fit_policy::FitPolicy;
@@ -111,6 +112,18 @@ impl<B: FitPolicy> OpenHeap<B> {
     {
         match self.proxies.lookup(h, steps) {
             Some(place) => Some(Header::unpack(self.blocks.tag_of(place, steps)).length),
+            None => None,
+        }
+    }
+
+    /// The words of an object's block; none if the handle isn't live. Costs two steps, one if it
+    /// isn't.
+    pub(crate) fn block_words(&self, h: Handle, steps: &mut Steps) -> Option<u32>
+        ensures value { result ≡ option_map (slot_in B.kind (state_of B.kind self.now)) (map.get (state_of B.kind self.now).held h.0) }
+        ensures steps { RoseBy steps.old steps.new (block_words_steps result) }
+    {
+        match self.proxies.lookup(h, steps) {
+            Some(place) => Some(self.blocks.size_of(place, steps)),
             None => None,
         }
     }

@@ -1,7 +1,10 @@
 //! `TagHeap`: the trait `Manager` over an open heap with blocks, or none while it is closed.
-ghost use Rattle.std.specs.Prelude.{◌≡◌, ◌^◌, ◌<◌, IsTrue, Some};
+ghost use Rattle.std.specs.Prelude.{◌≡◌, ◌^◌, ◌<◌, IsTrue, Some, option_map};
+ghost use Rattle.std.specs.FinMap as map;
+ghost use Rattle.step_ledger.specs.Counting.{RoseBy};
 ghost use Rattle.cf_model.specs.State.{closed_state};
-ghost use Rattle.tag_heap.specs.Costs.{block_bounds};
+ghost use Rattle.cf_model.specs.Steps.{slot_in};
+ghost use Rattle.tag_heap.specs.Costs.{block_bounds, block_words_steps};
 ghost use Rattle.cf_base.specs.Settings.{profile_of};
 ghost use Rattle.tag_heap.specs.Heap.{state_of};
 ghost use Rattle.tag_heap.specs.Needed.{tag_bytes};
@@ -54,6 +57,15 @@ impl<B: FitPolicy> TagHeap<B> {
         ensures few { result.total < 2 ^ 45 }
     {
         OpenHeap::<B>::bytes_needed(s)
+    }
+
+    /// The words of an object's block, which a free of it returns; none if the handle isn't live.
+    pub fn block_words(&self, h: Handle, steps: &mut Steps) -> Option<u32>
+        requires { IsTrue self.now.is_open }
+        ensures value { result ≡ option_map (slot_in B.kind self.now) (map.get self.now.held h.0) }
+        ensures steps { RoseBy steps.old steps.new (block_words_steps result) }
+    {
+        self.open().block_words(h, steps)
     }
 
     /// Borrows the open heap, for calls that change nothing.

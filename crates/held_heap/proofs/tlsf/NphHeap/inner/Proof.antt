@@ -24,8 +24,9 @@ use denote.Steps.{nothing, opens}
 use denote.Triple.Walked.{Stays, walk_of, stay_dropped, Goes-spent_ref}
 use Rattle.c_base.specs.contracts.heap.LendableHeap.{the_row as heap_row}
 use Rattle.held_heap.specs.TlsfPlace.{inner_of, outer_of}
-use Rattle.held_heap.specs.Tlsf.{loose_heap, open_heap}
-use Rattle.held_heap.specs.contracts.loose_tlsf.HeldTlsfHeapLendableLooseTlsf.TheImpl.{ghosts}
+use Rattle.held_heap.specs.Tag.{loose_heap}
+use Rattle.held_heap.specs.Tlsf.{open_heap}
+use Rattle.held_heap.specs.contracts.loose_tag.HeldTlsfHeapLendableLooseTag.TheImpl.{ghosts}
 use Rattle.held_heap.specs.contracts.tlsf.NphHeap.{the_row as R}
 use Rattle.held_heap.specs.contracts.tlsf.NphHeap.inner as f
 use Rattle.held_heap.proofs.tlsf.NphHeap.inner.Statement.{statement}

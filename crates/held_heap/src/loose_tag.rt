@@ -1,23 +1,25 @@
-//! `LooseTlsf`: an open heap of the TLSF manager with its step count, as `Held` has it, field by field, but with no
-//! invariant. A `Held` is a `LooseTlsf` whose heap is valid, in the same memory; so the words of its region can be
+//! `LooseTag`: an open heap with blocks and its step count, as `Held` has it, field by field, but with no invariant. A
+//! `Held` of TLSF or Half-Fit is a `LooseTag` whose heap is valid, in the same memory; so the words of its region can be
 //! borrowed all at once.
 ghost use Rattle.std.specs.Prelude.{◌≡◌, IsSome, length, refl};
 ghost use Rattle.c_base.specs.Lending.{AreOf, IsFit};
 ghost use Rattle.std.specs.Borrow.{sem};
-ghost use Rattle.held_heap.specs.LooseTlsf.{lending as of_held, region_in, words_of};
-ghost use Rattle.held_heap.specs.LooseTlsfLoan.{LendsAllIn, LendsAllOfBlocks, LendsAllOfOpen, LendsAllWords};
-ghost use Rattle.held_heap.specs.Restored.{tlsf_restored};
+ghost use Rattle.held_heap.specs.LooseTag.{lending as of_held, region_in, words_of};
+ghost use Rattle.held_heap.specs.Half.{rule as half_rule};
+ghost use Rattle.held_heap.specs.Tlsf.{rule as tlsf_rule};
+ghost use Rattle.held_heap.specs.LooseTagLoan.{LendsAllIn, LendsAllOfBlocks, LendsAllOfOpen, LendsAllWords};
+ghost use Rattle.held_heap.specs.Restored.{tag_restored};
 
 use crate::held::Held;
-use c_base::{Handles, HeapBlock, Lendable, NphCounted};
+use c_base::{Handles, HeapBlock, Lendable, Nothing, NphCounted};
 use cf_base::Settings;
+use half_fit_heap::HalfFitHeap;
 use proxy_table::ProxyTable;
 use region::Region;
 use std::alloc::Global;
-use std::marker::PhantomData;
 use std::rt::Memory;
 use step_ledger::{CellArray, Cells, Meter};
-use tlsf_heap::{TlsfBuckets, TlsfHeap};
+use tlsf_heap::TlsfHeap;
 
 /// The heads of the free lists, and their bitmaps.
 #[derive(Drop)]
@@ -27,14 +29,14 @@ pub struct LooseHeads {
     pub(crate) groups: CellArray<u64, 1>,
 }
 
-/// The fields of `TagBlocks`.
+/// The fields of `TagBlocks`; `Nothing` is there in place of the name of the free-list rule, which has no bytes.
 #[derive(Drop)]
 pub struct LooseBlocks {
     pub(crate) region: Region,
     pub(crate) heads: LooseHeads,
     pub(crate) used: u32,
     pub(crate) free: u32,
-    pub(crate) rule: PhantomData<TlsfBuckets>,
+    pub(crate) rule: Nothing,
 }
 
 /// The fields of the open heap.
@@ -48,16 +50,16 @@ pub struct LooseOpen {
     pub(crate) cost: u64,
 }
 
-/// The fields of `TlsfHeap`.
+/// The fields of `TagHeap`.
 #[derive(Drop)]
 pub struct LooseManager {
     pub(crate) alloc: Global,
     pub(crate) inner: Option<LooseOpen>,
 }
 
-/// The fields of `Held` for the TLSF manager.
+/// The fields of `Held` for a manager with blocks.
 #[derive(Drop)]
-pub struct LooseTlsf {
+pub struct LooseTag {
     pub(crate) heap: LooseManager,
     pub(crate) steps: u64,
     pub(crate) memory: Memory,
@@ -97,7 +99,7 @@ fn all_in(inner: &mut Option<LooseOpen>, memory: Memory) -> &mut [u64]
 
 /// Borrows all words of the region of a heap that is open. When the borrow ends, the region has the words as they then
 /// are.
-fn all_words(held: &mut LooseTlsf) -> &mut [u64]
+fn all_words(held: &mut LooseTag) -> &mut [u64]
     requires open { IsSome held.old.heap.inner }
     ensures* writes_back { sem 𝓛 (LendsAllWords held.entry result) }
     ensures value { result.now ≡ words_of held.old }
@@ -107,22 +109,22 @@ fn all_words(held: &mut LooseTlsf) -> &mut [u64]
     all_in(&mut heap.inner, memory)
 }
 
-impl Lendable<LooseTlsf> for Held<TlsfHeap> {
-    ghost lending = { of_held };
+impl Lendable<LooseTag> for Held<TlsfHeap> {
+    ghost lending = { of_held tlsf_rule };
 
-    fn loosened(block: HeapBlock<Held<TlsfHeap>>) -> HeapBlock<LooseTlsf>
+    fn loosened(block: HeapBlock<Held<TlsfHeap>>) -> HeapBlock<LooseTag>
         requires { IsSome block.held }
-        ensures { AreOf of_held result.held block.held }
+        ensures { AreOf (of_held tlsf_rule) result.held block.held }
     {
         let HeapBlock { at } = block;
         HeapBlock {
-            at: at as *mut LooseTlsf,
+            at: at as *mut LooseTag,
         }
     }
 
-    fn tightened(block: HeapBlock<LooseTlsf>) -> HeapBlock<Held<TlsfHeap>>
-        requires { IsFit of_held block.held }
-        ensures { AreOf of_held block.held result.held }
+    fn tightened(block: HeapBlock<LooseTag>) -> HeapBlock<Held<TlsfHeap>>
+        requires { IsFit (of_held tlsf_rule) block.held }
+        ensures { AreOf (of_held tlsf_rule) block.held result.held }
     {
         let HeapBlock { at } = block;
         HeapBlock {
@@ -130,7 +132,7 @@ impl Lendable<LooseTlsf> for Held<TlsfHeap> {
         }
     }
 
-    fn all_words(parts: &mut LooseTlsf) -> &mut [u64] {
+    fn all_words(parts: &mut LooseTag) -> &mut [u64] {
         all_words(parts)
     }
 
@@ -138,7 +140,43 @@ impl Lendable<LooseTlsf> for Held<TlsfHeap> {
         self.last_handle()
     }
 
-    ghost restored = { tlsf_restored };
+    ghost restored = { tag_restored tlsf_rule };
+
+    ghost forever = { refl };
+}
+
+impl Lendable<LooseTag> for Held<HalfFitHeap> {
+    ghost lending = { of_held half_rule };
+
+    fn loosened(block: HeapBlock<Held<HalfFitHeap>>) -> HeapBlock<LooseTag>
+        requires { IsSome block.held }
+        ensures { AreOf (of_held half_rule) result.held block.held }
+    {
+        let HeapBlock { at } = block;
+        HeapBlock {
+            at: at as *mut LooseTag,
+        }
+    }
+
+    fn tightened(block: HeapBlock<LooseTag>) -> HeapBlock<Held<HalfFitHeap>>
+        requires { IsFit (of_held half_rule) block.held }
+        ensures { AreOf (of_held half_rule) block.held result.held }
+    {
+        let HeapBlock { at } = block;
+        HeapBlock {
+            at: at as *mut Held<HalfFitHeap>,
+        }
+    }
+
+    fn all_words(parts: &mut LooseTag) -> &mut [u64] {
+        all_words(parts)
+    }
+
+    fn last(&self) -> u32 {
+        self.last_handle()
+    }
+
+    ghost restored = { tag_restored half_rule };
 
     ghost forever = { refl };
 }

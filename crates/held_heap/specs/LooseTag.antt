@@ -1,8 +1,8 @@
--- `LooseTlsf`, the fields of an open heap of the TLSF manager with its step count: its words, other words in their place, and which of them is a `Held`, with which state.
+-- `LooseTag`, the fields of an open heap with blocks and of its step count: its words, other words in their place, and for each free-list rule which of them is a `Held`, with which state.
 use Rattle.std.specs.Prelude.{ℕ, List, [], Option, Some, None, length}
-use Rattle.cf_base.specs.declared.kind.Kind.TheVariants.{Tlsf}
+use Rattle.cf_base.specs.declared.kind.Kind.{Kind}
 use Rattle.region.specs.Lending.{with_words}
-use Rattle.block_model.specs.Buckets.{tlsf}
+use Rattle.block_model.specs.Buckets.{FreeLists}
 use Rattle.cf_model.specs.State.{HeapState}
 use Rattle.tag_blocks.specs.Blocks.{Tagged}
 use Rattle.tag_blocks.specs.Layout.{IsValid as AreValidBlocks}
@@ -12,16 +12,22 @@ use Rattle.tag_heap.specs.Heap.{Heap, IsKeptIn, IsValid, state_in}
 use Rattle.c_base.specs.Handles.{largest}
 use Rattle.c_base.specs.Lending.{Lending}
 use Rattle.held_heap.specs.HeldState.{HeldState, IsOpenOfKind}
-use Rattle.held_heap.specs.declared.loose_tlsf.LooseBlocks.{LooseBlocks}
-use Rattle.held_heap.specs.declared.loose_tlsf.LooseOpen.{LooseOpen}
-use Rattle.held_heap.specs.declared.loose_tlsf.LooseTlsf.{LooseTlsf}
+use Rattle.held_heap.specs.declared.loose_tag.LooseBlocks.{LooseBlocks}
+use Rattle.held_heap.specs.declared.loose_tag.LooseOpen.{LooseOpen}
+use Rattle.held_heap.specs.declared.loose_tag.LooseTag.{LooseTag}
+
+-- the free-list rule of a kind with blocks: the kind, the lists, and how many there are
+pub record Rule : Type 0 where
+  pub kind : Kind
+  pub lists : FreeLists
+  pub count : ℕ
 
 -- the words of the region; none if the heap is closed
 abbrev pub region_in : Option LooseOpen → List ℕ
 region_in None = []
 region_in (Some h) = h.blocks.region
 
-abbrev pub words_of : LooseTlsf → List ℕ
+abbrev pub words_of : LooseTag → List ℕ
 words_of a = region_in a.heap.inner
 
 -- the heap with the words ws in its region
@@ -35,7 +41,7 @@ abbrev pub inner_all : Option LooseOpen → List ℕ → Option LooseOpen
 inner_all None ws = None
 inner_all (Some h) ws = Some (open_all h ws)
 
-abbrev pub held_all : LooseTlsf → List ℕ → LooseTlsf
+abbrev pub held_all : LooseTag → List ℕ → LooseTag
 held_all a ws = record a { heap = record a.heap { inner = inner_all a.heap.inner ws } }
 
 -- the blocks and the heap that these fields show
@@ -49,34 +55,34 @@ abbrev pub seen_in : Option LooseOpen → Option Heap
 seen_in None = None
 seen_in (Some h) = Some (seen_heap h)
 
-abbrev pub state_seen : Option LooseOpen → HeapState
-state_seen o = state_in Tlsf (seen_in o)
+abbrev pub state_seen : Kind → Option LooseOpen → HeapState
+state_seen kind o = state_in kind (seen_in o)
 
 -- the fields are those of valid blocks
-pub record FitBlocks (t : LooseBlocks) : Type 0 where
+pub record FitBlocks (rule : Rule) (t : LooseBlocks) : Type 0 where
   pub marked : AreMarkedCells t.heads.addresses t.heads.lists t.heads.groups
-  pub valid : AreValidBlocks tlsf 336 (record { words = t.region; heads = t.heads.addresses; used = t.used; free = t.free })
+  pub valid : AreValidBlocks rule.lists rule.count (record { words = t.region; heads = t.heads.addresses; used = t.used; free = t.free })
 
 -- the fields are those of a valid open heap
-pub record FitOpen (h : LooseOpen) : Type 0 where
-  pub blocks : FitBlocks h.blocks
-  pub valid : IsValid Tlsf (seen_heap h)
+pub record FitOpen (rule : Rule) (h : LooseOpen) : Type 0 where
+  pub blocks : FitBlocks rule h.blocks
+  pub valid : IsValid rule.kind (seen_heap h)
 
 -- the fields are those of a valid heap, open or closed
-abbrev pub FitIn : Option LooseOpen → Type 0
-FitIn None = Unit {0}
-FitIn (Some h) = FitOpen h
+abbrev pub FitIn : Rule → Option LooseOpen → Type 0
+FitIn rule None = Unit {0}
+FitIn rule (Some h) = FitOpen rule h
 
 -- the state of a `Held` with the fields a
-abbrev pub state_of : LooseTlsf → HeldState
-state_of a = record { heap = state_seen a.heap.inner; steps = a.steps; handles = a.handles; counts = a.counts }
+abbrev pub state_of : Kind → LooseTag → HeldState
+state_of kind a = record { heap = state_seen kind a.heap.inner; steps = a.steps; handles = a.handles; counts = a.counts }
 
 -- the fields a are those of a `Held`: the heap is valid and open
-pub record Fits (a : LooseTlsf) : Type 0 where
-  pub valid : FitIn a.heap.inner
-  pub rules : IsKeptIn Tlsf (seen_in a.heap.inner)
-  pub open_now : IsOpenOfKind Tlsf (state_seen a.heap.inner)
+pub record Fits (rule : Rule) (a : LooseTag) : Type 0 where
+  pub valid : FitIn rule a.heap.inner
+  pub rules : IsKeptIn rule.kind (seen_in a.heap.inner)
+  pub open_now : IsOpenOfKind rule.kind (state_seen rule.kind a.heap.inner)
 
 -- the loan of the words of a `Held`
-abbrev pub lending : Lending HeldState LooseTlsf
-lending = record { words = λ h. h.heap.words; with_words = held_all; fits = Fits; state = state_of; last = λ h. largest h.handles }
+abbrev pub lending : Rule → Lending HeldState LooseTag
+lending rule = record { words = λ h. h.heap.words; with_words = held_all; fits = Fits rule; state = state_of rule.kind; last = λ h. largest h.handles }

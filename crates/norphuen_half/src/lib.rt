@@ -1,0 +1,362 @@
+//! The Half-Fit manager as a library for C, to compare it with those with pages. `include/norphuen.h` describes each
+//! export for C. An export calls the function of `held_heap` that its comment names, and its contract is that
+//! function's. Each export but `nph_half_close` returns a code: 0 (`DONE`) if the call is done, else the cause
+//! (`c_base`, file `codes`). While the heap is closed, each export but `nph_half_open` and `nph_half_close` returns
+//! `CLOSED` and changes nothing; while it is lent, each but `nph_half_return` and `nph_half_close` returns `LENT` and
+//! changes nothing (`IsCallOnOpen`).
+#![tactic(auto)]
+
+ghost use Rattle.std.specs.Prelude.{◌≡◌};
+ghost use Rattle.cf_base.specs.declared.kind.Kind.TheVariants.{HalfFit};
+ghost use Rattle.held_heap.specs.Calls.{IsCountsCall, IsFiguresCall, IsFreeCall, IsLengthCall, IsMallocCall, IsPlaceCall, IsReadCall, IsResizeCall, IsRoomCall, IsStepsCall, IsTotalsCall, IsWriteCall};
+ghost use Rattle.c_base.specs.AtPlace.{IsCallOnOpen, IsLendCall, IsReturnCall};
+ghost use Rattle.held_heap.specs.HalfPlace.{held_in};
+ghost use Rattle.held_heap.specs.AtPlace.{IsOpenCall};
+ghost use Rattle.held_heap.specs.CallerHeap.{closed_by};
+ghost use Rattle.held_heap.specs.Most.{IsMostAccess, IsMostFree, IsMostLength, IsMostMalloc, IsMostResize, IsMostRoom, IsMostTotals, kind_code};
+ghost use Rattle.held_heap.specs.Walk.{IsNextCall};
+ghost use Rattle.held_heap.specs.Needed.{IsNeededCall};
+ghost use Rattle.held_heap.specs.Slots.{IsSlotWordsCall};
+ghost use Rattle.held_heap.specs.Tag.{bounds};
+ghost use Rattle.c_base.specs.Version.{version};
+
+use cf_base::Kind;
+use held_heap::half::NphHeap;
+use held_heap::{
+    NphClass, NphCounted, NphFreed, NphHeapTotals, NphNeeded, NphResized, VERSION, most,
+};
+use std::rt::Memory;
+
+/// Opens the heap with these settings: a region of `pages` times `page_bytes` bytes, and at most `proxies` live
+/// objects. `k` must be in its range, 1 to 64, and has no other effect (`NphHeap::open`). `memory`, here and in
+/// `nph_half_close`, is the kit's value for the memory of the process; a caller in C passes none.
+#[unsafe(no_mangle)]
+pub extern "C" fn nph_half_open(
+    heap: &mut NphHeap,
+    memory: Memory,
+    pages: u32,
+    page_bytes: u32,
+    k: u32,
+    proxies: u32,
+) -> i32
+    ensures { IsOpenCall HalfFit (held_in heap.old) pages page_bytes k proxies result (held_in heap.new) }
+{
+    heap.open(memory, pages, page_bytes, k, proxies)
+}
+
+/// Writes into `needed` what `nph_half_open` with these settings asks of the functions that take and return memory: how many
+/// blocks, the bytes of all, and those of the largest. The caller's own memory for `heap` isn't counted, nor what the
+/// functions need for a block. Returns 0, or the code of the first setting out of range (`NphHeap::bytes_needed`).
+#[unsafe(no_mangle)]
+pub extern "C" fn nph_half_bytes_needed(
+    pages: u32,
+    page_bytes: u32,
+    k: u32,
+    proxies: u32,
+    needed: &mut NphNeeded,
+) -> i32
+    ensures { IsNeededCall HalfFit pages page_bytes k proxies result needed.old needed.new }
+{
+    NphHeap::bytes_needed(pages, page_bytes, k, proxies, needed)
+}
+
+/// Closes the heap and frees its memory, also if it is lent; does nothing if it is closed (`LendableHeap::close`).
+#[unsafe(no_mangle)]
+pub extern "C" fn nph_half_close(heap: &mut NphHeap, memory: Memory)
+    ensures { held_in heap.new ≡ closed_by (held_in heap.old) }
+{
+    heap.inner().close(memory);
+}
+
+/// Makes an object of `bytes` zeros and writes its handle into `handle` (`Held::malloc`).
+#[unsafe(no_mangle)]
+pub extern "C" fn nph_half_malloc(heap: &mut NphHeap, bytes: u32, handle: &mut u32) -> i32
+    ensures { IsCallOnOpen (held_in heap.old) result (held_in heap.new) (handle.new ≡ handle.old)
+        (λ h h2. IsMallocCall bounds h bytes handle.old result handle.new h2) }
+{
+    let heap = heap.inner();
+    if heap.is_open() {
+        heap.held().malloc(bytes, handle)
+    } else {
+        heap.refusal()
+    }
+}
+
+/// Frees an object. Writes into `freed` the words of its block; no object moves (`Held::free`).
+#[unsafe(no_mangle)]
+pub extern "C" fn nph_half_free(heap: &mut NphHeap, handle: u32, freed: &mut NphFreed) -> i32
+    ensures { IsCallOnOpen (held_in heap.old) result (held_in heap.new) (freed.new ≡ freed.old)
+        (λ h h2. IsFreeCall bounds h handle freed.old result freed.new h2) }
+{
+    let heap = heap.inner();
+    if heap.is_open() {
+        heap.held().free(handle, freed)
+    } else {
+        heap.refusal()
+    }
+}
+
+/// Changes no length: returns the code `KIND`, or `UNKNOWN` if the handle is not live (`Held::resize`).
+#[unsafe(no_mangle)]
+pub extern "C" fn nph_half_resize(
+    heap: &mut NphHeap,
+    handle: u32,
+    bytes: u32,
+    resized: &mut NphResized,
+) -> i32
+    ensures { IsCallOnOpen (held_in heap.old) result (held_in heap.new) (resized.new ≡ resized.old)
+        (λ h h2. IsResizeCall bounds h handle bytes resized.old result resized.new h2) }
+{
+    let heap = heap.inner();
+    if heap.is_open() {
+        heap.held().resize(handle, bytes, resized)
+    } else {
+        heap.refusal()
+    }
+}
+
+/// Writes `bytes` into an object, from its byte `at` on (`Held::write`).
+#[unsafe(no_mangle)]
+pub extern "C" fn nph_half_write(heap: &mut NphHeap, handle: u32, at: u32, bytes: &[u8]) -> i32
+    ensures { IsCallOnOpen (held_in heap.old) result (held_in heap.new) (Unit {0})
+        (λ h h2. IsWriteCall bounds h handle at bytes.now result h2) }
+{
+    let heap = heap.inner();
+    if heap.is_open() {
+        heap.held().write(handle, at, bytes)
+    } else {
+        heap.refusal()
+    }
+}
+
+/// Fills `out` with bytes of an object, from its byte `at` on (`Held::read`).
+#[unsafe(no_mangle)]
+pub extern "C" fn nph_half_read(heap: &mut NphHeap, handle: u32, at: u32, out: &mut [u8]) -> i32
+    ensures { IsCallOnOpen (held_in heap.old) result (held_in heap.new) (out.new ≡ out.old)
+        (λ h h2. IsReadCall bounds h handle at out.old result out.new h2) }
+{
+    let heap = heap.inner();
+    if heap.is_open() {
+        heap.held().read(handle, at, out)
+    } else {
+        heap.refusal()
+    }
+}
+
+/// Writes the object's length in bytes into `bytes` (`Held::length`).
+#[unsafe(no_mangle)]
+pub extern "C" fn nph_half_length(heap: &mut NphHeap, handle: u32, bytes: &mut u32) -> i32
+    ensures { IsCallOnOpen (held_in heap.old) result (held_in heap.new) (bytes.new ≡ bytes.old)
+        (λ h h2. IsLengthCall HalfFit h handle bytes.old result bytes.new h2) }
+{
+    let heap = heap.inner();
+    if heap.is_open() {
+        heap.held().length(handle, bytes)
+    } else {
+        heap.refusal()
+    }
+}
+
+/// Returns the code that a malloc of `bytes` bytes would return now (`Held::has_room`).
+#[unsafe(no_mangle)]
+pub extern "C" fn nph_half_has_room(heap: &mut NphHeap, bytes: u32) -> i32
+    ensures { IsCallOnOpen (held_in heap.old) result (held_in heap.new) (Unit {0})
+        (λ h h2. IsRoomCall bounds h bytes result h2) }
+{
+    let heap = heap.inner();
+    if heap.is_open() {
+        heap.held().has_room(bytes)
+    } else {
+        heap.refusal()
+    }
+}
+
+/// Writes the words of an object's block, its headers included, into `words`, as a free of it would (`Held::slot_words`).
+#[unsafe(no_mangle)]
+pub extern "C" fn nph_half_slot_words(heap: &mut NphHeap, handle: u32, words: &mut u32) -> i32
+    ensures { IsCallOnOpen (held_in heap.old) result (held_in heap.new) (words.new ≡ words.old)
+        (λ h h2. IsSlotWordsCall HalfFit h handle words.old result words.new h2) }
+{
+    let heap = heap.inner();
+    if heap.is_open() {
+        heap.held().slot_words(handle, words)
+    } else {
+        heap.refusal()
+    }
+}
+
+/// Returns `UNKNOWN` on an open heap, since Half-Fit has no classes (`Held::figures`).
+#[unsafe(no_mangle)]
+pub extern "C" fn nph_half_figures(heap: &mut NphHeap, class: u32, figures: &mut NphClass) -> i32
+    ensures { IsCallOnOpen (held_in heap.old) result (held_in heap.new) (figures.new ≡ figures.old)
+        (λ h h2. IsFiguresCall h class figures.old result figures.new h2) }
+{
+    let heap = heap.inner();
+    if heap.is_open() {
+        heap.held().figures(class, figures)
+    } else {
+        heap.refusal()
+    }
+}
+
+/// Writes the figures of the whole heap into `totals` (`Held::totals`).
+#[unsafe(no_mangle)]
+pub extern "C" fn nph_half_totals(heap: &mut NphHeap, totals: &mut NphHeapTotals) -> i32
+    ensures { IsCallOnOpen (held_in heap.old) result (held_in heap.new) (totals.new ≡ totals.old)
+        (λ h h2. IsTotalsCall bounds h result totals.new h2) }
+{
+    let heap = heap.inner();
+    if heap.is_open() {
+        heap.held().totals(totals)
+    } else {
+        heap.refusal()
+    }
+}
+
+/// Writes the handle of the next live object after that of `handle` into `next`, the first one for `NONE`; after the last one
+/// `NONE` (`Held::next`). It takes a step for each number that it looks at.
+#[unsafe(no_mangle)]
+pub extern "C" fn nph_half_next(heap: &mut NphHeap, handle: u32, next: &mut u32) -> i32
+    ensures { IsCallOnOpen (held_in heap.old) result (held_in heap.new) (next.new ≡ next.old)
+        (λ h h2. IsNextCall h handle next.old result next.new h2) }
+{
+    let heap = heap.inner();
+    if heap.is_open() {
+        heap.held().next(handle, next)
+    } else {
+        heap.refusal()
+    }
+}
+
+/// Writes what the heap counted since it was opened into `counts` (`Held::counts`). It counts no steps.
+#[unsafe(no_mangle)]
+pub extern "C" fn nph_half_counts(heap: &mut NphHeap, counts: &mut NphCounted) -> i32
+    ensures { IsCallOnOpen (held_in heap.old) result (held_in heap.new) (counts.new ≡ counts.old)
+        (λ h h2. IsCountsCall h result counts.new h2) }
+{
+    let heap = heap.inner();
+    if heap.is_open() {
+        heap.held().counts(counts)
+    } else {
+        heap.refusal()
+    }
+}
+
+/// Writes the steps of the last call that counts them into `steps` (`Held::last_steps`).
+#[unsafe(no_mangle)]
+pub extern "C" fn nph_half_last_steps(heap: &mut NphHeap, steps: &mut u64) -> i32
+    ensures { IsCallOnOpen (held_in heap.old) result (held_in heap.new) (steps.new ≡ steps.old)
+        (λ h h2. IsStepsCall h result steps.new h2) }
+{
+    let heap = heap.inner();
+    if heap.is_open() {
+        heap.held().last_steps(steps)
+    } else {
+        heap.refusal()
+    }
+}
+
+/// Writes the address of an object into `place`, in words from the start of the region (`Held::place`). Its block
+/// begins there, with the block's header and the object's, and its bytes begin two words on.
+#[unsafe(no_mangle)]
+pub extern "C" fn nph_half_place(heap: &mut NphHeap, handle: u32, place: &mut u32) -> i32
+    ensures { IsCallOnOpen (held_in heap.old) result (held_in heap.new) (place.new ≡ place.old)
+        (λ h h2. IsPlaceCall h handle place.old result place.new h2) }
+{
+    let heap = heap.inner();
+    if heap.is_open() {
+        heap.held().place(handle, place)
+    } else {
+        heap.refusal()
+    }
+}
+
+/// Lends the words of the region to the caller, and writes their address into `words` (`LendableHeap::lend`). Until
+/// `nph_half_return` the caller may read them, and write the bytes of live objects.
+#[unsafe(no_mangle)]
+pub extern "C" fn nph_half_lend(heap: &mut NphHeap, words: &mut *mut u64) -> i32
+    ensures { IsLendCall (held_in heap.old) result (held_in heap.new) words.old words.new }
+{
+    heap.inner().lend(words)
+}
+
+/// Ends the loan (`LendableHeap::end_loan`).
+#[unsafe(no_mangle)]
+pub extern "C" fn nph_half_return(heap: &mut NphHeap) -> i32
+    ensures { IsReturnCall (held_in heap.old) result (held_in heap.new) }
+{
+    heap.inner().end_loan()
+}
+
+/// Returns the version of this library (`VERSION`).
+#[unsafe(no_mangle)]
+pub extern "C" fn nph_half_version() -> u32
+    ensures { result ≡ version }
+{
+    VERSION
+}
+
+/// Returns the kind of this library's heaps (`most::kind`). It and the calls below take no heap. Each of those returns the
+/// most steps of a call, which are those of the bound in its contract (`bounds`).
+#[unsafe(no_mangle)]
+pub extern "C" fn nph_half_kind() -> u32
+    ensures { result ≡ kind_code HalfFit }
+{
+    most::kind(Kind::HalfFit)
+}
+
+/// Returns the most steps of a malloc (`most_malloc`).
+#[unsafe(no_mangle)]
+pub extern "C" fn nph_half_most_malloc() -> u64
+    ensures { IsMostMalloc bounds result }
+{
+    most::most_malloc(Kind::HalfFit)
+}
+
+/// Returns the most steps of a free of an object whose block has this many words (`most_free`).
+#[unsafe(no_mangle)]
+pub extern "C" fn nph_half_most_free(slot_words: u32) -> u64
+    ensures { IsMostFree bounds slot_words result }
+{
+    most::most_free(Kind::HalfFit, slot_words)
+}
+
+/// Returns the most steps of a resize to `bytes` bytes between slots of these words (`most_resize`).
+#[unsafe(no_mangle)]
+pub extern "C" fn nph_half_most_resize(bytes: u32, old_slot_words: u32, slot_words: u32) -> u64
+    ensures { IsMostResize bounds bytes old_slot_words slot_words result }
+{
+    most::most_resize(Kind::HalfFit, bytes, old_slot_words, slot_words)
+}
+
+/// Returns the steps of a read or a write of `count` bytes from byte `at` on (`most_access`).
+#[unsafe(no_mangle)]
+pub extern "C" fn nph_half_most_access(at: u32, count: u32) -> u64
+    ensures { IsMostAccess bounds at count result }
+{
+    most::most_access(Kind::HalfFit, at, count)
+}
+
+/// Returns the most steps of `nph_half_has_room` (`most_has_room`).
+#[unsafe(no_mangle)]
+pub extern "C" fn nph_half_most_has_room() -> u64
+    ensures { IsMostRoom bounds result }
+{
+    most::most_has_room(Kind::HalfFit)
+}
+
+/// Returns the most steps of `nph_half_totals` on a heap with this many free pages or blocks (`most_totals`).
+#[unsafe(no_mangle)]
+pub extern "C" fn nph_half_most_totals(free_count: u32) -> u64
+    ensures { IsMostTotals bounds free_count result }
+{
+    most::most_totals(Kind::HalfFit, free_count)
+}
+
+/// Returns the most steps of `nph_half_length` (`most_length`).
+#[unsafe(no_mangle)]
+pub extern "C" fn nph_half_most_length() -> u64
+    ensures { IsMostLength HalfFit result }
+{
+    most::most_length(Kind::HalfFit)
+}
