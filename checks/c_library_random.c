@@ -30,7 +30,7 @@ static object objects[MOST];
 static uint32_t live, stale[STALE], freed;
 static uint64_t state, asked, moves, loans, refused, full, walks;
 static nph_counted counted; /* of the model */
-static uint32_t bounds[CLASSES], most_not_full;
+static uint32_t bounds[CLASSES], most_not_full, long_in;
 
 #define CHECK(x) do { if (!(x)) { printf("line %d: not %s\n", __LINE__, #x); exit(1); } } while (0)
 
@@ -47,7 +47,8 @@ static uint32_t draw(uint32_t n) {
     return (uint32_t)(state >> 33) % n;
 }
 
-static uint32_t draw_length(void) { return draw(draw(8) ? 120 : 1800); }
+/* A length; one of `long_in` is long. */
+static uint32_t draw_length(void) { return draw(draw(long_in) ? 120 : 1800); }
 
 /* The object with this handle, NULL if none has it. */
 static object *with(uint32_t handle) {
@@ -192,7 +193,7 @@ static void resize(object *o) {
     nph_resized r = {0, 0, 77};
     nph_status status = nph_resize(&heap, o->handle, length, &r);
     CHECK(status != NPH_OK || taken() <= nph_most_resize(length, r.old_slot_words, r.slot_words));
-    if (status != NPH_OK) { CHECK((status == NPH_SPACE || status == NPH_KIND) && r.moved == 77); full++; counted.space += status == NPH_SPACE; return; }
+    if (status != NPH_OK) { CHECK(status == (BLOCKS ? NPH_KIND : NPH_SPACE) && r.moved == 77); full += !BLOCKS; counted.space += !BLOCKS; return; }
     if (length < o->length) memset(o->bytes + length, 0, PAGE - length);
     asked = asked - o->length + length;
     o->length = length;
@@ -306,6 +307,7 @@ static void reopen(void) {
     for (uint32_t i = 0; i < live && i < STALE; i++) stale[freed++ % STALE] = objects[i].handle;
     live = 0;
     asked = 0;
+    long_in = 1 + draw(8);
     nph_close(&heap);
     all_refused(NPH_CLOSED, stale[0]);
     CHECK(nph_return(&heap) == NPH_CLOSED);
@@ -341,6 +343,7 @@ int main(int argc, char **argv) {
         if (i % 1024 == 0) compare_all();
     }
     CHECK(BLOCKS || calls < 10000 || most_not_full > 1);
+    CHECK(calls < 200000 || full > 20);
     printf("%ld calls: %lu moves, %lu loans, %lu handles refused, %lu times no room, %lu walks\n", calls, (unsigned long)moves,
            (unsigned long)loans, (unsigned long)refused, (unsigned long)full, (unsigned long)walks);
     nph_close(&heap);

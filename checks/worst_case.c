@@ -230,6 +230,11 @@ static void long_calls(void) {
     while (live < LIVE && make(48) == NPH_OK) ;
     for (uint32_t n = live; n >= 2; n -= 2) release(n - 2);
     ask(0);
+    /* A heap that has no room. */
+    while (live) release(live - 1);
+    for (uint32_t bytes = most; bytes > 8; bytes /= 2)
+        while (live < LIVE && make(bytes) == NPH_OK) ;
+    ask(0);
 }
 
 /* On a heap without objects: bounds of each class, and of none. */

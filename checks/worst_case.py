@@ -54,7 +54,8 @@ UNUSED = {tool.X86: 0, tool.ARM: 8}
 # in one word.
 SHALLOW = {("norphuen_nonmoving", tool.X86, "nph_free"), ("norphuen_nonmoving", tool.X86, "nph_resize"), ("norphuen_nonmoving", tool.ARM, "nph_resize"),
            ("norphuen_nonmoving", tool.ARM, "nph_open"),
-           ("norphuen_tlsf", tool.X86, "nph_open"), ("norphuen_tlsf", tool.ARM, "nph_open"), ("norphuen_sliced", tool.X86, "nph_free"),
+           ("norphuen_tlsf", tool.X86, "nph_open"), ("norphuen_tlsf", tool.ARM, "nph_open"), ("norphuen_half", tool.X86, "nph_open"),
+           ("norphuen_half", tool.ARM, "nph_open"), ("norphuen_sliced", tool.X86, "nph_free"),
            ("norphuen_sliced", tool.X86, "nph_open"), ("norphuen_sliced", tool.ARM, "nph_open"),
            ("norphuen_large", tool.X86, "nph_free"), ("norphuen_large", tool.X86, "nph_malloc"), ("norphuen_large", tool.ARM, "nph_malloc"),
            ("norphuen_images", tool.ARM, "nph_open"), ("norphuen_images", tool.ARM, "nph_load")}
