@@ -67,8 +67,12 @@ int main() {
     std::printf("load again: %s\n", nph_text(log.load(image, 64, offset)));
     if (log.save(again) != NPH_OK) return 1;
     std::printf("saved again: %s\n", image == again ? "the same bytes" : "other bytes");
+    record value{object<record>(0), ""};
     std::printf("free: %s", nph_text(log.drop(object<record>(60000))));
-    std::printf(", again: %s\n", nph_text(log.drop(object<record>(60000))));
+    std::printf(", again: %s", nph_text(log.drop(object<record>(60000))));
+    std::printf(", read: %s\n", nph_text(log.read(object<record>(60000), value)));
+    if (log.save(again) != NPH_OK) return 1;
+    std::printf("saved: %u bytes\n", static_cast<unsigned>(again.size()));
 
     refuse("k = 65", image, 65);
     refuse("no bytes", {}, 1);
