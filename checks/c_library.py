@@ -11,7 +11,7 @@ from pathlib import Path
 
 HEADER, BASE, HELD = Path('include/norphuen.h'), Path('crates/c_base/src'), Path('crates/held_heap/src')
 SLICED, TASKS, IMAGES, LARGE = 'norphuen_sliced', 'norphuen_tasks', 'norphuen_images', 'norphuen_large'
-# Libraries with calls of their own, without short names: those of slices and tasks have a file of the bindings.
+# Libraries with calls of their own, without short names: each has a file of the bindings.
 OWN = (SLICED, TASKS, IMAGES, LARGE)
 NUMBERS = {'u8': 'uint8_t', 'u32': 'uint32_t', 'u64': 'uint64_t', 'i32': 'nph_status', 'usize': 'size_t', 'bool': 'bool', '': 'void'}
 RUST = {'NphHeap': 'RawHeap', 'NphNeeded': 'Needed', 'NphNeed': 'Need', 'NphFreed': 'RawFreed', 'NphResized': 'RawResized', 'NphClass': 'Class', 'NphHeapTotals': 'HeapTotals', 'NphCounted': 'Counted', 'NphTask': 'Task'}
@@ -120,6 +120,11 @@ def twin_field(name, rust):
     return f'    void *{name};' if rust.startswith('*mut ') else f'    {"struct twin_" + rust if rust[0].isupper() else c_type(rust)} {name};'
 
 
+# The struct with the address of the heap's block.
+def block_of(all_structs):
+    return next(name for name in ('Place', 'HeapBlock') if name in all_structs)
+
+
 # Ends the check unless these are the fields of the struct. The heap of a library that doesn't lend may lack the last ones.
 def compare_fields(crate, where, name, given, wanted):
     if given[:len(wanted)] != wanted or len(given) > len(wanted) and (name != 'NphHeap' or lends(crate)):
@@ -155,8 +160,7 @@ def header(crate):
     print('#include "norphuen.h"\n#include <stdbool.h>\n#define SAME(test, text) _Static_assert(test, text)')
     print('SAME(sizeof(nph_status) == sizeof(int32_t), "size of a status");')
     exported = exports(crate)
-    # The field with the address of the heap's block.
-    block = next(name for name in ('Place', 'HeapBlock') if name in all_structs)
+    block = block_of(all_structs)
     order = ['Sealed', block] + sorted(named(exported))
     for name in order:
         print(f'struct twin_{name} {{\n' + '\n'.join(twin_field(*field) for field in all_structs.get(name) or fail(f'no struct {name}')) + '\n};')
@@ -251,7 +255,7 @@ def bindings(crate):
         wanted = []
         for word, reference, rust in parameters:
             mode = 'in out ' if reference == '&mut ' else ''
-            wanted.append(mode + ('Task_Number' if word == 'task' else ADA[rust]))
+            wanted.append(mode + {'task': 'Task_Number', 'id': 'Object_Id'}.get(word, ADA[rust]))
             wanted += ['size_t'] if rust[0] == '[' else []
         profile = re.search(rf'(?:function|procedure) \w+(?: \(([^()]*)\))?(?: return (\w+))? with Import, Convention => C, External_Name => {ada_call}{bare(name)}"', ada_flat)
         given = []
@@ -261,15 +265,16 @@ def bindings(crate):
         if given != wanted or (profile[2] or '') != {'i32': 'Code', '': ''}.get(result, ADA.get(result)):
             fail(f'{ada_file}: {name} takes {given}, the export {wanted}')
     all_structs = structs(crate)
+    block = block_of(all_structs)
     for name in sorted(named(exported)):
-        fields = [('at' if kind == 'Place' else field, kind) for field, kind in all_structs[name]]
+        fields = [('at' if kind == block else field, kind) for field, kind in all_structs[name]]
         inside = re.search(rf'#\[repr\(C\)\]\n(?:#\[[^\n]*\]\n)*(?:pub )?struct {RUST[name]} \{{(.*?)\}}', rust_text + rust_types, re.S) or fail(f'{rust_file}: no {RUST[name]}')
         given = re.findall(r'(\w+): ([^,}]+?)\s*(?:,|$)', inside[1].strip())
-        wanted = [(field, '*mut u8' if kind == 'Place' else kind) for field, kind in fields]
+        wanted = [(field, '*mut u8' if kind == block else kind) for field, kind in fields]
         compare_fields(crate, f'{rust_file}: {RUST[name]}', name, given, wanted)
         inside = re.search(rf'type {ADA[name]} is (?:limited )?record (.*?) end record with Convention => C;', ada_flat) or fail(f'{ada_file}: no {ADA[name]}')
         given = re.findall(r'(\w+) : (\S+) :=', inside[1])
-        wanted = [('At_Address' if field == 'at' else field.title(), 'System.Address' if kind == 'Place' else ADA[kind]) for field, kind in fields]
+        wanted = [('At_Address' if field == 'at' else field.title(), 'System.Address' if kind == block else ADA[kind]) for field, kind in fields]
         compare_fields(crate, f'{ada_file}: {ADA[name]}', name, given, wanted)
     if crate not in OWN:
         binding_codes(rust_text, ada_text)
@@ -293,5 +298,5 @@ def binding_codes(rust_text, ada_text):
 mode, crate = sys.argv[1:]
 if mode == 'names':
     print('\n'.join(sorted(name for name, _, _ in exports(crate))))
-elif mode == 'header' or crate not in (IMAGES, LARGE):
+else:
     {'header': header, 'bindings': bindings}[mode](crate)

@@ -15,6 +15,11 @@ int main() {
     norphuen::tasks::heap shared;
     norphuen::tasks::object<int, 0> one;
     norphuen::tasks::object<int, 1> two;
+    norphuen::images::heap saved;
+    norphuen::images::object<int> named{7};
+    norphuen::large::heap large;
+    norphuen::large::object<std::array<int, 1000>> items;
+    if (saved.make(named, 1) != NPH_OK || large.make(items) != NPH_OK || large.write_element(items, 999, 1) != NPH_OK) return 1;
     if (slices.make(f, 1) != NPH_OK || shared.make(one, 1) != NPH_OK || shared.make(two, 1) != NPH_OK) return 1;
     norphuen::heap heap;
     object<int> a;
@@ -67,6 +72,20 @@ int main() {
     scope t(slices, a);
 #elif MISUSE == 18 // misuse 18: deduction
     scope t(shared, one);
+#elif MISUSE == 19 // misuse 19: narrow
+    norphuen::images::object<int> wide{70000};
+#elif MISUSE == 20 // misuse 20: no match
+    if (saved.write(f, 1) != NPH_OK) return 1;
+#elif MISUSE == 21 // misuse 21: deleted
+    norphuen::images::heap copy = saved;
+#elif MISUSE == 22 // misuse 22: no match
+    if (large.write_element(items, 0, 1L) != NPH_OK) return 1;
+#elif MISUSE == 23 // misuse 23: a length has 32 bits
+    norphuen::large::object<std::array<long, 1u << 30>> beyond;
+    if (large.make(beyond) != NPH_OK) return 1;
+#elif MISUSE == 24 // misuse 24: an image is bytes
+    uint64_t offset = 0;
+    if (saved.load(std::array<int, 8>(), 1, offset) != NPH_OK) return 1;
 #endif
     return x == 2 ? 0 : 1;
 }

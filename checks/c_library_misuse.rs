@@ -1,5 +1,5 @@
 //! What rustc must refuse. A line `misuse N: TEXT` stands before each; the message has TEXT. Without `misuse` all compiles.
-use norphuen::{sliced, tasks, Error, Heap};
+use norphuen::{images, large, sliced, tasks, Error, Heap};
 
 fn main() -> Result<(), Error> {
     let (mut slices, mut shared) = (sliced::Heap::open(4, 1024, 10, 8)?, tasks::Heap::open(4, 1024, 10)?);
@@ -19,6 +19,24 @@ fn main() -> Result<(), Error> {
     // misuse 10: E0277
     #[cfg(misuse = "10")]
     std::thread::scope(|s| drop(s.spawn(|| &slices)));
+    let mut log = large::Heap::open(4, 1024, 10)?;
+    let long = log.malloc(2000)?;
+    // misuse 12: E0308
+    #[cfg(misuse = "12")]
+    slices.free(long)?;
+    log.free(long)?;
+    let mut saved = images::Heap::open(4, 1024, 1, 10)?;
+    // misuse 13: out of range
+    #[cfg(misuse = "13")]
+    saved.make(images::Id(65536), 8)?;
+    // misuse 14: E0308
+    #[cfg(misuse = "14")]
+    saved.make(long, 8)?;
+    saved.make(images::Id(7), 8)?;
+    // misuse 15: E0382
+    #[cfg(misuse = "15")]
+    drop(saved);
+    images::Heap::load(&saved.save()?, 1)?;
     let [z] = slices.objects([c])?;
     // misuse 11: E0499
     #[cfg(misuse = "11")]

@@ -1,8 +1,8 @@
 --  Norphuen for Ada: the calls of include/norphuen.h, whose comments hold here too, under the short names. The folder
---  moving, nonmoving or tlsf chooses the library; the packages Norphuen.Sliced and Norphuen.Tasks, in the folders sliced
---  and tasks, have the calls of those two. The program links the libraries that it uses, and defines the three allocator
---  functions that the header describes. Here Freed and Resized are always given. An object's bytes
---  are reached in place by a variable at its address: X : T with Import, Address => Nph_Bytes (Words, Place).
+--  moving, nonmoving, tlsf or half chooses the library; the packages Norphuen.Sliced, Norphuen.Tasks, Norphuen.Images and
+--  Norphuen.Large, in folders of these names, have the calls of those four. The program links the libraries that it uses,
+--  and defines the three allocator functions that the header describes. Here Freed and Resized are always given. An
+--  object's bytes are reached in place by a variable at its address: X : T with Import, Address => Nph_Bytes (Words, Place).
 
 with Interfaces; use Interfaces;
 with Interfaces.C; use Interfaces.C;
@@ -135,7 +135,7 @@ package Norphuen is
       return Code
    with Import, Convention => C, External_Name => Prefix & "bytes_needed";
 
-   --  The TLSF library lacks this call.
+   --  The libraries of TLSF and Half-Fit lack this call.
    function Nph_Pages_Needed
      (Page_Bytes, K : Unsigned_32; List : Needs; Count : size_t;
       Pages         : in out Unsigned_32)
@@ -186,6 +186,7 @@ package Norphuen is
       return Code
    with Import, Convention => C, External_Name => Prefix & "slot_words";
 
+   --  The libraries of TLSF and Half-Fit lack this call.
    function Nph_Class_Of
      (H          : in out Heap; Bytes : Unsigned_32;
       Size_Class : in out Unsigned_32)
@@ -209,7 +210,7 @@ package Norphuen is
    function Nph_Counts (H : in out Heap; Result : in out Counted) return Code
    with Import, Convention => C, External_Name => Prefix & "counts";
 
-   --  The TLSF library lacks this call.
+   --  The libraries of TLSF and Half-Fit lack this call.
    function Nph_Set_Bound
      (H : in out Heap; Slot_Words, K : Unsigned_32) return Code
    with Import, Convention => C, External_Name => Prefix & "set_bound";
@@ -234,7 +235,7 @@ package Norphuen is
    function Nph_Version return Unsigned_32
    with Import, Convention => C, External_Name => Prefix & "version";
 
-   --  Moving, Nonmoving or TLSF: 0, 1 or 2.
+   --  Moving, nonmoving, TLSF or Half-Fit: 0, 1, 2 or 3.
    function Nph_Kind return Unsigned_32
    with Import, Convention => C, External_Name => Prefix & "kind";
 

@@ -1,12 +1,14 @@
 // Norphuen for C++17, over include/norphuen.h, whose comments hold here too. A `heap` closes itself, an `object<T>` is the
 // handle of a T, and a `scope` lends a heap while it lives and has a reference to each object asked for. Nothing here
-// throws or allocates. `heap` and `object` are over the short names; the namespaces `sliced` and `tasks` have those of the
-// libraries without short names. A heap of a library that lends nothing has no scope.
+// throws or allocates, except that `images::heap::save` resizes its buffer. `heap` and `object` are over the short names;
+// the namespaces `sliced`, `tasks`, `images` and `large` have those of the libraries without short names. A heap of a
+// library that lends nothing has no scope.
 #ifndef NORPHUEN_HPP
 #define NORPHUEN_HPP
 
 #include "norphuen.h"
 
+#include <array>
 #include <cassert>
 #include <cstddef>
 #include <tuple>
@@ -17,6 +19,8 @@
 #define NPH_NAMESPACE nonmoving
 #elif defined NPH_USE_TLSF
 #define NPH_NAMESPACE tlsf
+#elif defined NPH_USE_HALF
+#define NPH_NAMESPACE half
 #else
 #define NPH_NAMESPACE moving
 #endif
@@ -41,22 +45,25 @@ template <class Raw, auto Close, auto Malloc, auto Write, auto Read> class heap_
     heap_of(const heap_of &) = delete;
     heap_of &operator=(const heap_of &) = delete;
 
+    // Makes an object whose bytes are all zero, as nph_malloc.
+    template <class T, uint32_t... Task> [[nodiscard]] nph_status make(object_of<Raw, T, Task...> &made) {
+        return Malloc(&raw_, Task..., bytes_of<T>(), &made.handle);
+    }
+
     // Makes an object that holds a copy of `value`, as nph_malloc and nph_write.
     template <class T, uint32_t... Task> [[nodiscard]] nph_status make(object_of<Raw, T, Task...> &made, const T &value) {
-        nph_status status = Malloc(&raw_, Task..., sizeof(T), &made.handle);
+        nph_status status = make(made);
         return status == NPH_OK ? write(made, value) : status;
     }
 
     // Copies `value` into the object, as nph_write.
     template <class T, uint32_t... Task> [[nodiscard]] nph_status write(object_of<Raw, T, Task...> to, const T &value) {
-        static_assert(std::is_trivially_copyable_v<T>, "the library moves objects by copying their bytes");
-        return Write(&raw_, Task..., to.handle, 0, &value, sizeof(T));
+        return Write(&raw_, Task..., to.handle, 0, &value, bytes_of<T>());
     }
 
     // Copies the object into `value`, as nph_read.
     template <class T, uint32_t... Task> [[nodiscard]] nph_status read(object_of<Raw, T, Task...> from, T &value) {
-        static_assert(std::is_trivially_copyable_v<T>, "the library moves objects by copying their bytes");
-        return Read(&raw_, Task..., from.handle, 0, &value, sizeof(T));
+        return Read(&raw_, Task..., from.handle, 0, &value, bytes_of<T>());
     }
 
     // For the other calls of norphuen.h.
@@ -65,6 +72,19 @@ template <class Raw, auto Close, auto Malloc, auto Write, auto Read> class heap_
   protected:
     heap_of() = default;
     ~heap_of() { Close(&raw_); }
+
+    // The length of a T in bytes.
+    template <class T> static constexpr uint32_t bytes_of() {
+        static_assert(std::is_trivially_copyable_v<T>, "the library moves objects by copying their bytes");
+        static_assert(sizeof(T) <= UINT32_MAX, "a length has 32 bits");
+        return sizeof(T);
+    }
+
+    // Returns the status of a free. The handle of the object is none if that is NPH_OK.
+    template <class Object> static nph_status none_if_freed(Object &object, nph_status status) {
+        if (status == NPH_OK) object = {};
+        return status;
+    }
 
     Raw raw_ = {};
 };
@@ -154,7 +174,7 @@ class heap : public heap_of<nph_heap, nph_close, nph_malloc, nph_write, nph_read
         return nph_bytes_needed(pages, page_bytes, k, proxies, &needed);
     }
 
-#ifndef NPH_USE_TLSF
+#if !defined NPH_USE_TLSF && !defined NPH_USE_HALF
     // How many pages are enough for these needs, as nph_pages_needed.
     [[nodiscard]] static nph_status pages_needed(uint32_t page_bytes, uint32_t k, const nph_need *needs, size_t count,
                                                  uint32_t &pages) {
@@ -164,9 +184,7 @@ class heap : public heap_of<nph_heap, nph_close, nph_malloc, nph_write, nph_read
 
     // Frees the object, whose handle is none afterwards, as nph_free.
     template <class T> [[nodiscard]] nph_status drop(object<T> &dropped, nph_freed *freed = nullptr) {
-        nph_status status = nph_free(&raw_, dropped.handle, freed);
-        if (status == NPH_OK) dropped = {};
-        return status;
+        return none_if_freed(dropped, nph_free(&raw_, dropped.handle, freed));
     }
 };
 
@@ -195,9 +213,7 @@ class heap : public heap_of<nph_sliced_heap, nph_sliced_close, nph_sliced_malloc
 
     // Frees the object, whose handle is none afterwards, and does the first slice of its job, as nph_sliced_free.
     template <class T> [[nodiscard]] nph_status drop(object<T> &dropped) {
-        nph_status status = nph_sliced_free(&raw_, dropped.handle);
-        if (status == NPH_OK) dropped = {};
-        return status;
+        return none_if_freed(dropped, nph_sliced_free(&raw_, dropped.handle));
     }
 
     // Does one slice of the pending job, and writes how many words it has left, as nph_sliced_step and nph_sliced_left.
@@ -229,13 +245,102 @@ class heap : public heap_of<nph_tasks_heap, nph_tasks_close, nph_tasks_malloc, n
 
     // Frees the object, whose handle is none afterwards, as nph_tasks_free.
     template <class T, uint32_t Task> [[nodiscard]] nph_status drop(object<T, Task> &dropped, nph_freed *freed = nullptr) {
-        nph_status status = nph_tasks_free(&raw_, Task, dropped.handle, freed);
-        if (status == NPH_OK) dropped = {};
-        return status;
+        return none_if_freed(dropped, nph_tasks_free(&raw_, Task, dropped.handle, freed));
     }
 };
 
 } // namespace tasks
+
+// Images. An object has an id that the program chooses; a wider one than 16 bits does not compile. The other calls of the header
+// are made with `raw`.
+namespace images {
+
+template <class T> struct object : object_of<nph_images_heap, T> {
+    constexpr explicit object(uint16_t id) : object_of<nph_images_heap, T>{id} {}
+};
+
+// As nph_images_make, with the parameters of nph_malloc.
+inline nph_status make_under(nph_images_heap *heap, uint32_t bytes, uint32_t *id) { return nph_images_make(heap, *id, bytes); }
+
+class heap : public heap_of<nph_images_heap, nph_images_close, make_under, nph_images_write, nph_images_read> {
+  public:
+    // As nph_images_open.
+    [[nodiscard]] nph_status open(uint32_t pages, uint32_t page_bytes, uint32_t k, uint32_t proxies) {
+        return nph_images_open(&raw_, pages, page_bytes, k, proxies);
+    }
+
+    // What `open` with these settings asks for, as nph_images_bytes_needed.
+    [[nodiscard]] static nph_status bytes_needed(uint32_t pages, uint32_t page_bytes, uint32_t k, uint32_t proxies,
+                                                 nph_needed &needed) {
+        return nph_images_bytes_needed(pages, page_bytes, k, proxies, &needed);
+    }
+
+    // Opens the heap with the settings and objects of an image, as nph_images_load. Its bytes are in a vector, an array or the
+    // like. `offset` is written if it is no image.
+    template <class Bytes> [[nodiscard]] nph_status load(const Bytes &image, uint32_t k, uint64_t &offset) {
+        static_assert(sizeof(*image.data()) == 1, "an image is bytes");
+        const void *bytes = image.size() == 0 ? "" : static_cast<const void *>(image.data());
+        return nph_images_load(&raw_, bytes, image.size(), k, &offset);
+    }
+
+    // Resizes a vector of bytes or the like to the heap's image, as nph_images_image_bytes and nph_images_save.
+    template <class Bytes> [[nodiscard]] nph_status save(Bytes &image) {
+        static_assert(sizeof(*image.data()) == 1, "an image is bytes");
+        uint64_t count = 0;
+        nph_status status = nph_images_image_bytes(&raw_, &count);
+        if (status != NPH_OK) return status;
+        image.resize(static_cast<size_t>(count));
+        return nph_images_save(&raw_, image.data(), image.size(), &count);
+    }
+
+    // Makes the object of this id, as nph_images_make and nph_images_write.
+    template <class T> [[nodiscard]] nph_status make(object<T> made, const T &value) { return heap_of::make(made, value); }
+
+    // Frees the object of this id, as nph_images_free.
+    template <class T> [[nodiscard]] nph_status drop(object<T> dropped) { return nph_images_free(&raw_, dropped.handle); }
+};
+
+} // namespace images
+
+// Long objects. A T may be longer than a page. If it is an array, a call reads or writes one element. The other calls of the
+// header are made with `raw`.
+namespace large {
+
+template <class T> using object = object_of<nph_large_heap, T>;
+
+class heap : public heap_of<nph_large_heap, nph_large_close, nph_large_malloc, nph_large_write, nph_large_read> {
+  public:
+    // As nph_large_open.
+    [[nodiscard]] nph_status open(uint32_t pages, uint32_t page_bytes, uint32_t proxies) {
+        return nph_large_open(&raw_, pages, page_bytes, proxies);
+    }
+
+    // What `open` with these settings asks for, as nph_large_bytes_needed.
+    [[nodiscard]] static nph_status bytes_needed(uint32_t pages, uint32_t page_bytes, uint32_t proxies, nph_needed &needed) {
+        return nph_large_bytes_needed(pages, page_bytes, proxies, &needed);
+    }
+
+    // Frees the object with its parts, and its handle is none afterwards, as nph_large_free.
+    template <class T> [[nodiscard]] nph_status drop(object<T> &dropped) {
+        return none_if_freed(dropped, nph_large_free(&raw_, dropped.handle));
+    }
+
+    // Copies `value` into an element, as nph_large_write. Fails with NPH_RANGE also if there is no such element.
+    template <class T, size_t N>
+    [[nodiscard]] nph_status write_element(object<std::array<T, N>> to, size_t index, const T &value) {
+        return index < N ? nph_large_write(&raw_, to.handle, at<T>(index), &value, bytes_of<T>()) : NPH_RANGE;
+    }
+
+    // Copies an element into `value`, as nph_large_read. Fails with NPH_RANGE also if there is no such element.
+    template <class T, size_t N> [[nodiscard]] nph_status read_element(object<std::array<T, N>> from, size_t index, T &value) {
+        return index < N ? nph_large_read(&raw_, from.handle, at<T>(index), &value, bytes_of<T>()) : NPH_RANGE;
+    }
+
+  private:
+    template <class T> static uint32_t at(size_t index) { return static_cast<uint32_t>(index * sizeof(T)); }
+};
+
+} // namespace large
 } // namespace norphuen
 
 template <class Heap, class... T>

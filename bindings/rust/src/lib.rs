@@ -1,14 +1,35 @@
-//! Norphuen for Rust: a safe wrapper over the C library, which `build.rs` links. It needs `core` alone, and with the feature
-//! `malloc`, which is on by default, C's malloc. Without it the program defines the three allocator functions that
-//! `include/norphuen.h` describes.
+//! Norphuen for Rust: a safe wrapper over the C library, which `build.rs` links. It needs `core` alone without two features
+//! that are on by default: `malloc` takes memory by C's malloc, and without it the program defines the three allocator functions
+//! that `include/norphuen.h` describes. `alloc` uses Rust's `alloc`, to return an image as a `Vec`.
 //!
-//! The features `nonmoving` and `tlsf` choose that library in place of the moving one. The features `sliced` and `tasks` add
-//! the module of that library.
+//! The features `nonmoving`, `tlsf` and `half` choose that library in place of the moving one. The features `sliced`, `tasks`,
+//! `images` and `large` add the module of that library.
 //!
 //! A `Heap` closes itself when it is dropped. It is `Send` and not `Sync`: one caller at a time, in any thread.
 //! `Heap::objects` lends the bytes of objects in place; it needs a library that lends, as the header says.
 #![no_std]
 
+#[cfg(feature = "alloc")]
+extern crate alloc;
+
+/// What the heaps of all libraries share: one closes itself by this call when it is dropped, and may go to another thread.
+macro_rules! closed_by {
+    ($close:ident) => {
+        // The library's own type is proved `Send`.
+        unsafe impl Send for Heap {}
+
+        impl Drop for Heap {
+            fn drop(&mut self) {
+                unsafe { $close(&mut self.raw) }
+            }
+        }
+    };
+}
+
+#[cfg(feature = "images")]
+pub mod images;
+#[cfg(feature = "large")]
+pub mod large;
 #[cfg(feature = "malloc")]
 mod malloc;
 #[cfg(feature = "sliced")]
@@ -97,26 +118,32 @@ pub struct Heap {
 }
 
 /// The name of a call in the library.
-#[cfg(not(any(feature = "nonmoving", feature = "tlsf")))]
+#[cfg(not(any(feature = "nonmoving", feature = "tlsf", feature = "half")))]
 #[rustfmt::skip]
 macro_rules! named { ($call:literal) => { concat!("nph_", $call) } }
-#[cfg(all(feature = "nonmoving", not(feature = "tlsf")))]
+#[cfg(all(feature = "nonmoving", not(any(feature = "tlsf", feature = "half"))))]
 #[rustfmt::skip]
 macro_rules! named { ($call:literal) => { concat!("nph_nm_", $call) } }
-#[cfg(feature = "tlsf")]
+#[cfg(all(feature = "tlsf", not(feature = "half")))]
 #[rustfmt::skip]
 macro_rules! named { ($call:literal) => { concat!("nph_tlsf_", $call) } }
+#[cfg(feature = "half")]
+#[rustfmt::skip]
+macro_rules! named { ($call:literal) => { concat!("nph_half_", $call) } }
 /// The words of an object in front of its bytes.
-const HEADERS: usize = if cfg!(feature = "tlsf") { 2 } else { 1 };
-#[cfg(all(feature = "nonmoving", feature = "tlsf"))]
-compile_error!("the features nonmoving and tlsf name two libraries");
+const HEADERS: usize = if cfg!(any(feature = "tlsf", feature = "half")) { 2 } else { 1 };
+#[cfg(any(
+    all(feature = "nonmoving", feature = "tlsf"),
+    all(feature = "nonmoving", feature = "half"),
+    all(feature = "tlsf", feature = "half")
+))]
+compile_error!("two of the features nonmoving, tlsf and half name two libraries");
 
 #[rustfmt::skip]
-#[cfg_attr(feature = "tlsf", allow(dead_code))]
+#[cfg_attr(any(feature = "tlsf", feature = "half"), allow(dead_code))]
 unsafe extern "C" {
     #[link_name = named!("open")] fn nph_open(heap: *mut RawHeap, pages: u32, page_bytes: u32, k: u32, proxies: u32) -> i32;
     #[link_name = named!("bytes_needed")] fn nph_bytes_needed(pages: u32, page_bytes: u32, k: u32, proxies: u32, needed: *mut Needed) -> i32;
-    #[cfg(not(feature = "tlsf"))]
     #[link_name = named!("pages_needed")] fn nph_pages_needed(page_bytes: u32, k: u32, needs: *const Need, count: usize, pages: *mut u32) -> i32;
     #[link_name = named!("close")] fn nph_close(heap: *mut RawHeap);
     #[link_name = named!("malloc")] fn nph_malloc(heap: *mut RawHeap, bytes: u32, handle: *mut u32) -> i32;
@@ -132,7 +159,6 @@ unsafe extern "C" {
     #[link_name = named!("totals")] fn nph_totals(heap: *mut RawHeap, totals: *mut HeapTotals) -> i32;
     #[link_name = named!("next")] fn nph_next(heap: *mut RawHeap, handle: u32, next: *mut u32) -> i32;
     #[link_name = named!("counts")] fn nph_counts(heap: *mut RawHeap, counts: *mut Counted) -> i32;
-    #[cfg(not(feature = "tlsf"))]
     #[link_name = named!("set_bound")] fn nph_set_bound(heap: *mut RawHeap, slot_words: u32, k: u32) -> i32;
     #[link_name = named!("last_steps")] fn nph_last_steps(heap: *mut RawHeap, steps: *mut u64) -> i32;
     #[link_name = named!("place")] fn nph_place(heap: *mut RawHeap, handle: u32, place: *mut u32) -> i32;
@@ -227,14 +253,15 @@ pub fn version() -> u32 {
 /// The kind of the library's heaps.
 #[derive(Clone, Copy, Debug, PartialEq, Eq)]
 #[rustfmt::skip]
-pub enum HeapKind { Moving, NonMoving, Tlsf }
+pub enum HeapKind { Moving, NonMoving, Tlsf, HalfFit }
 
 /// The kind of the library's heaps.
 pub fn kind() -> HeapKind {
     match unsafe { nph_kind() } {
         0 => HeapKind::Moving,
         1 => HeapKind::NonMoving,
-        _ => HeapKind::Tlsf,
+        2 => HeapKind::Tlsf,
+        _ => HeapKind::HalfFit,
     }
 }
 
@@ -299,12 +326,6 @@ impl Heap {
         written(|needed| unsafe { nph_bytes_needed(pages, page_bytes, k, proxies, needed) })
     }
 
-    /// How many pages are enough: no `malloc` or `resize` fails with `Space` while the live objects are within the needs.
-    #[cfg(not(feature = "tlsf"))]
-    pub fn pages_needed(page_bytes: u32, k: u32, needs: &[Need]) -> Result<u32, Error> {
-        written(|pages| unsafe { nph_pages_needed(page_bytes, k, needs.as_ptr(), needs.len(), pages) })
-    }
-
     /// Makes an object of `bytes` zeros.
     pub fn malloc(&mut self, bytes: u32) -> Result<Handle, Error> {
         written(|handle| unsafe { nph_malloc(self.raw(), bytes, handle) }).map(Handle)
@@ -350,16 +371,9 @@ impl Heap {
         result_of(unsafe { nph_has_room(self.raw(), bytes) }, ())
     }
 
-    /// The words of an object's slot, as `free` of it would return them.
-    #[cfg(not(feature = "tlsf"))]
+    /// The words of an object's slot or block, as `free` of it would return them.
     pub fn slot_words(&mut self, object: Handle) -> Result<u32, Error> {
         written(|words| unsafe { nph_slot_words(self.raw(), object.0, words) })
-    }
-
-    /// The size class of an object of `bytes` bytes.
-    #[cfg(not(feature = "tlsf"))]
-    pub fn class_of(&mut self, bytes: u32) -> Result<u32, Error> {
-        written(|size_class| unsafe { nph_class_of(self.raw(), bytes, size_class) })
     }
 
     /// The figures of a size class, numbered from 0; none if there is no such class.
@@ -383,23 +397,29 @@ impl Heap {
         written(|counts| unsafe { nph_counts(self.raw(), counts) }).unwrap_or_default()
     }
 
-    /// Sets how many pages of the class with slots of `slot_words` words may be partly full, while no object is live.
-    #[cfg(not(feature = "tlsf"))]
-    pub fn set_bound(&mut self, slot_words: u32, k: u32) -> Result<(), Error> {
-        result_of(unsafe { nph_set_bound(self.raw(), slot_words, k) }, ())
-    }
-
     /// The steps of the last call.
     pub fn last_steps(&mut self) -> u64 {
         written(|steps| unsafe { nph_last_steps(self.raw(), steps) }).unwrap_or_default()
     }
 }
 
-// The library's own type is proved `Send`.
-unsafe impl Send for Heap {}
+/// The calls of a library with pages.
+#[cfg(not(any(feature = "tlsf", feature = "half")))]
+impl Heap {
+    /// How many pages are enough: no `malloc` or `resize` fails with `Space` while the live objects are within the needs.
+    pub fn pages_needed(page_bytes: u32, k: u32, needs: &[Need]) -> Result<u32, Error> {
+        written(|pages| unsafe { nph_pages_needed(page_bytes, k, needs.as_ptr(), needs.len(), pages) })
+    }
 
-impl Drop for Heap {
-    fn drop(&mut self) {
-        unsafe { nph_close(&mut self.raw) }
+    /// The size class of an object of `bytes` bytes.
+    pub fn class_of(&mut self, bytes: u32) -> Result<u32, Error> {
+        written(|size_class| unsafe { nph_class_of(self.raw(), bytes, size_class) })
+    }
+
+    /// Sets how many pages of the class with slots of `slot_words` words may be partly full, while no object is live.
+    pub fn set_bound(&mut self, slot_words: u32, k: u32) -> Result<(), Error> {
+        result_of(unsafe { nph_set_bound(self.raw(), slot_words, k) }, ())
     }
 }
+
+closed_by!(nph_close);

@@ -181,11 +181,4 @@ impl Heap {
     }
 }
 
-// The library's own type is proved `Send`.
-unsafe impl Send for Heap {}
-
-impl Drop for Heap {
-    fn drop(&mut self) {
-        unsafe { nph_sliced_close(&mut self.raw) }
-    }
-}
+closed_by!(nph_sliced_close);

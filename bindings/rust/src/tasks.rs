@@ -120,11 +120,4 @@ impl Heap {
     }
 }
 
-// The library's own type is proved `Send`.
-unsafe impl Send for Heap {}
-
-impl Drop for Heap {
-    fn drop(&mut self) {
-        unsafe { nph_tasks_close(&mut self.raw) }
-    }
-}
+closed_by!(nph_tasks_close);

@@ -36,3 +36,15 @@ fn the_slices_print_their_words_left() {
 fn the_tasks_print_their_quotas() {
     prints("tasks", "examples/tasks.rs.out");
 }
+
+#[cfg(all(feature = "images", feature = "alloc"))]
+#[test]
+fn the_image_prints_its_records() {
+    prints("image", "examples/image.rs.out");
+}
+
+#[cfg(feature = "large")]
+#[test]
+fn the_long_object_prints_its_record() {
+    prints("large", "examples/large.rs.out");
+}
