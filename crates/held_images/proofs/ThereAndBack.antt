@@ -1,5 +1,5 @@
 -- For the laws on images: the bytes that a save wrote are the heap's image, and a load of them finds its objects.
-use Rattle.std.proofs.Common.{◌≡◌, ◌∙◌, ◌≤◌, ℕ, ℤ, pos, true, Some, None, length, take, ap, subst, sym, inl, inr}
+use Rattle.std.proofs.Common.{◌≡◌, ◌∙◌, ◌≤◌, ℕ, ℤ, pos, Some, None, length, take, ap, subst, sym, inl, inr}
 use Rattle.std.proofs.Math.Seq.{take-append_seam}
 use Rattle.cf_base.specs.Settings.{Profile, at_bound_one}
 use Rattle.cf_base.proofs.CallerLemmas.{within_limits}
