@@ -1,4 +1,4 @@
-use Rattle.std.proofs.Common.{get_or, arith, refl, sym, ◌∙◌, ap}
+use Rattle.std.proofs.Common.{get_or, arith, refl, rules, sym, ◌∙◌, ap}
 use Rattle.sliced_heap.specs.Heap.{seen}
 use Rattle.page_model.specs.Paging.{classes}
 use Rattle.page_slots.specs.Orders.{order_of}
@@ -73,46 +73,28 @@ count_in-requires-clause-taken c =
     let e = ap (λ (x : OpenHeap). x.taken) c.bind-handle.ensures.whole in
     omega arith
 
-pub returns-clause-step : goal.returns-clause-step
-returns-clause-step c =
-    (given_from (seen c.args.self.now) c.requires c.args.bytes c.in-Some.c c.in-Some.ensures.found (λ e. c.if-live-self.false (c.live.ensures.count ∙ e))
-    (within_of c.is_over.result _ _ c.is_over.ensures c.if-is_over.false)
-    (seen_with c.args.self.now c.take_slot.new.self c.take_slot.new.lists) (seen c.bind-handle.new.self) (seen c.count_in.new.self)
-    c.in-Some-take_slot.place c.bind-handle.result.0 c.in-Some-take_slot.ensures.taken c.take_slot.ensures.kept
-    (only_tables c.args.self.now c.take_slot.new.self c.take_slot.new.lists c.take_slot.ensures.classes)
-    c.bind-handle.ensures.unused c.bind-handle.ensures.below (ap seen c.bind-handle.ensures.whole) c.bind-handle.ensures.handles c.bind-handle.ensures.first
-    (ap seen c.count_in.ensures)).0.mallocs
-
-pub returns-clause-ordered : goal.returns-clause-ordered
-returns-clause-ordered c =
-    (given_from (seen c.args.self.now) c.requires c.args.bytes c.in-Some.c c.in-Some.ensures.found (λ e. c.if-live-self.false (c.live.ensures.count ∙ e))
-    (within_of c.is_over.result _ _ c.is_over.ensures c.if-is_over.false)
-    (seen_with c.args.self.now c.take_slot.new.self c.take_slot.new.lists) (seen c.bind-handle.new.self) (seen c.count_in.new.self)
-    c.in-Some-take_slot.place c.bind-handle.result.0 c.in-Some-take_slot.ensures.taken c.take_slot.ensures.kept
-    (only_tables c.args.self.now c.take_slot.new.self c.take_slot.new.lists c.take_slot.ensures.classes)
-    c.bind-handle.ensures.unused c.bind-handle.ensures.below (ap seen c.bind-handle.ensures.whole) c.bind-handle.ensures.handles c.bind-handle.ensures.first
-    (ap seen c.count_in.ensures)).0
-
-pub returns-clause-kept : goal.returns-clause-kept
-returns-clause-kept c =
-    (given_from (seen c.args.self.now) c.requires c.args.bytes c.in-Some.c c.in-Some.ensures.found (λ e. c.if-live-self.false (c.live.ensures.count ∙ e))
-    (within_of c.is_over.result _ _ c.is_over.ensures c.if-is_over.false)
-    (seen_with c.args.self.now c.take_slot.new.self c.take_slot.new.lists) (seen c.bind-handle.new.self) (seen c.count_in.new.self)
-    c.in-Some-take_slot.place c.bind-handle.result.0 c.in-Some-take_slot.ensures.taken c.take_slot.ensures.kept
-    (only_tables c.args.self.now c.take_slot.new.self c.take_slot.new.lists c.take_slot.ensures.classes)
-    c.bind-handle.ensures.unused c.bind-handle.ensures.below (ap seen c.bind-handle.ensures.whole) c.bind-handle.ensures.handles c.bind-handle.ensures.first
-    (ap seen c.count_in.ensures)).1
-
 pub returns-in_default-take_slot-clause-steps : goal.returns-in_default-take_slot-clause-steps
 returns-in_default-take_slot-clause-steps c =
     lacks_takes (seen c.args.self.now) c.requires c.args.bytes c.in-Some.c c.in-Some.ensures.found (λ e. c.if-live-self.false (c.live.ensures.count ∙ e))
     (within_of c.is_over.result _ _ c.is_over.ensures c.if-is_over.false) _ c.in_default-take_slot.ensures.taken
     c.args.steps.now c.class_of.new.steps c.take_slot.new.steps c.class_of.ensures.steps c.take_slot.ensures.steps
 
-pub returns-clause-steps : goal.returns-clause-steps
-returns-clause-steps c =
-    malloc_takes (seen c.args.self.now) c.requires c.args.bytes c.in-Some.c c.in-Some.ensures.found (λ e. c.if-live-self.false (c.live.ensures.count ∙ e))
-    (within_of c.is_over.result _ _ c.is_over.ensures c.if-is_over.false) _ c.in-Some-take_slot.place c.in-Some-take_slot.ensures.taken
-    c.take_slot.ensures.kept c.bind-handle.result
-    c.args.steps.now c.class_of.new.steps c.take_slot.new.steps c.bind-handle.new.steps c.class_of.ensures.steps c.take_slot.ensures.steps
-    c.bind-handle.ensures.steps
+pub returns : goal.returns
+returns c =
+    let h = seen c.args.self.now in let found = c.in-Some.ensures.found in let b = c.bind-handle.ensures in
+    let given = given_from h c.requires c.args.bytes c.in-Some.c found (λ e. c.if-live-self.false (c.live.ensures.count ∙ e))
+    (within_of c.is_over.result _ _ c.is_over.ensures c.if-is_over.false)
+    (seen_with c.args.self.now c.take_slot.new.self c.take_slot.new.lists) (seen c.bind-handle.new.self) (seen c.count_in.new.self)
+    c.in-Some-take_slot.place c.bind-handle.result.0 c.in-Some-take_slot.ensures.taken c.take_slot.ensures.kept
+    (only_tables c.args.self.now c.take_slot.new.self c.take_slot.new.lists c.take_slot.ensures.classes)
+    b.unused b.below (ap seen b.whole) b.handles b.first (ap seen c.count_in.ensures) in
+    record {
+      step = given.0.mallocs;
+      ordered = given.0;
+      kept = given.1;
+      plan = search rules;
+      steps = malloc_takes h c.requires c.args.bytes c.in-Some.c found (λ e. c.if-live-self.false (c.live.ensures.count ∙ e))
+          (within_of c.is_over.result _ _ c.is_over.ensures c.if-is_over.false) _
+          c.in-Some-take_slot.place c.in-Some-take_slot.ensures.taken c.take_slot.ensures.kept c.bind-handle.result
+          c.args.steps.now c.class_of.new.steps c.take_slot.new.steps c.bind-handle.new.steps c.class_of.ensures.steps c.take_slot.ensures.steps b.steps;
+    }

@@ -24,112 +24,48 @@ move_next-requires-clause-apart c =
     move_apart (seen c.args.self.now) c.requires.kept c.args.k c.args.h.0 c.requires.job c.in-Some.to c.in-Some.ensures.found c.words_of-n.result
     c.words_of-n.ensures
 
-pub returns-then-done-slot_words-clause-step : goal.returns-then-done-slot_words-clause-step
-returns-then-done-slot_words-clause-step c =
-    let h = seen c.args.self.now in
-    let s = c.slot_words.ensures.value in
-    goes_on h c.requires.kept (Move c.args.h.0 c.args.k) c.requires.job c.args.k refl c.move_next.new.region c.move_next.ensures.len c.words_of-n.result
-    c.words_of-n.ensures
-    (move_does h c.requires.kept c.args.k c.args.h.0 c.requires.job c.in-Some.to c.in-Some.ensures.found c.move_next.new.region c.words_of-n.result
-    c.move_next.ensures.words)
-    (move_ended h c.requires.kept c.args.k c.args.h.0 c.requires.job c.in-Some.to c.in-Some.ensures.found c.move_next.new.region c.words_of-n.result
-    c.move_next.ensures.words)
-    (let t = c.if-done-slot_words.true in omega arith)
-
-pub returns-then-done-slot_words-clause-ordered : goal.returns-then-done-slot_words-clause-ordered
-returns-then-done-slot_words-clause-ordered c =
-    let h = seen c.args.self.now in
-    let s = c.slot_words.ensures.value in
-    goes_in_order h c.requires.kept (Move c.args.h.0 c.args.k) c.requires.job c.args.k refl c.move_next.new.region c.move_next.ensures.len c.words_of-n.result
-    c.words_of-n.ensures
-    (move_does h c.requires.kept c.args.k c.args.h.0 c.requires.job c.in-Some.to c.in-Some.ensures.found c.move_next.new.region c.words_of-n.result
-    c.move_next.ensures.words)
-    (move_ended h c.requires.kept c.args.k c.args.h.0 c.requires.job c.in-Some.to c.in-Some.ensures.found c.move_next.new.region c.words_of-n.result
-    c.move_next.ensures.words)
-    (let t = c.if-done-slot_words.true in omega arith)
-
-pub returns-then-done-slot_words-clause-kept : goal.returns-then-done-slot_words-clause-kept
-returns-then-done-slot_words-clause-kept c =
-    let h = seen c.args.self.now in
-    let s = c.slot_words.ensures.value in
-    goes_on_valid h c.requires.kept (Move c.args.h.0 c.args.k) c.requires.job c.args.k refl c.move_next.new.region c.move_next.ensures.len c.words_of-n.result
-    c.words_of-n.ensures
-    (move_does h c.requires.kept c.args.k c.args.h.0 c.requires.job c.in-Some.to c.in-Some.ensures.found c.move_next.new.region c.words_of-n.result
-    c.move_next.ensures.words)
-    (move_ended h c.requires.kept c.args.k c.args.h.0 c.requires.job c.in-Some.to c.in-Some.ensures.found c.move_next.new.region c.words_of-n.result
-    c.move_next.ensures.words)
-    (let t = c.if-done-slot_words.true in omega arith)
+pub returns-then-done-slot_words : goal.returns-then-done-slot_words
+returns-then-done-slot_words c =
+    let h = seen c.args.self.now in let s = c.slot_words.ensures.value in let r = c.move_next.new.region in let long = c.move_next.ensures.len in
+    let does = move_does h c.requires.kept c.args.k c.args.h.0 c.requires.job c.in-Some.to c.in-Some.ensures.found r c.words_of-n.result c.move_next.ensures.words in
+    let ended = move_ended h c.requires.kept c.args.k c.args.h.0 c.requires.job c.in-Some.to c.in-Some.ensures.found r c.words_of-n.result c.move_next.ensures.words in
+    record {
+      step = goes_on h c.requires.kept (Move c.args.h.0 c.args.k) c.requires.job c.args.k refl r long c.words_of-n.result c.words_of-n.ensures does ended (let t = c.if-done-slot_words.true in omega arith);
+      ordered = goes_in_order h c.requires.kept (Move c.args.h.0 c.args.k) c.requires.job c.args.k refl r long c.words_of-n.result c.words_of-n.ensures does ended (let t = c.if-done-slot_words.true in omega arith);
+      kept = goes_on_valid h c.requires.kept (Move c.args.h.0 c.args.k) c.requires.job c.args.k refl r long c.words_of-n.result c.words_of-n.ensures does ended (let t = c.if-done-slot_words.true in omega arith);
+      plan = refl;
+      steps = rose_both c.args.steps.now c.lookup.new.steps c.move_next.new.steps 1 _ c.lookup.ensures.steps
+          (part_goes h c.requires.kept (Move c.args.h.0 c.args.k) c.requires.job c.args.k refl r long c.words_of-n.result c.words_of-n.ensures does ended (let t = c.if-done-slot_words.true in omega arith)
+          c.lookup.new.steps c.move_next.new.steps c.move_next.ensures.steps);
+    }
 
 pub end-requires-clause-kept : goal.end-requires-clause-kept
 end-requires-clause-kept c =
-    let h = seen c.args.self.now in
-    let s = c.slot_words.ensures.value in
-    vacated_valid h c.requires.kept (Move c.args.h.0 c.args.k) c.requires.job c.args.k refl c.move_next.new.region c.move_next.ensures.len c.words_of-n.result
-    c.words_of-n.ensures
-    (move_does h c.requires.kept c.args.k c.args.h.0 c.requires.job c.in-Some.to c.in-Some.ensures.found c.move_next.new.region c.words_of-n.result
-    c.move_next.ensures.words)
-    (move_ended h c.requires.kept c.args.k c.args.h.0 c.requires.job c.in-Some.to c.in-Some.ensures.found c.move_next.new.region c.words_of-n.result
-    c.move_next.ensures.words)
-    (let t = c.if-done-slot_words.false in omega arith)
+    let h = seen c.args.self.now in let s = c.slot_words.ensures.value in let r = c.move_next.new.region in let long = c.move_next.ensures.len in
+    let does = move_does h c.requires.kept c.args.k c.args.h.0 c.requires.job c.in-Some.to c.in-Some.ensures.found r c.words_of-n.result c.move_next.ensures.words in
+    let ended = move_ended h c.requires.kept c.args.k c.args.h.0 c.requires.job c.in-Some.to c.in-Some.ensures.found r c.words_of-n.result c.move_next.ensures.words in
+    vacated_valid h c.requires.kept (Move c.args.h.0 c.args.k) c.requires.job c.args.k refl r long c.words_of-n.result c.words_of-n.ensures does ended (let t = c.if-done-slot_words.false in omega arith)
 
 pub end-requires-clause-zeros : goal.end-requires-clause-zeros
 end-requires-clause-zeros c =
-    let h = seen c.args.self.now in
-    let s = c.slot_words.ensures.value in
-    all_zeros h c.requires.kept (Move c.args.h.0 c.args.k) c.requires.job c.args.k refl c.move_next.new.region c.move_next.ensures.len c.words_of-n.result
-    c.words_of-n.ensures
-    (move_does h c.requires.kept c.args.k c.args.h.0 c.requires.job c.in-Some.to c.in-Some.ensures.found c.move_next.new.region c.words_of-n.result
-    c.move_next.ensures.words)
-    (move_ended h c.requires.kept c.args.k c.args.h.0 c.requires.job c.in-Some.to c.in-Some.ensures.found c.move_next.new.region c.words_of-n.result
-    c.move_next.ensures.words)
-    (let t = c.if-done-slot_words.false in omega arith)
+    let h = seen c.args.self.now in let s = c.slot_words.ensures.value in let r = c.move_next.new.region in let long = c.move_next.ensures.len in
+    let does = move_does h c.requires.kept c.args.k c.args.h.0 c.requires.job c.in-Some.to c.in-Some.ensures.found r c.words_of-n.result c.move_next.ensures.words in
+    let ended = move_ended h c.requires.kept c.args.k c.args.h.0 c.requires.job c.in-Some.to c.in-Some.ensures.found r c.words_of-n.result c.move_next.ensures.words in
+    all_zeros h c.requires.kept (Move c.args.h.0 c.args.k) c.requires.job c.args.k refl r long c.words_of-n.result c.words_of-n.ensures does ended (let t = c.if-done-slot_words.false in omega arith)
 
-pub returns-clause-step : goal.returns-clause-step
-returns-clause-step c =
-    let h = seen c.args.self.now in
-    let s = c.slot_words.ensures.value in
-    goes_to_end h c.requires.kept (Move c.args.h.0 c.args.k) c.requires.job c.args.k refl c.move_next.new.region c.move_next.ensures.len c.words_of-n.result
-    c.words_of-n.ensures
-    (move_does h c.requires.kept c.args.k c.args.h.0 c.requires.job c.in-Some.to c.in-Some.ensures.found c.move_next.new.region c.words_of-n.result
-    c.move_next.ensures.words)
-    (move_ended h c.requires.kept c.args.k c.args.h.0 c.requires.job c.in-Some.to c.in-Some.ensures.found c.move_next.new.region c.words_of-n.result
-    c.move_next.ensures.words)
-    (let t = c.if-done-slot_words.false in omega arith) (seen c.end.new.self) c.end.ensures.ended c.end.ensures.words
-
-pub returns-clause-ordered : goal.returns-clause-ordered
-returns-clause-ordered c =
-    let h = seen c.args.self.now in
-    let s = c.slot_words.ensures.value in
-    ends_in_order h c.requires.kept (Move c.args.h.0 c.args.k) c.requires.job c.args.k refl c.move_next.new.region c.move_next.ensures.len c.words_of-n.result
-    c.words_of-n.ensures
-    (move_does h c.requires.kept c.args.k c.args.h.0 c.requires.job c.in-Some.to c.in-Some.ensures.found c.move_next.new.region c.words_of-n.result
-    c.move_next.ensures.words)
-    (move_ended h c.requires.kept c.args.k c.args.h.0 c.requires.job c.in-Some.to c.in-Some.ensures.found c.move_next.new.region c.words_of-n.result
-    c.move_next.ensures.words)
-    (let t = c.if-done-slot_words.false in omega arith) (seen c.end.new.self) c.end.ensures.ended c.end.ensures.ordered c.end.ensures.words
-
-pub returns-then-done-slot_words-clause-steps : goal.returns-then-done-slot_words-clause-steps
-returns-then-done-slot_words-clause-steps c =
-    let h = seen c.args.self.now in
-    let s = c.slot_words.ensures.value in
-    rose_both c.args.steps.now c.lookup.new.steps c.move_next.new.steps 1 _ c.lookup.ensures.steps
-    (part_goes h c.requires.kept (Move c.args.h.0 c.args.k) c.requires.job c.args.k refl c.move_next.new.region c.move_next.ensures.len c.words_of-n.result
-    c.words_of-n.ensures
-    (move_does h c.requires.kept c.args.k c.args.h.0 c.requires.job c.in-Some.to c.in-Some.ensures.found c.move_next.new.region c.words_of-n.result
-    c.move_next.ensures.words)
-    (move_ended h c.requires.kept c.args.k c.args.h.0 c.requires.job c.in-Some.to c.in-Some.ensures.found c.move_next.new.region c.words_of-n.result
-    c.move_next.ensures.words)
-    (let t = c.if-done-slot_words.true in omega arith) c.lookup.new.steps c.move_next.new.steps c.move_next.ensures.steps)
-
-pub returns-clause-steps : goal.returns-clause-steps
-returns-clause-steps c =
-    let h = seen c.args.self.now in
-    let s = c.slot_words.ensures.value in
-    rose_both c.args.steps.now c.lookup.new.steps c.end.new.steps 1 _ c.lookup.ensures.steps
-    (part_ends h c.requires.kept (Move c.args.h.0 c.args.k) c.requires.job c.args.k refl c.move_next.new.region c.move_next.ensures.len c.words_of-n.result
-    c.words_of-n.ensures
-    (move_does h c.requires.kept c.args.k c.args.h.0 c.requires.job c.in-Some.to c.in-Some.ensures.found c.move_next.new.region c.words_of-n.result
-    c.move_next.ensures.words)
-    (move_ended h c.requires.kept c.args.k c.args.h.0 c.requires.job c.in-Some.to c.in-Some.ensures.found c.move_next.new.region c.words_of-n.result
-    c.move_next.ensures.words)
-    (let t = c.if-done-slot_words.false in omega arith) c.lookup.new.steps c.move_next.new.steps c.end.new.steps c.move_next.ensures.steps c.end.ensures.steps)
+pub returns : goal.returns
+returns c =
+    let h = seen c.args.self.now in let s = c.slot_words.ensures.value in let r = c.move_next.new.region in let long = c.move_next.ensures.len in
+    let does = move_does h c.requires.kept c.args.k c.args.h.0 c.requires.job c.in-Some.to c.in-Some.ensures.found r c.words_of-n.result c.move_next.ensures.words in
+    let ended = move_ended h c.requires.kept c.args.k c.args.h.0 c.requires.job c.in-Some.to c.in-Some.ensures.found r c.words_of-n.result c.move_next.ensures.words in
+    record {
+      step = goes_to_end h c.requires.kept (Move c.args.h.0 c.args.k) c.requires.job c.args.k refl r long c.words_of-n.result c.words_of-n.ensures does ended (let t = c.if-done-slot_words.false in omega arith)
+          (seen c.end.new.self) c.end.ensures.ended c.end.ensures.words;
+      ordered = ends_in_order h c.requires.kept (Move c.args.h.0 c.args.k) c.requires.job c.args.k refl r long c.words_of-n.result c.words_of-n.ensures does ended (let t = c.if-done-slot_words.false in omega arith)
+          (seen c.end.new.self) c.end.ensures.ended c.end.ensures.ordered c.end.ensures.words;
+      kept = c.end.ensures.kept;
+      plan = c.end.ensures.plan;
+      steps = rose_both c.args.steps.now c.lookup.new.steps c.end.new.steps 1 _ c.lookup.ensures.steps
+          (part_ends h c.requires.kept (Move c.args.h.0 c.args.k) c.requires.job c.args.k refl r long c.words_of-n.result c.words_of-n.ensures does ended (let t = c.if-done-slot_words.false in omega arith)
+          c.lookup.new.steps c.move_next.new.steps c.end.new.steps c.move_next.ensures.steps c.end.ensures.steps);
+    }

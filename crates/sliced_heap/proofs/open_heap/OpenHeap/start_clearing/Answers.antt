@@ -53,13 +53,13 @@ count_out-requires-clause-taken c =
     (let v = c.read.ensures.value in let u = c.unpack-length.ensures.length in omega arith) c.in-Some.c c.in-Some.ensures.found in
     rw (← is) (taken_some h c.requires.kept c.requires.idle c.args.h.0 w.0 w.1)
 
-pub returns-clause-gone : goal.returns-clause-gone
-returns-clause-gone c =
+pub returns : goal.returns
+returns c =
     let h = seen c.args.self.now in
     let w = found h c.requires.kept c.args.h.0 c.args.place c.requires.known in
     let is = class_found h c.requires.kept c.requires.idle c.args.h.0 c.args.place c.requires.known c.unpack-length.result.length
     (let v = c.read.ensures.value in let u = c.unpack-length.ensures.length in omega arith) c.in-Some.c c.in-Some.ensures.found in
-    (forgets_at h c.requires.kept c.requires.idle c.args.h.0 w.0 w.1 c.unpack-length.result.length c.args.place c.in-Some.c
+    let forgets = forgets_at h c.requires.kept c.requires.idle c.args.h.0 w.0 w.1 c.unpack-length.result.length c.args.place c.in-Some.c
     (sym (length_shown h c.requires.kept c.requires.idle c.args.h.0 c.args.place c.requires.known c.unpack-length.result.length
     (let v = c.read.ensures.value in let u = c.unpack-length.ensures.length in omega arith))) w.2 is _ (record {
       rest = ap (λ (x : OpenHeap). record (seen x) { job = Clear (fresh_slot c.args.place c.in-Some.c) }) c.count_out.ensures
@@ -72,28 +72,9 @@ returns-clause-gone c =
             job = Clear (fresh_slot c.args.place c.in-Some.c);
           }) c.release.ensures.places;
       handles = subst AreBelowLimit (sym (ap (λ (x : OpenHeap). x.proxies) c.count_out.ensures)) c.release.ensures.kept;
-    })).0
-
-pub returns-clause-kept : goal.returns-clause-kept
-returns-clause-kept c =
-    let h = seen c.args.self.now in
-    let w = found h c.requires.kept c.args.h.0 c.args.place c.requires.known in
-    let is = class_found h c.requires.kept c.requires.idle c.args.h.0 c.args.place c.requires.known c.unpack-length.result.length
-    (let v = c.read.ensures.value in let u = c.unpack-length.ensures.length in omega arith) c.in-Some.c c.in-Some.ensures.found in
-    (forgets_at h c.requires.kept c.requires.idle c.args.h.0 w.0 w.1 c.unpack-length.result.length c.args.place c.in-Some.c
-    (sym (length_shown h c.requires.kept c.requires.idle c.args.h.0 c.args.place c.requires.known c.unpack-length.result.length
-    (let v = c.read.ensures.value in let u = c.unpack-length.ensures.length in omega arith))) w.2 is _ (record {
-      rest = ap (λ (x : OpenHeap). record (seen x) { job = Clear (fresh_slot c.args.place c.in-Some.c) }) c.count_out.ensures
-          ∙ ap (λ p. record h {
-            proxies = p;
-            live = set h.live c.in-Some.c (get_or h.live c.in-Some.c 0 - 1);
-            needed = h.needed - opens (slots h.classes.page_words h.classes.sizes c.in-Some.c) (get_or h.live c.in-Some.c 0 - 1);
-            asked = h.asked - c.unpack-length.result.length;
-            taken = h.taken - 8 * get_or h.classes.sizes c.in-Some.c 0;
-            job = Clear (fresh_slot c.args.place c.in-Some.c);
-          }) c.release.ensures.places;
-      handles = subst AreBelowLimit (sym (ap (λ (x : OpenHeap). x.proxies) c.count_out.ensures)) c.release.ensures.kept;
-    })).1
-
-pub returns-clause-steps : goal.returns-clause-steps
-returns-clause-steps c = rose_both _ _ _ _ _ (rose_both _ _ _ _ _ c.read.ensures.steps c.class_of.ensures.steps) c.release.ensures.steps
+    }) in
+    record {
+      gone = forgets.0;
+      kept = forgets.1;
+      steps = rose_both _ _ _ _ _ (rose_both _ _ _ _ _ c.read.ensures.steps c.class_of.ensures.steps) c.release.ensures.steps;
+    }
