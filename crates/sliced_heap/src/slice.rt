@@ -11,7 +11,7 @@ ghost use Rattle.sliced_heap.specs.Layout.{IsValid, order_in, plan_of, state_of,
 ghost use Rattle.sliced_heap.specs.Room.{mover};
 ghost use Rattle.cf_base.specs.declared.answers.Handle.{Handle};
 
-use crate::jobs::{clear_next, move_next, words_of_slice};
+use crate::next_words::{clear_next, move_next, words_of_slice};
 use crate::open_heap::{OpenHeap, Pending};
 use cf_base::Handle;
 use slice_model::JobSlot;

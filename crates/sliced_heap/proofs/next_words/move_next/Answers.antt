@@ -1,7 +1,7 @@
 use Rattle.std.proofs.Common.{◌+◌, sym, subst}
 use Rattle.page_model.specs.Image.{MovesWords}
 use Rattle.region.proofs.CallerLemmas.{moved_moves}
-use Rattle.sliced_heap.proofs.jobs.move_next.Goals as goal
+use Rattle.sliced_heap.proofs.next_words.move_next.Goals as goal
 
 pub returns-clause-words : goal.returns-clause-words
 returns-clause-words c =
