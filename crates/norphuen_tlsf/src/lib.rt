@@ -1,4 +1,4 @@
-//! The TLSF manager as a library for C, to compare it with the other two. `include/norphuen.h` describes each
+//! The TLSF manager as a library for C, to compare it with those with pages. `include/norphuen.h` describes each
 //! export for C. An export calls the function of `held_heap` that its comment names, and its contract is that
 //! function's. Each export but `nph_tlsf_close` returns a code: 0 (`DONE`) if the call is done, else the cause
 //! (`c_base`, file `codes`). While the heap is closed, each export but `nph_tlsf_open` and `nph_tlsf_close` returns
@@ -16,7 +16,8 @@ ghost use Rattle.held_heap.specs.CallerHeap.{closed_by};
 ghost use Rattle.held_heap.specs.Most.{IsMostAccess, IsMostFree, IsMostLength, IsMostMalloc, IsMostResize, IsMostRoom, IsMostTotals, kind_code};
 ghost use Rattle.held_heap.specs.Walk.{IsNextCall};
 ghost use Rattle.held_heap.specs.Needed.{IsNeededCall};
-ghost use Rattle.held_heap.specs.Tlsf.{bounds};
+ghost use Rattle.held_heap.specs.Slots.{IsSlotWordsCall};
+ghost use Rattle.held_heap.specs.Tag.{bounds};
 ghost use Rattle.c_base.specs.Version.{version};
 
 use cf_base::Kind;
@@ -165,6 +166,20 @@ pub extern "C" fn nph_tlsf_has_room(heap: &mut NphHeap, bytes: u32) -> i32
     let heap = heap.inner();
     if heap.is_open() {
         heap.held().has_room(bytes)
+    } else {
+        heap.refusal()
+    }
+}
+
+/// Writes the words of an object's block, its headers included, into `words`, as a free of it would (`Held::slot_words`).
+#[unsafe(no_mangle)]
+pub extern "C" fn nph_tlsf_slot_words(heap: &mut NphHeap, handle: u32, words: &mut u32) -> i32
+    ensures { IsCallOnOpen (held_in heap.old) result (held_in heap.new) (words.new ≡ words.old)
+        (λ h h2. IsSlotWordsCall Tlsf h handle words.old result words.new h2) }
+{
+    let heap = heap.inner();
+    if heap.is_open() {
+        heap.held().slot_words(handle, words)
     } else {
         heap.refusal()
     }
