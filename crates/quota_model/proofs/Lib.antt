@@ -14,7 +14,7 @@ pub mod WholeSound
 pub mod Written
 pub mod TaskImages
 pub mod CallerLemmas
-pub mod SizeList
+pub mod Filled
 pub mod Classes
 pub mod Entries
 pub mod Counted

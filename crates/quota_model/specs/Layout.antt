@@ -1,19 +1,9 @@
--- The loop invariants of `fill_sizes`, which lists a page's slot sizes, and of `count_pages`, which counts the pages of declared objects; and when the objects
--- exceed the quota (`IsPast`). No public clause cites this module.
-use Rattle.std.specs.Prelude.{◌≡◌, ℕ, ◌+◌, ◌≤◌, ◌<◌, List, ◌++◌, length, slice_index, take}
-use Rattle.cf_base.specs.Classes.{sizes, sizes_from}
-use Rattle.cf_base.specs.declared.kind.Layout.TheVariants.{Words}
+-- The loop invariant of `count_pages`, which counts the pages of declared objects; and when the objects exceed the quota (`IsPast`). No public clause cites
+-- this module.
+use Rattle.std.specs.Prelude.{◌≡◌, ℕ, ◌+◌, ◌≤◌, ◌<◌, List, length, slice_index}
 use Rattle.page_model.specs.Counts.{ceil_div}
 use Rattle.page_model.specs.Paging.{Paging, classes}
 use Rattle.quota_model.specs.Admission.{count_of_class, pages_needed_by}
-
--- The first `count` entries of the table are the slot sizes of a page below `size`, which is the next one, or is past the page and ends the loop. `left` is a
--- bound on the number of sizes still to come, with which `sizes_from` computes them.
-pub record AreSizesBelow (page_words : ℕ) (table : List ℕ) (count size : ℕ) : Type 0 where
-  pub left : ℕ
-  pub some : 1 ≤ size
-  pub enough : page_words ≤ size + left
-  pub made : take count table ++ sizes_from left size page_words ≡ sizes page_words Words
 
 -- Of `more` objects that are added to the `had` objects of a class, `fit` still fit: with these, the pages of the class and the `others` pages of all other
 -- classes are within the quota. With one object more they exceed it.

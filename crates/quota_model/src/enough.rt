@@ -11,7 +11,7 @@ ghost use Rattle.quota_model.specs.Refusals.{task_paging};
 
 use crate::sizes::{CLASSES, class_at, fill_sizes, slots_at};
 use crate::{Admission, Need};
-use cf_base::{Settings, need_of};
+use cf_base::{Layout, Settings, need_of};
 
 /// Tests whether `quota` pages are enough for a task with the settings `s` that declares `needs`:
 /// for each length, how many objects of that length it has at most at one time. Entries of the same
@@ -99,7 +99,7 @@ fn pages_within(s: &Settings, quota: u32, needs: &[Need]) -> Result<u32, u32>
     ensures short { IfErr result (λ nth. first_refused_for_space (record { profile = profile_of s.now; quota = quota }) empty 0 (in_order needs.now) ≡ Some nth) }
 {
     let mut table = [0; CLASSES];
-    let classes = fill_sizes(s.page_words, &mut table);
+    let classes = fill_sizes(s.page_words, Layout::Words, &mut table);
     count_pages(s, quota, &table[..classes], needs)
 }
 

@@ -12,3 +12,4 @@ mod sizes;
 pub use answers::{Admission, Need, QuotaFault};
 pub use enough::{admit, count_in_all, first_large, pages_for};
 pub use laws::{a_page_is_there_for_each_quota, there_is_one_admission};
+pub use sizes::{CLASSES, fill_sizes};

@@ -10,6 +10,5 @@ pub mod HeapRuns
 pub mod Needed
 pub mod Closed
 pub mod BudgetLeast
-pub mod Filled
 pub mod CheckedBudget
 pub mod CheckedPoints

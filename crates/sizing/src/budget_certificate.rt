@@ -15,9 +15,8 @@ ghost use Rattle.sizing.specs.Runs.{CanBeRefused};
 
 use crate::certificate::has_bounds;
 use crate::points::{HeapClasses, slots_in};
-use crate::sizes::{CLASSES, fill_sizes};
 use cf_base::{Layout, Settings};
-use quota_model::pages_for;
+use quota_model::{CLASSES, fill_sizes, pages_for};
 
 /// Whether the levels show that `pages` pages of `page_bytes` bytes are enough for a budget, if an object of each
 /// class costs at least its price and these are the bounds (`exact`). There must be a price, a level and a bound,

@@ -8,9 +8,8 @@ ghost use Rattle.sizing.specs.Demands.{KeepsToOne};
 ghost use Rattle.sizing.specs.Runs.{IsServed, ServesMallocsAcross, ServesResizesAcross};
 
 use crate::points::{HeapClasses, are_points};
-use crate::sizes::{CLASSES, fill_sizes};
 use cf_base::{Layout, Settings};
-use quota_model::{Need, count_in_all};
+use quota_model::{CLASSES, Need, count_in_all, fill_sizes};
 
 /// How many entries a mode has.
 pub const ENTRIES: usize = 64;

@@ -17,7 +17,6 @@ mod least;
 mod modes;
 mod points;
 mod shared;
-mod sizes;
 
 pub use budget::{
     fewer_pages_than_a_budget_affords_refuse, pages_for_a_budget_serve,
@@ -38,5 +37,4 @@ pub use modes::{
     certified_pages_serve, fewer_pages_for_modes_refuse, pages_for_modes_serve,
     pages_for_modes_serve_at_bound_one,
 };
-pub use quota_model::Need;
-pub use sizes::CLASSES;
+pub use quota_model::{CLASSES, Need};

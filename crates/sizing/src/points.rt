@@ -10,8 +10,7 @@ ghost use Rattle.sizing.specs.Demands.{count_in};
 use crate::certificate::{ModeNeeds, PointPages};
 use crate::copies::allows_resizes;
 use crate::shared::{class_counts, two_modes};
-use crate::sizes::CLASSES;
-use quota_model::pages_for;
+use quota_model::{CLASSES, pages_for};
 
 /// The words of a page, and by class the words of a slot and the bound.
 #[derive(Drop)]

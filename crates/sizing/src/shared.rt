@@ -10,8 +10,7 @@ ghost use Rattle.sizing.specs.Demands.{count_in};
 use crate::certificate::{ENTRIES, ModeNeeds};
 use crate::count::count_between;
 use crate::points::HeapClasses;
-use crate::sizes::CLASSES;
-use quota_model::Need;
+use quota_model::{CLASSES, Need};
 
 /// By class: the most objects of one mode, those of the mode after it, and those that stay.
 #[derive(Drop)]

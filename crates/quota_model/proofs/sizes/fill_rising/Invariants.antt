@@ -1,6 +1,6 @@
 use Rattle.std.proofs.Common.{◌-◌, ◌≡◌, ◌*◌, ◌≤◌, ◌++◌, map, take}
 use Rattle.cf_base.specs.Classes.{sizes_from}
-use Rattle.sizing.proofs.sizes.fill_rising.Given as goal
+use Rattle.quota_model.proofs.sizes.fill_rising.Given as goal
 
 abbrev pub invariant-sizes : goal.invariant-sizes
 invariant-sizes l = record {

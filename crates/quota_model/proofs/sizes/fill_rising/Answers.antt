@@ -1,7 +1,7 @@
 use Rattle.std.proofs.Common.{◌*◌, arith, map, ◌∙◌}
 use Rattle.cf_base.specs.Classes.{sizes_from}
-use Rattle.sizing.proofs.Filled.{filled_last, filled_next, filled_room}
-use Rattle.sizing.proofs.sizes.fill_rising.Goals as goal
+use Rattle.quota_model.proofs.Filled.{filled_last, filled_next, filled_room}
+use Rattle.quota_model.proofs.sizes.fill_rising.Goals as goal
 
 pub offset_bounds-table-count : goal.offset_bounds-table-count
 offset_bounds-table-count c =
