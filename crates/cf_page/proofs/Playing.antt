@@ -7,7 +7,7 @@ use Rattle.cf_base.specs.declared.status.Status.{Status}
 use Rattle.cf_base.specs.declared.status.Status.TheVariants.{BadImage, BadScript, Done, OutOfMemory, ReadFault, TooLong, Words, WriteFault}
 use Rattle.cf_io.specs.Feeds.{SinkFailsIf, SourceFailsIf, one_more}
 use Rattle.cf_model.specs.State.{closed_state}
-use Rattle.manager_modes.specs.Outcomes.{CallState, EndsWhole}
+use Rattle.top_call.specs.Outcomes.{CallState, EndsWhole}
 use Rattle.script_loop.specs.ScriptOutcome.{is_read_fault, is_write_fault}
 use Rattle.top_call.specs.OneScript.{KeepsContract}
 use Rattle.top_call.specs.TopOutcome.{HasRightInput}

@@ -7,7 +7,7 @@ use Rattle.cf_base.specs.declared.kind.Kind.TheVariants.{Moving, NonMoving, Tlsf
 use Rattle.cf_base.specs.declared.status.Status.{Status}
 use Rattle.cf_base.specs.declared.status.Status.TheVariants.{OutOfMemory, ReadFault, Words, WriteFault}
 use Rattle.cf_model.specs.State.{closed_state}
-use Rattle.manager_modes.specs.Outcomes.{EndsWhole}
+use Rattle.top_call.specs.Outcomes.{EndsWhole}
 use Rattle.top_call.specs.OneScript.{KeepsContract, TopCall}
 use Rattle.top_call.specs.TopOutcome.{HasRightInput}
 use Rattle.cf_page.specs.ArgumentWords.{argument_words}

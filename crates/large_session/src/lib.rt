@@ -1,5 +1,5 @@
-//! Mode `large`: `LargeSession` maps the ids of a script to the handles of long objects, `run_large` runs a script
-//! on them, and the laws say what is claimed of every such script, by its lines and their replies alone.
+//! Mode `large`: `LargeSession` maps the ids of a script to the handles of long objects, and the laws say what is
+//! claimed of every script, by its lines and their replies alone.
 #![tactic(auto)]
 
 mod commands;
@@ -11,5 +11,5 @@ pub use laws::{
     a_long_run_can_always_go_on, each_command_has_its_turn, reads_give_what_was_written,
     the_large_headline, what_was_cut_is_a_prefix, wrong_large_replies_fall_short,
 };
-pub use mode_handler::{LargeHandler, run_large};
+pub use mode_handler::LargeHandler;
 pub use session::LargeSession;

@@ -2,17 +2,15 @@
 ghost use Rattle.std.specs.Prelude.{◌≡◌, IfOk};
 ghost use Rattle.std.specs.FinMap as map;
 ghost use Rattle.cf_base.specs.declared.kind.Kind.{Kind};
-ghost use Rattle.cf_model.specs.Families.{IsPaged};
-ghost use Rattle.script_loop.specs.ScriptOutcome.{Plays};
 ghost use Rattle.large_session.specs.LargeRun.{LargeRun, large_run};
 ghost use Rattle.large_session.specs.Playing.{large_heap};
 
 use crate::session::LargeSession;
-use cf_base::{Failed, OutOfMemory, Settings, Status};
-use cf_io::{Line, Sink, Source, put_all};
+use cf_base::{Failed, OutOfMemory, Settings};
+use cf_io::{Line, Sink, put_all};
 use cf_model::Manager;
 use large_objects::LargeHeap;
-use script_loop::{ModeHandler, OpenFault, play_script};
+use script_loop::{ModeHandler, OpenFault};
 use script_reader::CommandRef;
 use std::alloc::Global;
 use std::rt::Memory;
@@ -79,23 +77,4 @@ impl<H: Manager> ModeHandler<LargeHeap<H>> for LargeHandler {
             .apply_ref(heap, command, &mut self.line, sink, &mut self.meter)?;
         Ok(())
     }
-}
-
-/// Runs the script of a source on the heap, and writes the replies to a sink. The `heap` line opens the heap,
-/// with the bound 1 for each class; each later command is done on its objects. Each complete line has its reply
-/// before the next chunk is taken. The run stops at a bad line, if the source or the sink fails, if an
-/// allocation fails at the `heap` line, and after 268,435,455 bytes. The status shows which.
-pub fn run_large<H: Manager, S: Source, K: Sink>(
-    mode_handler: &mut LargeHandler,
-    heap: &mut LargeHeap<H>,
-    source: &mut S,
-    sink: &mut K,
-) -> Status
-    requires fresh { mode_handler.old.session ≡ map.empty }
-    requires pages { IsPaged heap.old.inner.kind }
-    ensures { Plays large_heap (large_run mode_handler.old.session heap.old)
-        (S.state source.old) (K.state sink.old) result (S.state source.new) (K.state sink.new)
-        (large_run mode_handler.new.session heap.new) }
-{
-    play_script(mode_handler, heap, source, sink)
 }

@@ -1,5 +1,5 @@
 //! A session of mode `quota`, over a heap that sixteen tasks share: each task's ids and declared needs, and the
-//! present task, for which `m`, `f`, `w` and `r` act. `run_quotas` runs a script on it.
+//! present task, for which `m`, `f`, `w` and `r` act.
 #![tactic(auto)]
 
 mod changes;
@@ -18,5 +18,5 @@ pub use laws::{
     tasks_are_isolated, tasks_are_isolated_in_a_script, what_was_cut_is_a_prefix,
     wrong_task_replies_fall_short,
 };
-pub use mode_handler::{QuotaHandler, run_quotas};
+pub use mode_handler::QuotaHandler;
 pub use session::QuotaSession;

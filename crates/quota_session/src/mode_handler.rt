@@ -1,16 +1,15 @@
 //! The mode handler of mode `quota`: a session over the heap that sixteen tasks share, with the settings of the
-//! `heap` line; and `run_quotas`, which runs a script with it.
+//! `heap` line.
 ghost use Rattle.std.specs.Prelude.{◌≡◌, ⊤, IfOk, None, option_map};
 ghost use Rattle.cf_base.specs.Settings.{profile_of};
-ghost use Rattle.script_loop.specs.ScriptOutcome.{Plays};
 ghost use Rattle.quota_session.specs.Playing.{quota_tasks};
 ghost use Rattle.quota_session.specs.QuotaRun.{QuotaRun, first_session, quota_run};
 
 use crate::session::QuotaSession;
-use cf_base::{Failed, OutOfMemory, Settings, Status};
-use cf_io::{Sink, Source, put_all};
+use cf_base::{Failed, OutOfMemory, Settings};
+use cf_io::{Sink, put_all};
 use quota_heap::QuotaHeap;
-use script_loop::{ModeHandler, OpenFault, play_script};
+use script_loop::{ModeHandler, OpenFault};
 use script_reader::CommandRef;
 use std::alloc::Global;
 use std::rt::Memory;
@@ -84,23 +83,4 @@ impl ModeHandler<QuotaHeap> for QuotaHandler {
             .apply_ref(heap, &settings, command, sink, self.meter.steps())?;
         Ok(())
     }
-}
-
-/// Runs the script of a source on the heap, and writes the replies to a sink. Returns how the run ended.
-/// The `heap` line opens the heap, with the bound 1 for each class; each later command is done for the
-/// present task or for the one that it names. Each complete line has its reply before the next chunk is
-/// taken. The run stops at a bad line, if the source or the sink fails, if an allocation fails at the
-/// `heap` line, and after 268,435,455 bytes.
-pub fn run_quotas<S: Source, K: Sink>(
-    mode_handler: &mut QuotaHandler,
-    heap: &mut QuotaHeap,
-    source: &mut S,
-    sink: &mut K,
-) -> Status
-    requires { mode_handler.old.session ≡ first_session }
-    ensures { Plays quota_tasks (quota_run (option_map profile_of mode_handler.old.settings) mode_handler.old.session heap.old)
-        (S.state source.old) (K.state sink.old) result (S.state source.new) (K.state sink.new)
-        (quota_run (option_map profile_of mode_handler.new.settings) mode_handler.new.session heap.new) }
-{
-    play_script(mode_handler, heap, source, sink)
 }

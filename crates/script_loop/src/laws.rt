@@ -1,5 +1,5 @@
-//! Theorems on every script that ran on one manager (`run_script`), from its outcome alone: what its reads print,
-//! what a failed sink got, when the output is the transcript, and that chunks don't matter.
+//! Theorems on every script that ran on one manager, from its outcome alone: what its reads print, what a failed
+//! sink got, when the output is the transcript, and that chunks don't matter.
 ghost use Rattle.std.specs.Prelude.{◌≡◌, ◌++◌, ℕ, List, [], None, Some};
 ghost use Rattle.script_laws.specs.IdBytes.{AreReadsOf};
 ghost use Rattle.run_model.specs.Sessions.{RunState};

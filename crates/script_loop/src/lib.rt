@@ -16,6 +16,5 @@ pub use laws::{
     settings_are_kept, what_was_cut_is_a_prefix,
 };
 pub use mode_handler::{ModeHandler, OpenFault};
-pub use one_manager::run_script;
 pub use running::{LIMIT, Script, play_script};
 pub use with_settings::WithSettings;

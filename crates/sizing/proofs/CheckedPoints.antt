@@ -1,4 +1,4 @@
--- For `is_certificate`: the points are a certificate if and only if each meets its conditions, and there is one if there is a mode. The tables that the test
+-- For `is_certified`: the points are a certificate if and only if each meets its conditions, and there is one if there is a mode. The tables that the test
 -- computes have the counts of the modes.
 use Rattle.std.proofs.Common.{◌≡◌, ℕ, suc, ◌+◌, ◌<◌, ◌≤◌, Bool, List, [], All, cond, get_or-set_other, get_or-set_same, length, arith, ap, sym, ◌∙◌, min, refl, subst, inl, inr}
 use Rattle.std.proofs.Math.ListN.{set}

@@ -1,5 +1,5 @@
 -- Certificates that pages are enough for the modes of a program, whatever the bounds: for each mode some numbers of pages by class, one of which no run that is
--- in the mode exceeds. An unverified planner can compute them, and `is_certificate` tests them.
+-- in the mode exceeds. An unverified planner can compute them, and `is_certified` tests them.
 use Rattle.std.specs.Prelude.{◌≡◌, ◌≢◌, ℕ, ◌+◌, ◌-◌, ◌*◌, ◌/◌, ◌<◌, ◌≤◌, All, List, [], ◌∷◌, Contains, if◌then◌else◌, length, min, nat_eq, slice_index, slice_index_or, sum_by}
 use Rattle.std.specs.List.{range_with_len}
 use Rattle.page_model.specs.Counts.{ceil_div, most_pages}

@@ -1,19 +1,16 @@
-//! Sizing by plain numbers, for a caller without settings, as one in C.
-ghost use Rattle.std.specs.Prelude.{◌≡◌, ◌+◌, ◌/◌, ◌<◌, ◌≤◌, ◌↔◌, All, IfErr, IfOk, IsTrue, None, length};
+//! `least_pages` by plain numbers, for a caller without settings, as one in C.
+ghost use Rattle.std.specs.Prelude.{◌≡◌, ◌/◌, ◌<◌, ◌≤◌, IfErr, IfOk, None, length};
 ghost use Rattle.std.specs.FinMap.{empty};
 ghost use Rattle.cf_base.specs.Classes.{sizes};
-ghost use Rattle.cf_base.specs.Settings.{profile_from, profile_of, setting_fault};
+ghost use Rattle.cf_base.specs.Settings.{profile_of, setting_fault};
 ghost use Rattle.cf_model.specs.State.{HeapState, layout_of};
-ghost use Rattle.page_model.specs.Paging.{IsPaging, Paging, paging_of};
+ghost use Rattle.page_model.specs.Paging.{IsPaging, Paging};
 ghost use Rattle.quota_model.specs.Admission.{CanBeAsked, declared_in_all};
-ghost use Rattle.sizing.specs.Certificates.{AreForResizes, IsCertificate};
-ghost use Rattle.sizing.specs.Checks.{HasFew, needs_of, with_pages};
-ghost use Rattle.sizing.specs.Demands.{KeepsTo, KeepsToOne};
+ghost use Rattle.sizing.specs.Demands.{KeepsTo};
 ghost use Rattle.sizing.specs.Heaps.{IsFresh, ServesHeapMallocs, ServesHeapResizes};
 ghost use Rattle.sizing.specs.Needs.{HasFault};
-ghost use Rattle.sizing.specs.Runs.{CanBeRefused, IsServed, ServesMallocsAcross, ServesResizesAcross};
+ghost use Rattle.sizing.specs.Runs.{CanBeRefused};
 
-use crate::certificate::{ModeNeeds, PointPages, is_certificate};
 use crate::least::least_pages;
 use cf_base::{Layout, SettingFault, Settings};
 use quota_model::{Need, count_in_all, first_large};
@@ -84,32 +81,4 @@ fn settings_for(page_bytes: u32, k: u32, needs: &[Need]) -> Result<Settings, Nee
         return Err(NeedsFault::Proxies);
     }
     Ok(s)
-}
-
-/// Whether the points are a certificate for a heap of `pages` pages of `page_bytes` bytes
-/// (`is_certificate`). If such a heap can't be, the result is false.
-pub fn is_certified(
-    pages: u32,
-    page_bytes: u32,
-    layout: Layout,
-    bounds: &[u32],
-    modes: &[ModeNeeds],
-    points: &[PointPages],
-    resizes: bool,
-) -> bool
-    ensures exact { setting_fault pages page_bytes 1 65536 ≡ None
-        → IsPaging (paging_of (profile_from pages page_bytes 1 65536) layout bounds.now) → All HasFew modes.now
-        → IsTrue result ↔ IsCertificate (paging_of (profile_from pages page_bytes 1 65536) layout bounds.now) (needs_of modes.now) points.now
-        × (IsTrue resizes → AreForResizes (paging_of (profile_from pages page_bytes 1 65536) layout bounds.now) (needs_of modes.now) points.now) }
-    ensures mallocs { IsTrue result
-        → ServesMallocsAcross (paging_of (profile_from pages page_bytes 1 65536) layout bounds.now) (KeepsToOne (needs_of modes.now)) }
-    ensures resizes { IsTrue result → IsTrue resizes
-        → IsServed (paging_of (profile_from pages page_bytes 1 65536) layout bounds.now) (KeepsToOne (needs_of modes.now)) }
-    ensures spare { IsTrue result
-        → ServesResizesAcross (with_pages (pages + 1) (paging_of (profile_from pages page_bytes 1 65536) layout bounds.now)) (KeepsToOne (needs_of modes.now)) }
-{
-    match Settings::check(pages, page_bytes, 1, 65536) {
-        Ok(s) => is_certificate(&s, layout, bounds, modes, points, resizes),
-        Err(_) => false,
-    }
 }

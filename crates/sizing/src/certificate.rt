@@ -1,6 +1,6 @@
 //! The test whether numbers of pages, which an unproved planner found, are a certificate for a heap.
-ghost use Rattle.std.specs.Prelude.{ℕ, ◌≡◌, ◌+◌, ◌<◌, ◌≤◌, ◌↔◌, All, IsTrue, length, slice_index};
-ghost use Rattle.cf_base.specs.Settings.{profile_of};
+ghost use Rattle.std.specs.Prelude.{ℕ, ◌≡◌, ◌+◌, ◌<◌, ◌≤◌, ◌↔◌, All, IsTrue, None, length, slice_index};
+ghost use Rattle.cf_base.specs.Settings.{profile_from, setting_fault};
 ghost use Rattle.page_model.specs.Paging.{IsPaging, paging_of};
 ghost use Rattle.sizing.specs.Certificates.{AreForResizes, IsCertificate};
 ghost use Rattle.sizing.specs.Checks.{HasFew, needs_of, paging_with, with_pages};
@@ -29,31 +29,38 @@ pub struct PointPages {
     pub pages: [u32; CLASSES],
 }
 
-/// Whether the points are a certificate for a heap with the pages of the settings, slots of this layout
-/// and these bounds by class, and a program with these modes; and, if the program `resizes`, also for its
-/// resizes (`exact`). The bounds must be one for each class and at least 1, and each mode may have at most
-/// 65,536 objects, else the result is false (`bounds`). If it is true, no malloc is refused for space of a
-/// program that never resizes an object to another length of its class (`mallocs`), and with one page more
-/// no resize (`spare`). If the program `resizes`, no malloc and no resize is refused (`resizes`).
-pub fn is_certificate(
-    s: &Settings,
+/// Whether the points are a certificate for a heap of `pages` pages of `page_bytes` bytes, slots of this layout and
+/// these bounds by class, and a program with these modes; and, if the program `resizes`, also for its resizes
+/// (`exact`). There must be settings with these numbers and 65,536 proxies, a bound, at least 1, for each class, and
+/// at most 65,536 objects in each mode, else the result is false (`bounds`). If it is true, no malloc is refused for
+/// space of a program that never resizes an object to another length of its class (`mallocs`), and with one page
+/// more no resize (`spare`). If the program `resizes`, no malloc and no resize is refused (`resizes`).
+pub fn is_certified(
+    pages: u32,
+    page_bytes: u32,
     layout: Layout,
     bounds: &[u32],
     modes: &[ModeNeeds],
     points: &[PointPages],
     resizes: bool,
 ) -> bool
-    ensures exact { IsPaging (paging_of (profile_of s.now) layout bounds.now) → All HasFew modes.now
-        → IsTrue result ↔ IsCertificate (paging_of (profile_of s.now) layout bounds.now) (needs_of modes.now) points.now
-        × (IsTrue resizes → AreForResizes (paging_of (profile_of s.now) layout bounds.now) (needs_of modes.now) points.now) }
-    ensures bounds { IsTrue result → IsPaging (paging_of (profile_of s.now) layout bounds.now) × All HasFew modes.now }
+    ensures exact { setting_fault pages page_bytes 1 65536 ≡ None
+        → IsPaging (paging_of (profile_from pages page_bytes 1 65536) layout bounds.now) → All HasFew modes.now
+        → IsTrue result ↔ IsCertificate (paging_of (profile_from pages page_bytes 1 65536) layout bounds.now) (needs_of modes.now) points.now
+        × (IsTrue resizes → AreForResizes (paging_of (profile_from pages page_bytes 1 65536) layout bounds.now) (needs_of modes.now) points.now) }
+    ensures bounds { IsTrue result
+        → IsPaging (paging_of (profile_from pages page_bytes 1 65536) layout bounds.now) × All HasFew modes.now }
     ensures mallocs { IsTrue result
-        → ServesMallocsAcross (paging_of (profile_of s.now) layout bounds.now) (KeepsToOne (needs_of modes.now)) }
+        → ServesMallocsAcross (paging_of (profile_from pages page_bytes 1 65536) layout bounds.now) (KeepsToOne (needs_of modes.now)) }
     ensures resizes { IsTrue result → IsTrue resizes
-        → IsServed (paging_of (profile_of s.now) layout bounds.now) (KeepsToOne (needs_of modes.now)) }
+        → IsServed (paging_of (profile_from pages page_bytes 1 65536) layout bounds.now) (KeepsToOne (needs_of modes.now)) }
     ensures spare { IsTrue result
-        → ServesResizesAcross (with_pages (s.now.pages + 1) (paging_of (profile_of s.now) layout bounds.now)) (KeepsToOne (needs_of modes.now)) }
+        → ServesResizesAcross (with_pages (pages + 1) (paging_of (profile_from pages page_bytes 1 65536) layout bounds.now)) (KeepsToOne (needs_of modes.now)) }
 {
+    let s = match Settings::check(pages, page_bytes, 1, 65536) {
+        Ok(s) => s,
+        Err(_) => return false,
+    };
     let mut table = [0; CLASSES];
     let classes = fill_sizes(s.page_words, layout, &mut table);
     let sizes = &table[..classes];

@@ -1,7 +1,7 @@
 //! Sizing: how many pages a program needs so that no malloc is refused for space, whatever the order
 //! of its calls. The program declares what it has live at most: objects by length, in one or several
 //! modes, or a budget. `least_pages`, `pages_with_mode` and `pages_needed` compute the number;
-//! `is_certificate`, `are_budget_levels` and `is_budget_certificate` test one that an unproved planner
+//! `is_certified`, `are_budget_levels` and `is_budget_certificate` test one that an unproved planner
 //! found. The functions without arguments do nothing, and their contracts are laws.
 #![tactic(auto)]
 
@@ -23,8 +23,8 @@ pub use budget::{
     pages_that_a_budget_affords_serve,
 };
 pub use budget_certificate::{are_budget_levels, is_budget_certificate};
-pub use by_numbers::{NeedsFault, is_certified, pages_needed};
-pub use certificate::{ENTRIES, ModeNeeds, PointPages, is_certificate};
+pub use by_numbers::{NeedsFault, pages_needed};
+pub use certificate::{ENTRIES, ModeNeeds, PointPages, is_certified};
 pub use heaps::{
     no_call_within_the_needs_is_refused_space, no_free_within_the_needs_moves_an_object,
     no_malloc_within_the_modes_is_refused_space,

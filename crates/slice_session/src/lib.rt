@@ -1,5 +1,5 @@
 //! Mode `slice`: a session does a script's commands on a sliced heap and maps its ids to handles. `f` leaves a
-//! job and does its first slice, each `s` does one more; `run_slices` runs a whole script.
+//! job and does its first slice, each `s` does one more.
 #![tactic(auto)]
 
 mod commands;
@@ -13,5 +13,5 @@ pub use laws::{
     the_sliced_headline, what_was_cut_is_a_prefix, who_is_busy_and_how_long,
     wrong_sliced_replies_fall_short,
 };
-pub use mode_handler::{SliceHandler, run_slices};
+pub use mode_handler::SliceHandler;
 pub use session::SliceSession;

@@ -1,14 +1,13 @@
 //! The mode handler of mode `slice`: a session over a sliced heap, with the quantum with which the `heap` line
-//! opens the heap; and `run_slices`, which runs a script with it.
+//! opens the heap.
 ghost use Rattle.std.specs.Prelude.{◌≡◌, ℕ, IfOk};
 ghost use Rattle.std.specs.FinMap as map;
-ghost use Rattle.script_loop.specs.ScriptOutcome.{Plays};
 ghost use Rattle.slice_session.specs.Playing.{IsQuantum, SlicePlay, slice_play, slices};
 
 use crate::session::SliceSession;
-use cf_base::{Failed, OutOfMemory, Settings, Status};
-use cf_io::{Sink, Source, put_all};
-use script_loop::{ModeHandler, OpenFault, play_script};
+use cf_base::{Failed, OutOfMemory, Settings};
+use cf_io::{Sink, put_all};
+use script_loop::{ModeHandler, OpenFault};
 use script_reader::CommandRef;
 use sliced_heap::SlicedHeap;
 use std::alloc::Global;
@@ -76,23 +75,4 @@ impl ModeHandler<SlicedHeap> for SliceHandler {
             .apply_ref(heap, command, sink, self.meter.steps())?;
         Ok(())
     }
-}
-
-/// Runs the script of a source on the heap, and writes the replies to a sink. Returns how the run ended.
-/// The `heap` line opens the heap, with the bound 1 for each class; each later command is done on its
-/// objects. Each complete line has its reply before the next chunk is taken. The run stops at a bad line,
-/// if the source or the sink fails, if an allocation fails at the `heap` line, and after 268,435,455 bytes.
-pub fn run_slices<S: Source, K: Sink>(
-    mode_handler: &mut SliceHandler,
-    heap: &mut SlicedHeap,
-    source: &mut S,
-    sink: &mut K,
-) -> Status
-    requires fresh { mode_handler.old.session ≡ map.empty }
-    requires quantum { IsQuantum mode_handler.old.quantum }
-    ensures { Plays slices (slice_play mode_handler.old.session mode_handler.old.quantum heap.old)
-        (S.state source.old) (K.state sink.old) result (S.state source.new) (K.state sink.new)
-        (slice_play mode_handler.new.session mode_handler.new.quantum heap.new) }
-{
-    play_script(mode_handler, heap, source, sink)
 }

@@ -19,8 +19,8 @@ use Rattle.command_line.specs.declared.choice.Mode.TheVariants.{Run, Compare, Be
 use Rattle.large_session.specs.Playing.{large_heap}
 use Rattle.image_run.specs.Saves.{unseen}
 use Rattle.script_loop.specs.OneManager.{one_manager}
-use Rattle.manager_modes.specs.FirstOfKind.{chosen_manager}
-use Rattle.manager_modes.specs.SideBySide.{fresh_side_by_side, many_managers}
+use Rattle.top_call.specs.FirstOfKind.{chosen_manager}
+use Rattle.top_call.specs.SideBySide.{fresh_side_by_side, many_managers}
 use Rattle.large_session.proofs.CallerLemmas.{large_met}
 use Rattle.large_session.specs.LargeHeadline.{MeetsLarge}
 use Rattle.script_loop.specs.Consequences.{AnswersAll}
@@ -31,8 +31,8 @@ use Rattle.slice_session.specs.SliceHeadline.{MeetsSliced}
 use Rattle.quota_session.specs.Transcript.{MeetsTasks}
 use Rattle.quota_session.proofs.CallerLemmas.{tasks_met}
 use Rattle.quota_session.specs.Playing.{quota_tasks}
-use Rattle.manager_modes.proofs.CallerLemmas.{IsSound, bench_sound, compare_sound, compare_shown, did_all, load_sound, never_bad_image, own_sound, own_shown, run_sound, run_shown, save_sound}
-use Rattle.manager_modes.specs.Outcomes.{EndsWithCause, EndsWhole, CallState, IsMadeLarge, Loads, OrLacks, Saves, effects_of, kinds_in}
+use Rattle.top_call.proofs.Whole.{IsSound, bench_sound, compare_sound, compare_shown, did_all, load_sound, never_bad_image, own_sound, own_shown, run_sound, run_shown, save_sound}
+use Rattle.top_call.specs.Outcomes.{EndsWithCause, EndsWhole, CallState, IsMadeLarge, Loads, OrLacks, Saves, effects_of, kinds_in}
 use Rattle.top_call.specs.TopOutcome.{AnswersInput, DoesChosen, EndsWell, HasRightInput, InMode, IsMadeForTasks, IsMadeSliced, IsRightInput, PrintsBytes, PrintsAsClaimed, PrintsInMode}
 
 sound : (mode : Mode) (choice : Choice) → IsSound (InMode mode choice) (IsRightInput mode)

@@ -28,8 +28,8 @@ use Rattle.image_run.specs.Saves.{WritesAtEnd, saved, script_status, unseen}
 use Rattle.image_run.specs.Script.{script_under}
 use Rattle.large_session.specs.Playing.{large_heap}
 use Rattle.large_session.specs.LargeHeadline.{MeetsLarge}
-use Rattle.manager_modes.specs.Claims.{MeetsClaim}
-use Rattle.manager_modes.specs.Outcomes.{Benches, Compares, CallState, IsMadeLarge, Loads, PlaysOwn, RunsChosen, Saves, effects_of, kinds_in, orders_in}
+use Rattle.top_call.specs.Claims.{MeetsClaim}
+use Rattle.top_call.specs.Outcomes.{Benches, Compares, CallState, IsMadeLarge, Loads, PlaysOwn, RunsChosen, Saves, effects_of, kinds_in, orders_in}
 use Rattle.quota_session.specs.Transcript.{MeetsTasks}
 use Rattle.quota_session.specs.Playing.{quota_tasks}
 use Rattle.run_model.specs.Runs.{Run as RunOver}
@@ -42,13 +42,14 @@ use Rattle.script_loop.specs.OneManager.{one_manager}
 use Rattle.script_loop.specs.ScriptOutcome.{Effects, IsStatusRow, MOST_BYTES, MeetsOutcome, EndsAt, has_bad, items_within}
 use Rattle.script_loop.specs.Semantics.{RunBy, Semantics}
 use Rattle.script_reader.specs.Items.{Item, asks}
-use Rattle.manager_modes.proofs.CallerLemmas.{chosen_kind, own_of, stand_of}
-use Rattle.manager_modes.specs.FirstOfKind.{chosen_manager, first_of_kind}
-use Rattle.manager_modes.specs.SideBySide.{SideBySide, fresh_side_by_side, kinds_of, many_managers, runs_of}
-use Rattle.manager_modes.specs.OwnRuns.{JoinStates, OwnRuns, EachEndsAt, interleaved_replies}
+use Rattle.top_call.proofs.FirstOfKindLemmas.{chosen_kind}
+use Rattle.top_call.proofs.OwnOutcomes.{own_of, stand_of}
+use Rattle.top_call.specs.FirstOfKind.{chosen_manager, first_of_kind}
+use Rattle.top_call.specs.SideBySide.{SideBySide, fresh_side_by_side, kinds_of, many_managers, runs_of}
+use Rattle.top_call.specs.OwnRuns.{JoinStates, OwnRuns, EachEndsAt, interleaved_replies}
 use Rattle.slice_session.proofs.CallerLemmas.{one_play}
 use Rattle.slice_session.specs.Playing.{SlicePlay, slices}
-use Rattle.manager_modes.specs.Bench.{EndsBench, bench_items, bench_text}
+use Rattle.top_call.specs.Bench.{EndsBench, bench_items, bench_text}
 use Rattle.generator.specs.Generated.{generated}
 use Rattle.script_reader.specs.declared.command.Command.{Command}
 use Rattle.top_call.specs.OneScript.{AnswersWhole, AreRunsInOrder, IsRunInOrder, KeepsContract, LeavesNoChoice, PrintsReplies, PromisesOrder, TopCall, status_of}

@@ -17,9 +17,9 @@ use Rattle.run_model.specs.Texts.{Reply, text_of}
 use Rattle.script_laws.specs.OneOutput.{IsOrdered}
 use Rattle.script_loop.specs.Consequences.{AnswersAll}
 use Rattle.script_loop.specs.ScriptOutcome.{MOST_BYTES, has_bad, items_within}
-use Rattle.manager_modes.specs.FirstOfKind.{chosen_manager}
-use Rattle.manager_modes.specs.Outcomes.{CallState, kinds_in, orders_in}
-use Rattle.manager_modes.specs.OwnRuns.{bare_reply, interleaved_replies}
+use Rattle.top_call.specs.FirstOfKind.{chosen_manager}
+use Rattle.top_call.specs.Outcomes.{CallState, kinds_in, orders_in}
+use Rattle.top_call.specs.OwnRuns.{bare_reply, interleaved_replies}
 use Rattle.top_call.specs.TopOutcome.{EndsWell, PrintsAsClaimed}
 
 -- a call: what it works on, before and after it, and its status

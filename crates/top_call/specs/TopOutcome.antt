@@ -16,15 +16,15 @@ use Rattle.image_run.specs.Claims.{LoadsAs, Prints, SavesAs}
 use Rattle.quota_session.specs.Transcript.{MeetsTasks}
 use Rattle.script_loop.specs.Consequences.{AnswersAll}
 use Rattle.script_loop.specs.ScriptOutcome.{Effects, IsClean}
-use Rattle.manager_modes.specs.OwnRuns.{MeetHeadlines}
+use Rattle.top_call.specs.OwnRuns.{MeetHeadlines}
 use Rattle.slice_session.specs.Playing.{SlicePlay, slice_play, slices}
 use Rattle.sliced_heap.specs.Shown as sliced_state
 use Rattle.slice_session.specs.SliceHeadline.{MeetsSliced}
 use Rattle.quota_heap.specs.State as quota_state
 use Rattle.quota_session.specs.Playing.{quota_tasks}
 use Rattle.quota_session.specs.QuotaRun.{QuotaRun, first_session, quota_run}
-use Rattle.manager_modes.specs.Claims.{HoldsImage, MeetsClaim}
-use Rattle.manager_modes.specs.Outcomes.{Benches, Compares, CallState, Loads, OrLacks, PlaysLarge, PlaysOwn, RunsChosen, Saves, effects_of, kinds_in}
+use Rattle.top_call.specs.Claims.{HoldsImage, MeetsClaim}
+use Rattle.top_call.specs.Outcomes.{Benches, Compares, CallState, Loads, OrLacks, PlaysLarge, PlaysOwn, RunsChosen, Saves, effects_of, kinds_in}
 
 -- the state of a new run in mode `slice`: no id is live, and the sliced heap, for slices of at most `quantum` words, was never open
 abbrev pub IsMadeSliced : ℕ → SlicePlay → Type 0

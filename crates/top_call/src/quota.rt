@@ -1,11 +1,12 @@
 //! Mode `quota`: runs a script of sixteen tasks that share the pages of one heap.
-ghost use Rattle.manager_modes.specs.Outcomes.{EndsBeside};
+ghost use Rattle.top_call.specs.Outcomes.{EndsBeside};
 ghost use Rattle.top_call.specs.TopOutcome.{PlaysQuotas};
 
 use cf_base::Status;
 use cf_io::{Sink, Source};
 use quota_heap::QuotaHeap;
-use quota_session::{QuotaHandler, run_quotas};
+use quota_session::QuotaHandler;
+use script_loop::play_script;
 use std::alloc::Global;
 use std::rt::Memory;
 
@@ -24,5 +25,5 @@ pub fn play_quotas<S: Source, K: Sink>(
         return Status::OutOfMemory;
     };
     let mut heap = QuotaHeap::closed(alloc);
-    run_quotas(&mut mode_handler, &mut heap, source, sink)
+    play_script(&mut mode_handler, &mut heap, source, sink)
 }

@@ -1,11 +1,12 @@
 //! Mode `slice`: runs a script on a sliced heap, whose frees leave work to later calls.
 ghost use Rattle.std.specs.Prelude.{◌≤◌};
-ghost use Rattle.manager_modes.specs.Outcomes.{EndsBeside};
+ghost use Rattle.top_call.specs.Outcomes.{EndsBeside};
 ghost use Rattle.top_call.specs.TopOutcome.{PlaysSlices};
 
 use cf_base::Status;
 use cf_io::{Sink, Source};
-use slice_session::{SliceHandler, run_slices};
+use script_loop::play_script;
+use slice_session::SliceHandler;
 use sliced_heap::SlicedHeap;
 use std::alloc::Global;
 use std::rt::Memory;
@@ -28,5 +29,5 @@ pub fn play_slices<S: Source, K: Sink>(
         return Status::OutOfMemory;
     };
     let mut heap = SlicedHeap::closed(alloc);
-    run_slices(&mut mode_handler, &mut heap, source, sink)
+    play_script(&mut mode_handler, &mut heap, source, sink)
 }

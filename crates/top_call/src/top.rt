@@ -2,17 +2,21 @@
 ghost use Rattle.std.specs.Prelude.{◌≡◌, ◌<◌, ◌≤◌, ◌+◌, ◌⊎◌, is_some, map, string_bytes, true};
 ghost use Rattle.cf_io.specs.Feeds.{SinkFailsIf, SourceFailsIf, last_count};
 ghost use Rattle.script_loop.specs.ScriptOutcome.{MOST_BYTES, is_read_fault, is_write_fault};
-ghost use Rattle.manager_modes.specs.Outcomes.{EndsWithCause, EndsWhole, seen};
+ghost use Rattle.top_call.specs.Outcomes.{EndsWithCause, EndsWhole, seen};
 ghost use Rattle.top_call.specs.OneScript.{KeepsContract};
 ghost use Rattle.top_call.specs.TopOutcome.{EndsWell, HasRightInput, InMode, PrintsAsClaimed};
 
+use crate::bench::bench_seed;
+use crate::compare::compare_all;
+use crate::images::{load_image, save_image};
+use crate::large::play_large;
 use crate::quota::play_quotas;
+use crate::run::run_chosen;
 use crate::slice::play_slices;
 use cf_base::Status;
 use cf_io::{Sink, Source};
 use cf_model::Manager;
 use command_line::{ArgumentsFault, Choice, Mode, read_arguments};
-use manager_modes::{bench_seed, compare_all, load_image, play_large, run_chosen, save_image};
 use std::alloc::Global;
 use std::rt::Memory;
 

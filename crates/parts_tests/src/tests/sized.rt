@@ -1,9 +1,9 @@
-//! Tests of `least_pages`, `pages_with_mode`, `is_certificate`, `is_certified` and `are_budget_levels` against numbers worked out by
+//! Tests of `least_pages`, `pages_with_mode`, `is_certified` and `are_budget_levels` against numbers worked out by
 //! hand.
 use cf_base::{Layout, Settings};
 use sizing::{
-    CLASSES, ENTRIES, ModeNeeds, Need, PointPages, are_budget_levels, is_certificate, is_certified,
-    least_pages, pages_with_mode,
+    CLASSES, ENTRIES, ModeNeeds, Need, PointPages, are_budget_levels, is_certified, least_pages,
+    pages_with_mode,
 };
 use std::test::Fail;
 
@@ -84,12 +84,6 @@ fn point(mode: u32, of_11: u32, of_15: u32) -> PointPages {
 // them stay, with bound 2 they can be on two pages, beside three of the other mode.
 #[test]
 fn two_modes_need_five_pages(rt: HostRuntime) -> Result<(), Fail> {
-    let (Ok(five), Ok(four)) = (
-        Settings::check(5, 512, 1, 20),
-        Settings::check(4, 512, 1, 20),
-    ) else {
-        panic!(rt; "the settings are in range");
-    };
     let modes = [
         mode(&[need(176, 4), need(300, 1), need(176, 2)]),
         mode(&[need(176, 1), need(300, 3), need(176, 1)]),
@@ -97,10 +91,10 @@ fn two_modes_need_five_pages(rt: HostRuntime) -> Result<(), Fail> {
     let points = [point(0, 3, 1), point(1, 2, 3)];
     let bounds = [2; 20];
     let found = [
-        is_certificate(&five, Layout::Words, &bounds, &modes, &points, false),
-        is_certificate(&four, Layout::Words, &bounds, &modes, &points, false),
-        is_certificate(&five, Layout::Words, &bounds[1..], &modes, &points, false),
-        is_certificate(&five, Layout::Words, &bounds, &modes, &points[1..], false),
+        is_certified(5, 512, Layout::Words, &bounds, &modes, &points, false),
+        is_certified(4, 512, Layout::Words, &bounds, &modes, &points, false),
+        is_certified(5, 512, Layout::Words, &bounds[1..], &modes, &points, false),
+        is_certified(5, 512, Layout::Words, &bounds, &modes, &points[1..], false),
     ];
     assert_eq!(rt; found, [true, false, false, false], "certificates");
     Ok(())

@@ -1,7 +1,0 @@
-use Rattle.script_loop.proofs.CallerLemmas.{cut_is_prefix_by}
-use Rattle.manager_modes.proofs.Prefixes.{each_is_whole, many_go_on}
-use Rattle.manager_modes.specs.SideBySide.{many_managers}
-use Rattle.manager_modes.proofs.laws.what_was_cut_is_a_prefix.Goals as goal
-
-pub returns : goal.returns
-returns c = λ from to call all w. cut_is_prefix_by many_managers from (many_go_on from) each_is_whole to call all w

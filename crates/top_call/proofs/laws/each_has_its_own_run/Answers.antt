@@ -1,0 +1,5 @@
+use Rattle.top_call.proofs.Unzipping.{own_runs}
+use Rattle.top_call.proofs.laws.each_has_its_own_run.Goals as goal
+
+pub returns : goal.returns
+returns c = λ kinds items replies end run. own_runs kinds items replies end run
