@@ -181,7 +181,7 @@ class Modes:
         return [point for mine in found for point in mine]
 
     def certificate(self, bounds):
-        """The points with which `is_certificate` of the crate `sizing` accepts the pages of `need`."""
+        """The points with which `is_certified` of the crate `sizing` accepts the pages of `need`."""
         found = self.points(bounds)
         return [Point(mode, pages, None, None) for mode, pages in enumerate(self.spreads(bounds))] if self.gave_up else found
 
