@@ -1,9 +1,9 @@
 //! The Half-Fit manager as a library for C, to compare it with those with pages. `include/norphuen.h` describes each
 //! export for C. An export calls the function of `held_heap` that its comment names, and its contract is that
-//! function's. Each export but `nph_half_close` returns a code: 0 (`DONE`) if the call is done, else the cause
-//! (`c_base`, file `codes`). While the heap is closed, each export but `nph_half_open` and `nph_half_close` returns
-//! `CLOSED` and changes nothing; while it is lent, each but `nph_half_return` and `nph_half_close` returns `LENT` and
-//! changes nothing (`IsCallOnOpen`).
+//! function's. Each export that takes a heap, but `nph_half_close`, returns a code: 0 (`DONE`) if the call is done,
+//! else the cause (`c_base`, file `codes`). Of these each but `nph_half_open` returns `CLOSED` and changes nothing
+//! while the heap is closed, and each but `nph_half_return` returns `LENT` and changes nothing while it is lent
+//! (`IsCallOnOpen`).
 #![tactic(auto)]
 
 ghost use Rattle.std.specs.Prelude.{◌≡◌};

@@ -1,8 +1,8 @@
-//! The heap whose objects have ids, with its images, as a library for C. `include/norphuen.h` describes each export for C. An
-//! export calls the function of `held_images` or `c_base` that its comment names, and its contract is that function's. Each
-//! export but `nph_images_close` returns a code: 0 (`DONE`) if the call is done, else the cause (`c_base`, file `codes`). While
-//! the heap is closed, each export but `nph_images_open`, `nph_images_load` and `nph_images_close` returns `CLOSED` and changes
-//! nothing (`IsCallOnOpen`).
+//! The heap whose objects have ids, with its images, as a library for C. `include/norphuen.h` describes each export
+//! for C. An export calls the function of `held_images` or `c_base` that its comment names, and its contract is that
+//! function's. Each export that takes a heap, but `nph_images_close`, returns a code: 0 (`DONE`) if the call is done,
+//! else the cause (`c_base`, file `codes`). Of these each but `nph_images_open` and `nph_images_load` returns
+//! `CLOSED` and changes nothing while the heap is closed (`IsCallOnOpen`).
 #![tactic(auto)]
 
 ghost use Rattle.std.specs.Prelude.{◌≡◌};

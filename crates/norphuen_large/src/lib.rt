@@ -1,7 +1,7 @@
-//! The heap of long objects as a library for C. `include/norphuen.h` describes each export for C. An export calls the function
-//! of `held_large` or `c_base` that its comment names, and its contract is that function's. Each export but `nph_large_close`
-//! and those that take no heap returns a code: 0 (`DONE`) if the call is done, else the cause (`c_base`, file `codes`). While
-//! the heap is closed, each export but `nph_large_open` and `nph_large_close` returns `CLOSED` and changes nothing
+//! The heap of long objects as a library for C. `include/norphuen.h` describes each export for C. An export calls the
+//! function of `held_large` or `c_base` that its comment names, and its contract is that function's. Each export that
+//! takes a heap, but `nph_large_close`, returns a code: 0 (`DONE`) if the call is done, else the cause (`c_base`,
+//! file `codes`). Of these each but `nph_large_open` returns `CLOSED` and changes nothing while the heap is closed
 //! (`IsCallOnOpen`).
 #![tactic(auto)]
 

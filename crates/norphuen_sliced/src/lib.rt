@@ -1,8 +1,8 @@
-//! The sliced heap as a library for C. `include/norphuen.h` describes each export for C. An export calls the function of
-//! `held_sliced` that its comment names, and its contract is that function's. Each export but `nph_sliced_close` and those
-//! that take no heap returns a code: 0 (`DONE`) if the call is done, else the cause (`c_base`, file `codes`). While the
-//! heap is closed, each export but `nph_sliced_open` and `nph_sliced_close` returns `CLOSED` and changes nothing; while it
-//! is lent, each but `nph_sliced_return` and `nph_sliced_close` returns `LENT` and changes nothing (`IsCallOnOpen`).
+//! The sliced heap as a library for C. `include/norphuen.h` describes each export for C. An export calls the function
+//! of `held_sliced` that its comment names, and its contract is that function's. Each export that takes a heap, but
+//! `nph_sliced_close`, returns a code: 0 (`DONE`) if the call is done, else the cause (`c_base`, file `codes`). Of
+//! these each but `nph_sliced_open` returns `CLOSED` and changes nothing while the heap is closed, and each but
+//! `nph_sliced_return` returns `LENT` and changes nothing while it is lent (`IsCallOnOpen`).
 #![tactic(auto)]
 
 ghost use Rattle.std.specs.Prelude.{◌≡◌};

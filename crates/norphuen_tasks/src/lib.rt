@@ -1,8 +1,8 @@
-//! The heap of sixteen tasks as a library for C. `include/norphuen.h` describes each export for C. An export calls the function
-//! of `held_tasks` or `c_base` that its comment names, and its contract is that function's. Each export but `nph_tasks_close`
-//! returns a code: 0 (`DONE`) if the call is done, else the cause (`c_base`, file `codes`). While the heap is closed, each
-//! export but `nph_tasks_open` and `nph_tasks_close` returns `CLOSED` and changes nothing (`IsCallOnOpen`). A call of a task
-//! that there is not returns `UNKNOWN` and changes nothing (`IsOfTask`).
+//! The heap of sixteen tasks as a library for C. `include/norphuen.h` describes each export for C. An export calls
+//! the function of `held_tasks` or `c_base` that its comment names, and its contract is that function's. Each export
+//! that takes a heap, but `nph_tasks_close`, returns a code: 0 (`DONE`) if the call is done, else the cause
+//! (`c_base`, file `codes`). Of these each but `nph_tasks_open` returns `CLOSED` and changes nothing while the heap
+//! is closed (`IsCallOnOpen`). A call of a task that there is not returns `UNKNOWN` and changes nothing (`IsOfTask`).
 #![tactic(auto)]
 
 ghost use Rattle.std.specs.Prelude.{◌≡◌};
