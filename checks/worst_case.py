@@ -58,6 +58,7 @@ SHALLOW = {("norphuen_nonmoving", tool.X86, "nph_free"), ("norphuen_nonmoving", 
            ("norphuen_half", tool.ARM, "nph_open"), ("norphuen_sliced", tool.X86, "nph_free"),
            ("norphuen_sliced", tool.X86, "nph_open"), ("norphuen_sliced", tool.ARM, "nph_open"),
            ("norphuen_large", tool.X86, "nph_free"), ("norphuen_large", tool.X86, "nph_malloc"), ("norphuen_large", tool.ARM, "nph_malloc"),
+           ("norphuen_large", tool.ARM, "nph_open"),
            ("norphuen_images", tool.ARM, "nph_open"), ("norphuen_images", tool.ARM, "nph_load")}
 
 
