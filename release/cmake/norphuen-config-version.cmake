@@ -1,4 +1,4 @@
-# While the major number is 0, a minor version may change calls.
+# The version test of find_package. While the major number is 0, a minor version may change calls.
 set(PACKAGE_VERSION "@VERSION@")
 string(REGEX MATCH "^(0\\.[0-9]+|[1-9][0-9]*)\\." norphuen_line "${PACKAGE_VERSION}")
 string(FIND "${PACKAGE_FIND_VERSION}." "${norphuen_line}" norphuen_at)
