@@ -6,7 +6,7 @@ ghost use Rattle.block_model.specs.Buckets.{tlsf_bucket, tlsf_rounded, tlsf_sear
 /// How many free lists there are, for blocks of up to `2^23` words.
 pub const COUNT: u32 = 336;
 
-/// The number of the free list that holds the free blocks of `size` words.
+/// The number of the TLSF list that holds the free blocks of `size` words.
 pub fn bucket_of(size: u32) -> u32
     requires { size ≤ 2 ^ 24 }
     ensures { result ≡ tlsf_bucket size }
@@ -18,8 +18,8 @@ pub fn bucket_of(size: u32) -> u32
     16 + 16 * (power - 4) + ((size - (1 << power)) >> (power - 4))
 }
 
-/// The number of the list that a search for `need` words begins with: the first one in which every
-/// block has at least `need` words.
+/// The number of the TLSF list that a search for `need` words begins with: the first one in which every block has at
+/// least `need` words.
 pub fn search_for(need: u32) -> u32
     requires { need ≤ 2 ^ 23 }
     ensures { result ≡ tlsf_search need }

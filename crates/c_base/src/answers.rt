@@ -47,7 +47,7 @@ pub struct NphClass {
 }
 
 impl NphClass {
-    /// These figures.
+    /// A class's figures, for C.
     pub fn of(f: Figures) -> NphClass
         ensures { result ≡ class_shown f }
     {
@@ -77,7 +77,7 @@ pub struct NphHeapTotals {
 }
 
 impl NphHeapTotals {
-    /// These figures.
+    /// The heap's figures, for C.
     pub fn of(all: Totals) -> NphHeapTotals
         ensures { result ≡ totals_shown all }
     {

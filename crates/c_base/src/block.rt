@@ -32,8 +32,8 @@ impl<T> HeapBlock<T> {
         }
     }
 
-    /// Borrows the open heap. When the borrow ends, the heap as it then is belongs to the `HeapBlock` again
-    /// (`writes_back`, a clause on the time after the borrow).
+    /// Borrows the open heap in the block. When the borrow ends, the heap as it then is belongs to the `HeapBlock`
+    /// again (`writes_back`, a clause on the time after the borrow).
     pub fn lend(&mut self) -> &mut T
         requires { IsSome self.old.held }
         ensures* writes_back { sem 𝓛 (LendsPlace T.row self.entry result) }

@@ -16,7 +16,7 @@ pub trait Openable: Sized {
     /// What is true of a heap that was just opened, and what it needs; and the largest handle.
     ghost opening: { Opening Self };
 
-    /// The memory that `open` asks for.
+    /// The memory that `Openable::open` asks for.
     fn bytes_needed(s: &Settings) -> BytesNeeded
         ensures { opening.needs (profile_of s.now) result };
 
@@ -47,14 +47,15 @@ impl<T> ClosableHeap<T> {
     ghost use Rattle.c_base.specs.CallerHeap.{Opened, opened_now};
     ghost use Rattle.c_base.specs.ClosablePlace.{LendsHeap, held_in};
 
-    /// Returns whether the heap is open.
+    /// Returns whether this `ClosableHeap` is open.
     pub fn is_open(&self) -> bool
         ensures { result ≡ opened_now (held_in self.now) }
     {
         self.is_open
     }
 
-    /// Borrows the open heap. When the borrow ends, the heap as it then is belongs to this struct again.
+    /// Borrows the open heap of this `ClosableHeap`. When the borrow ends, the heap as it then is belongs to this
+    /// struct again.
     pub fn held(&mut self) -> &mut T
         requires { IsTrue (opened_now (held_in self.old)) }
         ensures* writes_back { sem 𝓛 (LendsHeap T.row self.entry result) }
@@ -85,8 +86,8 @@ impl<T: Openable + Drop> ClosableHeap<T> {
     ghost use Rattle.c_base.specs.ClosablePlace.{held_in};
     ghost use Rattle.c_base.specs.Needed.{AreNeeded};
 
-    /// Writes into `needed` what `open` with these settings asks for. Returns `DONE`, or the code of the first setting out of range,
-    /// and then `needed` is unchanged.
+    /// Writes into `needed` what `ClosableHeap::open` with these settings asks for. Returns `DONE`, or the code of the
+    /// first setting out of range, and then `needed` is unchanged.
     pub fn bytes_needed(
         pages: u32,
         page_bytes: u32,
@@ -110,8 +111,8 @@ impl<T: Openable + Drop> ClosableHeap<T> {
         }
     }
 
-    /// Opens a heap with these settings. Returns `DONE`; else, with nothing changed, `OPEN` if the heap is open already, the code
-    /// of the first setting out of range, or `MEMORY`.
+    /// Opens this `ClosableHeap` with these settings. Returns `DONE`; else, with nothing changed, `OPEN` if the heap is
+    /// open already, the code of the first setting out of range, or `MEMORY`.
     pub fn open(&mut self, memory: Memory, pages: u32, page_bytes: u32, k: u32, proxies: u32) -> i32
         requires { T.opening.takes k }
         ensures { IsOpenBy (setting_fault pages page_bytes k proxies) (T.opening.is_fresh (profile_from pages page_bytes k proxies)) (held_in self.old) result (held_in self.new) }

@@ -65,7 +65,7 @@ impl Handles {
         })
     }
 
-    /// The memory that `new` asks for.
+    /// The memory that the handles of C ask for.
     pub fn bytes_needed(proxies: u32) -> BytesNeeded
         requires some { 1 ≤ proxies }
         requires few { proxies ≤ 65536 }

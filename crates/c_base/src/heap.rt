@@ -58,7 +58,8 @@ impl<T: Lendable<S>, S> LendableHeap<T, S> {
         if self.is_lent { LENT } else { CLOSED }
     }
 
-    /// Borrows the open heap. When the borrow ends, the heap as it then is belongs to this struct again.
+    /// Borrows the open heap of this `LendableHeap`. When the borrow ends, the heap as it then is belongs to this
+    /// struct again.
     pub fn held(&mut self) -> &mut T
         requires { IsTrue (opened_now (held_in self.old)) }
         ensures* writes_back { sem 𝓛 (LendsHeap T.row S.row ⟦<T as Lendable<S>>⟧ self.entry result) }

@@ -146,7 +146,7 @@ impl Session {
         self.records.counters.words
     }
 
-    /// The handle of the object that an id names; none if the id isn't live.
+    /// The handle of the object that an id of the session names; none if the id isn't live.
     pub fn handle(&self, id: u16) -> Option<Handle>
         ensures found { number_of result ≡ map.get self.now.ids id }
         ensures within { AreWithin self.now.ids }

@@ -84,7 +84,7 @@ impl ClassLists {
         Ok(ClassLists { links, lens, pages })
     }
 
-    /// The memory that `new` asks for.
+    /// The memory that new page lists ask for.
     pub fn bytes_needed(classes: u32, pages: u32) -> BytesNeeded
         ensures { result ≡ list_bytes classes pages }
     {

@@ -1,5 +1,5 @@
-//! `Held`: an open heap with the step count of its last call and the handles that C has, for a C library. Each call returns a code, and
-//! writes its other results through references.
+//! `Held`: an open heap of any manager with the step count of its last call and the handles that C has, for a C
+//! library. Each call returns a code, and writes its other results through references.
 ghost use Rattle.std.specs.Prelude.{◌≡◌, IfSome, IsSome};
 ghost use Rattle.cf_base.specs.Settings.{profile_of};
 
@@ -75,8 +75,8 @@ impl<H: OfKind> Held<H> {
         Box::new(alloc, held).ok()
     }
 
-    /// Makes an object of `bytes` zeros and writes its handle into `handle`. Returns `DONE`, or the code of
-    /// the refusal: `SIZE`, `PROXY` or `SPACE`. After a refusal `handle` is unchanged.
+    /// Makes an object of `bytes` zeros by the held manager and writes its handle into `handle`. Returns `DONE`, or the
+    /// code of the refusal: `SIZE`, `PROXY` or `SPACE`. After a refusal `handle` is unchanged.
     pub fn malloc(&mut self, bytes: u32, handle: &mut u32) -> i32
         ensures { IsMallocCall H.most self.old bytes handle.old result handle.new self.new }
     {
@@ -96,8 +96,8 @@ impl<H: OfKind> Held<H> {
         }
     }
 
-    /// Frees an object. Writes into `freed` the words of its slot or block, and the handle of the object
-    /// that moved there, or `NONE`. Returns `DONE`, or `UNKNOWN` if the handle isn't live; then `freed` is
+    /// Frees an object of the held manager. Writes into `freed` the words of its slot or block, and the handle of the
+    /// object that moved there, or `NONE`. Returns `DONE`, or `UNKNOWN` if the handle isn't live; then `freed` is
     /// unchanged.
     pub fn free(&mut self, handle: u32, freed: &mut NphFreed) -> i32
         ensures { IsFreeCall H.most self.old handle freed.old result freed.new self.new }
@@ -150,8 +150,8 @@ impl<H: OfKind> Held<H> {
         }
     }
 
-    /// Writes the bytes into an object, from its byte `at` on. Returns `DONE`; `UNKNOWN` if the handle isn't
-    /// live, or `RANGE` if the bytes pass the object's end, and then no object changes.
+    /// Writes the bytes into an object of the held manager, from its byte `at` on. Returns `DONE`; `UNKNOWN` if the
+    /// handle isn't live, or `RANGE` if the bytes pass the object's end, and then no object changes.
     pub fn write(&mut self, handle: u32, at: u32, bytes: &[u8]) -> i32
         ensures { IsWriteCall H.most self.old handle at bytes.now result self.new }
     {
@@ -165,8 +165,8 @@ impl<H: OfKind> Held<H> {
         }
     }
 
-    /// Fills `out` with the bytes of an object from its byte `at` on. Returns `DONE`; `UNKNOWN` if the handle
-    /// isn't live, or `RANGE` if the bytes pass the object's end, and then `out` is unchanged.
+    /// Fills `out` with the bytes of an object of the held manager, from its byte `at` on. Returns `DONE`; `UNKNOWN` if
+    /// the handle isn't live, or `RANGE` if the bytes pass the object's end, and then `out` is unchanged.
     pub fn read(&mut self, handle: u32, at: u32, out: &mut [u8]) -> i32
         ensures { IsReadCall H.most self.old handle at out.old result out.new self.new }
     {
@@ -180,8 +180,8 @@ impl<H: OfKind> Held<H> {
         }
     }
 
-    /// Writes the object's length in bytes into `bytes`. Returns `DONE`, or `UNKNOWN` if the handle isn't
-    /// live; then `bytes` is unchanged.
+    /// Writes the length in bytes of a held manager's object into `bytes`. Returns `DONE`, or `UNKNOWN` if the handle
+    /// isn't live; then `bytes` is unchanged.
     pub fn length(&mut self, handle: u32, bytes: &mut u32) -> i32
         ensures { IsLengthCall H.of_kind self.old handle bytes.old result bytes.new self.new }
     {

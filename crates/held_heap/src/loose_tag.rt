@@ -85,7 +85,7 @@ fn all_of_open(heap: &mut LooseOpen, memory: Memory) -> &mut [u64]
     all_of_blocks(&mut heap.blocks, memory)
 }
 
-/// Borrows all words of the region of a heap that is open.
+/// Borrows all words of the region of a heap with blocks that is open.
 fn all_in(inner: &mut Option<LooseOpen>, memory: Memory) -> &mut [u64]
     requires open { IsSome inner.old }
     ensures* writes_back { sem 𝓛 (LendsAllIn inner.entry result) }
@@ -97,8 +97,8 @@ fn all_in(inner: &mut Option<LooseOpen>, memory: Memory) -> &mut [u64]
     }
 }
 
-/// Borrows all words of the region of a heap that is open. When the borrow ends, the region has the words as they then
-/// are.
+/// Borrows all words of the region of a held heap with blocks that is open. When the borrow ends, the region has the
+/// words as they then are.
 fn all_words(held: &mut LooseTag) -> &mut [u64]
     requires open { IsSome held.old.heap.inner }
     ensures* writes_back { sem 𝓛 (LendsAllWords held.entry result) }

@@ -1,5 +1,5 @@
-//! The most steps of each call, for a caller in C that plans before the call: the bounds of the contracts of `Held` as
-//! numbers. A call that is refused takes at most as many.
+//! The most steps of each call by the manager's kind, for a caller in C that plans before the call: the bounds of the
+//! contracts of `Held` as numbers. A call that is refused takes at most as many.
 ghost use Rattle.std.specs.Prelude.{◌≡◌, ◌+◌, ◌^◌, ◌<◌, ◌≤◌};
 ghost use Rattle.cf_model.specs.Costs.{words_touched};
 ghost use Rattle.page_model.specs.WordSteps.{blocks_of};
@@ -39,7 +39,7 @@ fn words_touched(at: u32, count: u32) -> u64
     }
 }
 
-/// A malloc.
+/// A malloc by this kind's manager.
 pub fn most_malloc(kind: Kind) -> u64
     ensures { IsMostMalloc (bounds_of kind) result }
 {
@@ -109,7 +109,7 @@ pub fn most_totals(kind: Kind, free: u32) -> u64
     }
 }
 
-/// The length of an object.
+/// The length of an object of this kind's manager.
 pub fn most_length(kind: Kind) -> u64
     ensures { IsMostLength kind result }
 {

@@ -81,7 +81,7 @@ impl NphHeap {
     ghost use Rattle.held_heap.specs.Needed.{IsNeededCall};
     ghost use Rattle.held_heap.specs.MovingPlace.{LendsInner, held_in, inner_of};
 
-    /// Borrows the `LendableHeap` that this is in memory.
+    /// Borrows the `LendableHeap` that this moving heap is in memory.
     pub fn inner(&mut self) -> &mut LendableHeap<Open, LooseHeld>
         ensures* writes_back { sem 𝓛 (LendsInner self.entry result) }
         ensures value { result.now ≡ inner_of self.old }
@@ -89,8 +89,8 @@ impl NphHeap {
         unsafe { &mut *(self as *mut NphHeap as *mut LendableHeap<Open, LooseHeld>) }
     }
 
-    /// Writes into `needed` what `open` with these settings asks for. Returns `DONE`, or the code of the first setting
-    /// out of range, and then `needed` is unchanged.
+    /// Writes into `needed` what `open` of a moving heap with these settings asks for. Returns `DONE`, or the code of
+    /// the first setting out of range, and then `needed` is unchanged.
     pub fn bytes_needed(
         pages: u32,
         page_bytes: u32,
@@ -109,7 +109,7 @@ impl NphHeap {
         }
     }
 
-    /// Opens a heap without objects, with these settings. Returns `DONE`; else, with nothing changed, `LENT` or
+    /// Opens a moving heap without objects, with these settings. Returns `DONE`; else, with nothing changed, `LENT` or
     /// `OPEN` if the heap is lent or open already, the code of the first setting out of range, or `MEMORY`. No other
     /// call of the heap allocates.
     pub fn open(&mut self, memory: Memory, pages: u32, page_bytes: u32, k: u32, proxies: u32) -> i32

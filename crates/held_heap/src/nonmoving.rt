@@ -71,14 +71,14 @@ impl NphHeap {
     ghost use Rattle.c_base.specs.CallerHeap.{Opened, opened_now};
     ghost use Rattle.held_heap.specs.NonMovingPlace.{LendsHeap, held_in};
 
-    /// Returns whether the heap is open.
+    /// Returns whether the non-moving heap is open.
     pub fn is_open(&self) -> bool
         ensures { result ≡ opened_now (held_in self.now) }
     {
         self.is_open
     }
 
-    /// Borrows the open heap. When the borrow ends, the heap as it then is belongs to this struct again.
+    /// Borrows the open non-moving heap. When the borrow ends, the heap as it then is belongs to this struct again.
     pub fn held(&mut self) -> &mut Open
         requires { IsTrue (opened_now (held_in self.old)) }
         ensures* writes_back { sem 𝓛 (LendsHeap self.entry result) }
@@ -87,8 +87,8 @@ impl NphHeap {
         self.place.inner().lend()
     }
 
-    /// Writes into `needed` what `open` with these settings asks for. Returns `DONE`, or the code of the first setting
-    /// out of range, and then `needed` is unchanged.
+    /// Writes into `needed` what `open` of a non-moving heap with these settings asks for. Returns `DONE`, or the code
+    /// of the first setting out of range, and then `needed` is unchanged.
     pub fn bytes_needed(
         pages: u32,
         page_bytes: u32,
@@ -107,9 +107,9 @@ impl NphHeap {
         }
     }
 
-    /// Opens a heap without objects, with these settings. Returns `DONE`; else, with nothing changed, `OPEN`
-    /// if the heap is open already, the code of the first setting out of range, or `MEMORY`. No other
-    /// call of the heap allocates.
+    /// Opens a non-moving heap without objects, with these settings. Returns `DONE`; else, with nothing changed, `OPEN`
+    /// if the heap is open already, the code of the first setting out of range, or `MEMORY`. No other call of the heap
+    /// allocates.
     pub fn open(&mut self, memory: Memory, pages: u32, page_bytes: u32, k: u32, proxies: u32) -> i32
         ensures { IsOpenCall NonMoving (held_in self.old) pages page_bytes k proxies result (held_in self.new) }
     {

@@ -1,5 +1,5 @@
-//! Calls of an open heap for a caller that plans a call: the words of an object's slot or block, and with pages the class
-//! of a length.
+//! Calls of an open heap for a caller in C that plans a call: the words of an object's slot or block, and with pages
+//! the class of a length.
 ghost use Rattle.held_heap.specs.Slots.{IsClassCall, IsSlotWordsCall};
 
 use crate::held::Held;

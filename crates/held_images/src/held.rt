@@ -166,7 +166,7 @@ impl HeldImages {
         }
     }
 
-    /// Frees the object of the id. Returns `DONE`, or `UNKNOWN` if no object has the id.
+    /// Frees the object that C names by the id. Returns `DONE`, or `UNKNOWN` if no object has the id.
     pub fn free(&mut self, id: u32) -> i32
         ensures { IsFreeCall self.old id result self.new }
     {

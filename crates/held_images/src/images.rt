@@ -44,7 +44,7 @@ impl NphHeap {
     ghost use Rattle.held_images.specs.CallerImages.{IsLoadCall};
     ghost use Rattle.held_images.specs.Place.{LendsInner, held_in, inner_of};
 
-    /// Borrows the `ClosableHeap` that this is in memory.
+    /// Borrows the `ClosableHeap` that this heap with ids is in memory.
     pub fn inner(&mut self) -> &mut ClosableHeap<HeldImages>
         ensures* writes_back { sem 𝓛 (LendsInner self.entry result) }
         ensures value { result.now ≡ inner_of self.old }

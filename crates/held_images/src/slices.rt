@@ -17,7 +17,8 @@ pub(crate) struct SliceSource<'a> {
 impl Source for SliceSource<'_> {
     ghost state = { source_seen };
 
-    /// Copies the bytes left to the start of `buf`, or the first of them if not all fit, and returns how many it copied.
+    /// Copies the bytes left in C's slice to the start of `buf`, or the first of them if not all fit, and returns how
+    /// many it copied.
     fn take(&mut self, buf: &mut [u8]) -> Result<usize, Failed> {
         let all = self.bytes;
         let n = buf.len().min(all.len());

@@ -54,7 +54,7 @@ impl Openable for Held {
         heap.and(handles.and(BytesNeeded::block(HELD_BYTES)))
     }
 
-    /// Opens a heap without objects.
+    /// Opens an empty heap of long objects for C.
     fn open(memory: Memory, s: &Settings, last: u32) -> Option<Box<Held, Global>> {
         let alloc = Global::new(memory);
         let handles = Handles::new(alloc, s.proxies, last)?;
@@ -77,8 +77,8 @@ impl Openable for Held {
 impl Held {
     ghost use Rattle.held_large.specs.Calls.{IsFiguresCall, IsFreeCall, IsLengthCall, IsMallocCall, IsReadCall, IsStepsCall, IsTotalsCall, IsWriteCall};
 
-    /// Makes an object of `bytes` zeros and writes its handle into `handle`. Returns `DONE`, or the code of the refusal: `SIZE`,
-    /// `PROXY` or `SPACE`. After a refusal `handle` is unchanged.
+    /// Makes an object of `bytes` zeros, long or short, and writes its handle into `handle`. Returns `DONE`, or the
+    /// code of the refusal: `SIZE`, `PROXY` or `SPACE`. After a refusal `handle` is unchanged.
     pub fn malloc(&mut self, bytes: u32, handle: &mut u32) -> i32
         ensures { IsMallocCall self.old bytes handle.old result handle.new self.new }
     {
@@ -94,7 +94,8 @@ impl Held {
         }
     }
 
-    /// Frees an object. Returns `DONE`, or `UNKNOWN` if the handle isn't live, and then no object changes.
+    /// Frees C's object, long or short. Returns `DONE`, or `UNKNOWN` if the handle isn't live, and then no object
+    /// changes.
     pub fn free(&mut self, handle: u32) -> i32
         ensures { IsFreeCall self.old handle result self.new }
     {
@@ -111,8 +112,8 @@ impl Held {
         }
     }
 
-    /// Writes the bytes into an object, from its byte `at` on. Returns `DONE`; `UNKNOWN` if the handle isn't live, or `RANGE` if the
-    /// bytes pass the object's end, and then no object changes.
+    /// Writes the bytes into C's object, long or short, from its byte `at` on. Returns `DONE`; `UNKNOWN` if the handle
+    /// isn't live, or `RANGE` if the bytes pass the object's end, and then no object changes.
     pub fn write(&mut self, handle: u32, at: u32, bytes: &[u8]) -> i32
         ensures { IsWriteCall self.old handle at bytes.now result self.new }
     {
@@ -126,8 +127,8 @@ impl Held {
         }
     }
 
-    /// Fills `out` with the bytes of an object from its byte `at` on. Returns `DONE`; `UNKNOWN` if the handle isn't live, or `RANGE`
-    /// if the bytes pass the object's end, and then `out` is unchanged.
+    /// Fills `out` with the bytes of C's object, long or short, from its byte `at` on. Returns `DONE`; `UNKNOWN` if the
+    /// handle isn't live, or `RANGE` if the bytes pass the object's end, and then `out` is unchanged.
     pub fn read(&mut self, handle: u32, at: u32, out: &mut [u8]) -> i32
         ensures { IsReadCall self.old handle at out.old result out.new self.new }
     {
@@ -141,8 +142,8 @@ impl Held {
         }
     }
 
-    /// Writes the object's length in bytes into `bytes`. Returns `DONE`, or `UNKNOWN` if the handle isn't live; then `bytes` is
-    /// unchanged.
+    /// Writes the object's length in bytes, also if long, into `bytes`. Returns `DONE`, or `UNKNOWN` if the handle
+    /// isn't live; then `bytes` is unchanged.
     pub fn length(&mut self, handle: u32, bytes: &mut u32) -> i32
         ensures { IsLengthCall self.old handle bytes.old result bytes.new self.new }
     {
@@ -184,7 +185,7 @@ impl Held {
         DONE
     }
 
-    /// Writes the steps of the last call into `steps`; 0 if there was none. Always returns `DONE`.
+    /// Writes the steps of the last call on long objects into `steps`; 0 if there was none. Always returns `DONE`.
     pub fn last_steps(&mut self, steps: &mut u64) -> i32
         ensures { IsStepsCall self.old result steps.new self.new }
     {

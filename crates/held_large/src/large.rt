@@ -40,7 +40,7 @@ pub struct NphHeap {
 impl NphHeap {
     ghost use Rattle.held_large.specs.Place.{LendsInner, inner_of};
 
-    /// Borrows the `ClosableHeap` that this is in memory.
+    /// Borrows the `ClosableHeap` that this heap of long objects is in memory.
     pub fn inner(&mut self) -> &mut ClosableHeap<Held>
         ensures* writes_back { sem 𝓛 (LendsInner self.entry result) }
         ensures value { result.now ≡ inner_of self.old }

@@ -1,5 +1,5 @@
-//! What the contracts of `Held` imply: a malloc's handle is new, a stale one is refused, and a read gives what was written. The
-//! functions do nothing; each contract is a law.
+//! What the contracts of `Held` on long objects imply: a malloc's handle is new, a stale one is refused, and a read
+//! gives what was written. The functions do nothing; each contract is a law.
 ghost use Rattle.std.specs.Prelude.{◌≡◌, ℕ, ℤ, List, length, pos};
 ghost use Rattle.cf_base.specs.Settings.{Profile};
 ghost use Rattle.c_base.specs.Handles.{none, number_in};
@@ -7,7 +7,7 @@ ghost use Rattle.held_large.specs.Calls.{IsFreeCall, IsFreshHeap, IsLengthCall, 
 ghost use Rattle.held_large.specs.HandleRules.{IsNewHandle, KeepsHandles};
 ghost use Rattle.held_large.specs.HeldState.{HeldState};
 
-/// An opened heap keeps the rules of the handles, and each call keeps them.
+/// An opened heap of long objects keeps the rules of the handles, and each call keeps them.
 pub fn every_call_keeps_the_handles()
     ensures opened { (p : Profile) (last : ℕ) (new : HeldState) → IsFreshHeap p last new → KeepsHandles new }
     ensures malloc { (old new : HeldState) (bytes before after : ℕ) (code : ℤ) → IsMallocCall old bytes before code after new
@@ -24,7 +24,8 @@ pub fn a_malloc_gives_a_new_handle()
         → IsNewHandle old bytes after new }
 {}
 
-/// A call on a handle that names no object returns 4 (`UNKNOWN`) and changes neither the heap nor what the caller has.
+/// On long objects, a call on a handle that names no object returns 4 (`UNKNOWN`) and changes neither the heap nor what
+/// the caller has.
 pub fn a_stale_handle_is_refused()
     ensures free { (old new : HeldState) (handle : ℕ) (code : ℤ) → IsFreeCall old handle code new → KeepsHandles old
         → number_in old.handles handle ≡ none → (code ≡ pos 4) × (new.heap ≡ old.heap) × (new.handles ≡ old.handles) }

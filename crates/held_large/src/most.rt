@@ -1,5 +1,5 @@
-//! The most steps of each call, for a caller in C that plans before the call: bounds in every heap whose pages have `page_bytes`
-//! bytes. For a size that no page has they mean nothing.
+//! The most steps of each call on long objects, for a caller in C that plans before the call: bounds in every heap
+//! whose pages have `page_bytes` bytes. For a size that no page has they mean nothing.
 ghost use Rattle.std.specs.Prelude.{◌≡◌, ◌+◌, ◌/◌, ◌^◌, ◌<◌, ◌≤◌};
 ghost use Rattle.large_objects.specs.InnerObjects.{part_count};
 ghost use Rattle.held_large.specs.Most.{IsMostAccess, IsMostFree, IsMostMalloc, part_of, slot_cap};
@@ -59,7 +59,7 @@ pub fn most_free(page_bytes: u32, bytes: u32) -> u64
     24 + (19 + u64::from(words)) * count + slot_words(words, 4 * count)
 }
 
-/// A read or a write of `count` bytes from byte `at` of an object on.
+/// A read or a write of `count` bytes from byte `at` of a long or short object on.
 pub fn most_access(page_bytes: u32, at: u32, count: u32) -> u64
     ensures { IsMostAccess page_bytes at count result }
 {

@@ -1,5 +1,5 @@
-//! What the contracts of `Held` imply together, of the handles that C has and of the bytes that it reads. The functions do
-//! nothing; each contract is a law.
+//! What the contracts of a sliced heap's `Held` imply together, of the handles that C has and of the bytes that it
+//! reads. The functions do nothing; each contract is a law.
 ghost use Rattle.std.specs.Prelude.{◌≡◌, ◌+◌, ◌<◌, ◌≤◌, ℕ, ℤ, List, Some, length, pos, slice_index};
 ghost use Rattle.std.specs.FinMap.{get};
 ghost use Rattle.cf_base.specs.Settings.{Profile};
@@ -10,7 +10,7 @@ ghost use Rattle.held_sliced.specs.Calls.{IsFreeCall, IsFreshHeap, IsLengthCall,
 ghost use Rattle.held_sliced.specs.HandleRules.{IsNewHandle, KeepsHandles};
 ghost use Rattle.held_sliced.specs.HeldState.{HeldState};
 
-/// An opened heap keeps the rules of the handles, and each call keeps them.
+/// An opened sliced heap keeps the rules of the handles, and each call keeps them.
 pub fn every_call_keeps_the_handles()
     ensures opened { (p : Profile) (quantum last : ℕ) (new : HeldState) → IsFreshHeap p quantum last new → KeepsHandles new }
     ensures malloc { (old new : HeldState) (bytes before after : ℕ) (code : ℤ) → IsMallocCall old bytes before code after new

@@ -30,7 +30,7 @@ pub struct LooseHeld {
     pub(crate) handles: Handles,
 }
 
-/// Borrows all words of the region.
+/// Borrows all words of the sliced heap's region.
 fn all_of(heap: &mut OpenHeap, memory: Memory) -> &mut [u64]
     ensures* writes_back { sem 𝓛 (LendsAllOf heap.entry result) }
     ensures value { result.now ≡ heap.old.region }
@@ -40,7 +40,7 @@ fn all_of(heap: &mut OpenHeap, memory: Memory) -> &mut [u64]
     heap.region.payload_mut(0, n, meter.steps())
 }
 
-/// Borrows all words of the region of a heap that is open.
+/// Borrows all words of the region of a sliced heap that is open.
 fn all_in(inner: &mut Option<OpenHeap>, memory: Memory) -> &mut [u64]
     requires open { IsSome inner.old }
     ensures* writes_back { sem 𝓛 (LendsAllIn inner.entry result) }
@@ -52,8 +52,8 @@ fn all_in(inner: &mut Option<OpenHeap>, memory: Memory) -> &mut [u64]
     }
 }
 
-/// Borrows all words of the region of a heap that is open. When the borrow ends, the region has the words as they then
-/// are.
+/// Borrows all words of the region of a held sliced heap that is open. When the borrow ends, the region has the words
+/// as they then are.
 fn all_words(held: &mut LooseHeld) -> &mut [u64]
     requires open { IsSome held.old.heap.inner }
     ensures* writes_back { sem 𝓛 (LendsAllWords held.entry result) }

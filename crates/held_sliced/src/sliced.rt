@@ -77,7 +77,7 @@ impl NphHeap {
     ghost use Rattle.held_sliced.specs.Needed.{IsNeededCall};
     ghost use Rattle.held_sliced.specs.Place.{LendsInner, held_in, inner_of};
 
-    /// Borrows the `LendableHeap` that this is in memory.
+    /// Borrows the `LendableHeap` that this sliced heap is in memory.
     pub fn inner(&mut self) -> &mut LendableHeap<Held, LooseHeld>
         ensures* writes_back { sem 𝓛 (LendsInner self.entry result) }
         ensures value { result.now ≡ inner_of self.old }

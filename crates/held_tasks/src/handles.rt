@@ -52,7 +52,7 @@ impl TaskHandles {
         Some(TaskHandles { of })
     }
 
-    /// The memory that `new` asks for.
+    /// The memory that the handles of all tasks ask for.
     pub(crate) fn bytes_needed(proxies: u32) -> BytesNeeded
         requires some { 1 ≤ proxies }
         requires few { proxies ≤ 65536 }

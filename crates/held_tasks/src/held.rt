@@ -84,8 +84,9 @@ impl Openable for HeldTasks {
 }
 
 impl HeldTasks {
-    /// Sets the quota of a task to `pages` pages. Returns `DONE`; `PAGES` if the quotas of all tasks would sum to more pages than
-    /// the region has, or `SPACE` if the task uses more than `pages` pages, and then nothing changes.
+    /// For C, sets the quota of a task to `pages` pages. Returns `DONE`; `PAGES` if the quotas of all tasks would sum
+    /// to more pages than the region has, or `SPACE` if the task uses more than `pages` pages, and then nothing
+    /// changes.
     pub fn set_quota(&mut self, task: u32, pages: u32) -> i32
         ensures { IsOfTask task self.old result self.new (Unit {0}) (IsQuotaCall self.old task pages result self.new) }
     {
@@ -118,8 +119,9 @@ impl HeldTasks {
         }
     }
 
-    /// Frees an object of a task. Writes into `freed` the words of its slot, and the handle of the object of this task that moved
-    /// there, or `NONE`. Returns `DONE`, or `UNKNOWN` if the handle isn't live in this task; then `freed` is unchanged.
+    /// For C, frees an object of a task. Writes into `freed` the words of its slot, and the handle of the object of
+    /// this task that moved there, or `NONE`. Returns `DONE`, or `UNKNOWN` if the handle isn't live in this task; then
+    /// `freed` is unchanged.
     pub fn free(&mut self, task: u32, handle: u32, freed: &mut NphFreed) -> i32
         ensures { IsOfTask task self.old result self.new (freed.new ≡ freed.old) (IsFreeCall self.old task handle freed.old result freed.new self.new) }
     {
@@ -279,7 +281,7 @@ impl HeldTasks {
         }
     }
 
-    /// Writes the steps of the last call into `steps`; 0 if there was none. Always returns `DONE`.
+    /// Writes the steps of the last call on the tasks into `steps`; 0 if there was none. Always returns `DONE`.
     pub fn last_steps(&mut self, steps: &mut u64) -> i32
         ensures { IsStepsCall self.old result steps.new self.new }
     {

@@ -40,7 +40,7 @@ pub struct NphHeap {
 impl NphHeap {
     ghost use Rattle.held_tasks.specs.Place.{LendsInner, inner_of};
 
-    /// Borrows the `ClosableHeap` that this is in memory.
+    /// Borrows the `ClosableHeap` that this heap of tasks is in memory.
     pub fn inner(&mut self) -> &mut ClosableHeap<HeldTasks>
         ensures* writes_back { sem 𝓛 (LendsInner self.entry result) }
         ensures value { result.now ≡ inner_of self.old }

@@ -88,7 +88,7 @@ impl<H: Manager> LargeHeap<H> {
         &self.inner
     }
 
-    /// Returns true if the heap is open. An open heap keeps its rules (`KeepsParts`).
+    /// Returns true if the heap of long objects is open. An open heap keeps its rules (`KeepsParts`).
     pub fn is_open(&self) -> bool
         ensures value { result ≡ self.now.is_open }
         ensures parts { IsTrue result → KeepsParts self.now }
@@ -125,11 +125,11 @@ impl<H: Manager> LargeHeap<H> {
         Ok(())
     }
 
-    /// Adds an object of `bytes` bytes, all zero, under a handle that wasn't live. It fails with `Size` if the
-    /// spine would need more than a page. Else it fails with `Proxy` if there would be more inner objects than
-    /// proxies, and else with `Space` if they would need more pages than there are. A refusal changes nothing,
-    /// not even the inner manager. At most the steps of a malloc for each inner object and of a write of four
-    /// bytes for each part; none if refused.
+    /// Adds an object, long or short, of `bytes` bytes, all zero, under a handle that wasn't live. It fails with `Size`
+    /// if the spine would need more than a page. Else it fails with `Proxy` if there would be more inner objects than
+    /// proxies, and else with `Space` if they would need more pages than there are. A refusal changes nothing, not even
+    /// the inner manager. At most the steps of a malloc for each inner object and of a write of four bytes for each
+    /// part; none if refused.
     pub fn malloc(&mut self, bytes: u32, meter: &mut Meter) -> Result<Handle, Refusal>
         requires { IsTrue self.old.is_open }
         ensures step { IsLargeMalloc self.old bytes result self.new }
@@ -199,9 +199,9 @@ impl<H: Manager> LargeHeap<H> {
         }
     }
 
-    /// Fills `out` with bytes of an object, from byte `at` on. It fails with `Unknown` if the handle isn't
-    /// that of an object, with `Range` if the bytes pass the object's end, and then leaves `out`
-    /// unchanged. Exactly as many steps as a write of these bytes.
+    /// Fills `out` with bytes of an object, long or short, from byte `at` on. It fails with `Unknown` if the handle
+    /// isn't that of an object, with `Range` if the bytes pass the object's end, and then leaves `out` unchanged.
+    /// Exactly as many steps as a write of these bytes.
     pub fn read(
         &self,
         h: Handle,

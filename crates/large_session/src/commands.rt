@@ -18,8 +18,8 @@ use id_table::IdTable;
 use large_objects::LargeHeap;
 use step_ledger::Meter;
 
-/// `m`: makes an object of `bytes` zero bytes for an id that isn't live. The reply is `ok`; or `live` if
-/// the id is live, or the name of the heap's refusal, and then nothing changes.
+/// `m`: makes an object, long or short, of `bytes` zero bytes for an id that isn't live. The reply is `ok`; or `live`
+/// if the id is live, or the name of the heap's refusal, and then nothing changes.
 pub(crate) fn malloc<H: Manager>(
     ids: &mut IdTable,
     heap: &mut LargeHeap<H>,

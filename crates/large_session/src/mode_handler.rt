@@ -47,7 +47,7 @@ impl<H: Manager> ModeHandler<LargeHeap<H>> for LargeHandler {
 
     ghost semantics = { large_heap };
 
-    /// Opens the heap with the settings of the `heap` line, but the bound 1, and writes the reply `ok`.
+    /// Opens the heap of long objects with the settings of the `heap` line, but the bound 1, and writes the reply `ok`.
     fn open<K: Sink>(
         &mut self,
         heap: &mut LargeHeap<H>,
@@ -66,7 +66,7 @@ impl<H: Manager> ModeHandler<LargeHeap<H>> for LargeHandler {
         Ok(())
     }
 
-    /// Does the command on the heap and writes its reply.
+    /// Does the command on the heap of long objects and writes its reply.
     fn answer<K: Sink>(
         &mut self,
         heap: &mut LargeHeap<H>,

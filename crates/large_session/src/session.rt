@@ -45,7 +45,7 @@ impl Model for LargeSession {
 }
 
 impl LargeSession {
-    /// A new session, in which no id is live. Allocates the table of all 65,536 ids, and fails with
+    /// A new session over long objects, in which no id is live. Allocates the table of all 65,536 ids, and fails with
     /// `OutOfMemory` if there is no memory for it.
     pub fn start(alloc: Global) -> Result<LargeSession, OutOfMemory>
         ensures { IfOk result (λ s. s ≡ map.empty) }

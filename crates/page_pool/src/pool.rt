@@ -48,7 +48,7 @@ impl PagePool {
         }
     }
 
-    /// The memory that `new` asks for.
+    /// The memory that a new pool of pages asks for.
     pub fn bytes_needed(n: u32) -> BytesNeeded
         ensures { result ≡ pool_bytes n }
     {

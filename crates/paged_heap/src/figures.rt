@@ -1,4 +1,4 @@
-//! The figures of an open heap: counts of live objects, bytes, pages and slots.
+//! The figures of an open heap with pages: counts of live objects, bytes, pages and slots.
 ghost use Rattle.std.specs.Prelude.{◌≡◌, ◌*◌, ◌<◌, ◌≤◌, if◌then◌else◌, nat_eq, nat_lt, Some, None};
 ghost use Rattle.page_model.specs.Arrangement.{pages_of_class, not_full_pages, free_pages};
 ghost use Rattle.page_model.specs.Figures.{figures_of, totals_of};
@@ -48,7 +48,7 @@ impl OpenHeap {
         self.tables.pool.left()
     }
 
-    /// The figures of class c; none if there is no such class.
+    /// With pages, the figures of class c; none if there is no such class.
     pub fn figures<A: Mapping>(&self, c: u32) -> Option<Figures>
         requires { Holds A.kind self.now }
         ensures { result ≡ if nat_lt c (classes (paging_at (seen A.kind self.now)))
@@ -76,7 +76,7 @@ impl OpenHeap {
         }
     }
 
-    /// The figures of the whole heap.
+    /// The figures of the whole heap with pages.
     pub fn totals<A: Mapping>(&self) -> Totals
         requires { Holds A.kind self.now }
         ensures { result ≡ totals_of (paging_at (seen A.kind self.now)) (held_in (seen A.kind self.now)) }

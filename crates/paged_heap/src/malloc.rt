@@ -1,5 +1,4 @@
-//! `malloc` of an open heap, and `has_room`, which returns beforehand whether a malloc would be
-//! refused.
+//! `malloc` of an open heap with pages, and `has_room`, which returns beforehand whether a malloc would be refused.
 ghost use Rattle.std.specs.Prelude.{◌≡◌, ◌≢◌, ◌+◌, ◌*◌, ◌^◌, ◌<◌, ◌≤◌, ◌∷◌, IfErr, IfOk, IsFalse, IsTrue, None, Some, length, slice_index, slice_set};
 ghost use Rattle.std.specs.FinMap as map;
 ghost use Rattle.step_ledger.specs.Counting.{RoseAtMost, RoseBy};
@@ -66,8 +65,8 @@ impl OpenHeap {
         Ok(handle)
     }
 
-    /// Returns what a malloc of `bytes` bytes would return now, without the handle: `Ok`, or its
-    /// refusal. Changes nothing, and costs one step.
+    /// Returns what a malloc of `bytes` bytes on pages would return now, without the handle: `Ok`, or its refusal.
+    /// Changes nothing, and costs one step.
     pub fn has_room<A: Mapping>(&self, bytes: u32, steps: &mut Steps) -> Result<(), Refusal>
         requires { Holds A.kind self.now }
         ensures ok { IfOk result (λ u. (e : Refusal) → ¬ IsRefusedBy (state_at A.kind self.now) bytes e) }

@@ -236,7 +236,8 @@ impl<A: PageKind> Manager for PagedHeap<A> {
 }
 
 impl<A: PageKind> PagedHeap<A> {
-    /// The memory that `open_heap` asks for. The bytes of the manager itself, which its owner keeps, aren't counted.
+    /// The memory that opening a manager with pages asks for. The bytes of the manager itself, which its owner keeps,
+    /// aren't counted.
     pub fn bytes_needed(s: &Settings) -> BytesNeeded
         ensures needed { result ≡ paged_bytes A.kind (profile_of s.now) }
         ensures few { result.total < 2 ^ 45 }
@@ -244,7 +245,7 @@ impl<A: PageKind> PagedHeap<A> {
         A::bytes_needed(s)
     }
 
-    /// Returns a closed manager, which has allocated nothing.
+    /// Returns a closed manager with pages, which has allocated nothing.
     pub fn closed(alloc: Global) -> PagedHeap<A>
         ensures state { result.state ≡ closed_state A.kind }
         ensures physical { result.physical ≡ [] }
@@ -316,7 +317,7 @@ impl<A: PageKind> PagedHeap<A> {
         self.open().free_pages::<A>()
     }
 
-    /// Borrows the open heap, for its figures and for calls that change nothing.
+    /// Borrows the open heap with pages, for its figures and for calls that change nothing.
     pub(crate) fn open(&self) -> &OpenHeap
         requires { IsTrue self.now.state.is_open }
         ensures kept { Holds A.kind result.now }

@@ -61,7 +61,7 @@ impl OpenHeap {
         Ok(OpenHeap::empty::<A>(s, region, blocks, tables, lists, proxies))
     }
 
-    /// The memory that `new` asks for.
+    /// The memory that `OpenHeap::new` with pages asks for.
     pub(crate) fn bytes_needed(s: &Settings, layout: Layout) -> BytesNeeded
         ensures needed { result ≡ open_bytes (profile_of s.now) layout }
         ensures few { result.total < 2 ^ 44 }

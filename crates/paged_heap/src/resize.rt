@@ -1,4 +1,4 @@
-//! `resize` of an open heap, and the resize of an object that stays in its slot.
+//! `resize` of an open heap with pages, and the resize of an object that stays in its slot.
 ghost use Rattle.std.specs.Prelude.{◌≡◌, ◌+◌, ◌-◌, ◌/◌, ◌^◌, ◌<◌, ◌≤◌, IfOk, length, slice_index};
 ghost use Rattle.step_ledger.specs.Counting.{RoseAtMost, RoseBy};
 ghost use Rattle.page_model.specs.Order.{word_steps};

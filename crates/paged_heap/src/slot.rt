@@ -1,4 +1,4 @@
-//! The words of an object's slot and the class of a length, for callers that plan a call.
+//! With pages, the words of an object's slot and the class of a length, for callers that plan a call.
 ghost use Rattle.std.specs.Prelude.{◌≡◌, option_map};
 ghost use Rattle.std.specs.FinMap as map;
 ghost use Rattle.step_ledger.specs.Counting.{RoseBy};
@@ -30,7 +30,7 @@ impl OpenHeap {
         Some(self.tables.classes.slot_words(c))
     }
 
-    /// The class of an object of `bytes` bytes; none if it needs more than a page. Costs one step.
+    /// With pages, the class of an object of `bytes` bytes; none if it needs more than a page. Costs one step.
     pub fn class_of<A: Mapping>(&self, bytes: u32, steps: &mut Steps) -> Option<u32>
         requires { Holds A.kind self.now }
         ensures value { result ≡ class_of (paging_in (state_at A.kind self.now)).sizes bytes }

@@ -45,7 +45,7 @@ impl Model for QuotaHeap {
 }
 
 impl QuotaHeap {
-    /// Returns a closed heap, which has allocated nothing.
+    /// Returns a closed heap of tasks, which has allocated nothing.
     pub fn closed(alloc: Global) -> QuotaHeap
         ensures { result ≡ closed_state }
     {
@@ -65,7 +65,8 @@ impl QuotaHeap {
         Ok(())
     }
 
-    /// The memory that `open_heap` asks for. The bytes of the `QuotaHeap` itself, which its owner keeps, aren't counted.
+    /// The memory that opening a heap of tasks asks for. The bytes of the `QuotaHeap` itself, which its owner keeps,
+    /// aren't counted.
     pub fn bytes_needed(s: &Settings) -> BytesNeeded
         ensures needed { result ≡ quota_bytes (profile_of s.now) }
         ensures few { result.total < 2 ^ 44 }
@@ -73,8 +74,8 @@ impl QuotaHeap {
         OpenTasks::bytes_needed(s)
     }
 
-    /// Returns whether the heap is open. In an open heap no page has objects of two tasks, and no task
-    /// uses more pages than its quota (`KeepsTasks`).
+    /// Returns whether the heap of tasks is open. In an open heap no page has objects of two tasks, and no task uses
+    /// more pages than its quota (`KeepsTasks`).
     pub fn is_open(&self) -> bool
         ensures value { result ≡ self.now.is_open }
         ensures rules { IsTrue result → KeepsTasks self.now }
@@ -268,7 +269,7 @@ impl QuotaHeap {
         }
     }
 
-    /// Returns the word of the region with the number `word`, or `None` past the region's end.
+    /// Returns the word of the tasks' region with the number `word`, or `None` past the region's end.
     pub fn peek(&self, word: u32, steps: &mut Steps) -> Option<u64>
         requires opened { IsTrue self.now.is_open }
         requires room { steps.old ≤ 2 ^ 63 }

@@ -56,7 +56,7 @@ impl OpenTasks {
         })
     }
 
-    /// The memory that `new` asks for.
+    /// The memory that `OpenTasks::new` asks for.
     pub(crate) fn bytes_needed(s: &Settings) -> BytesNeeded
         ensures needed { result ≡ quota_bytes (profile_of s.now) }
         ensures few { result.total < 2 ^ 44 }
@@ -332,7 +332,7 @@ impl OpenTasks {
         }
     }
 
-    /// Returns the word of the region with the number `word`, or `None` past the region's end.
+    /// Returns the word of the region of `OpenTasks` with the number `word`, or `None` past the region's end.
     pub(crate) fn peek(&self, word: u32, steps: &mut Steps) -> Option<u64>
         ensures value { result ≡ slice_get self.now.shared_pages.region word }
         ensures steps { RoseBy steps.old steps.new (peek_steps result) }

@@ -100,7 +100,7 @@ pub fn a_run_of_tasks_can_always_go_on()
     a_page_is_there_for_each_quota();
 }
 
-/// The output before the sink failed is a prefix of the output of a run over the whole script.
+/// In mode `quota`, the output before the sink failed is a prefix of the output of a run over the whole script.
 pub fn what_was_cut_is_a_prefix()
     ensures { (from to : QuotaRun) (call : Effects) (all : List ℕ)
         → (w : WroteInPart quota_tasks from (items_within all) call to)

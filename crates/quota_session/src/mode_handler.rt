@@ -48,7 +48,7 @@ impl ModeHandler<QuotaHeap> for QuotaHandler {
 
     ghost semantics = { quota_tasks };
 
-    /// Opens the heap with the settings of the `heap` line, but the bound 1, and writes the reply `ok`.
+    /// Opens the heap of tasks with the settings of the `heap` line, but the bound 1, and writes the reply `ok`.
     fn open<K: Sink>(
         &mut self,
         heap: &mut QuotaHeap,
@@ -68,7 +68,7 @@ impl ModeHandler<QuotaHeap> for QuotaHandler {
         Ok(())
     }
 
-    /// Does the command on the heap and writes its reply. The heap was opened before.
+    /// Does the command on the heap of tasks and writes its reply. The heap was opened before.
     fn answer<K: Sink>(
         &mut self,
         heap: &mut QuotaHeap,

@@ -57,7 +57,7 @@ impl Classes {
         })
     }
 
-    /// The memory that `new` asks for.
+    /// The memory that a table of size classes asks for.
     pub fn bytes_needed(page_words: u32, layout: Layout) -> BytesNeeded
         requires { IsTrue (is_page_size page_words) }
         ensures needed { result ≡ class_table_bytes page_words layout }

@@ -22,8 +22,8 @@ use slice_model::{SliceFault, SliceRefusal};
 use sliced_heap::SlicedHeap;
 use step_ledger::Steps;
 
-/// `m`: makes an object of `bytes` zero bytes for an id that isn't live. The reply is `ok`; or `live` if
-/// the id is live, or names the heap's refusal, and then nothing changes.
+/// `m`: makes an object of `bytes` zero bytes in the sliced heap for an id that isn't live. The reply is `ok`; or
+/// `live` if the id is live, or names the heap's refusal, and then nothing changes.
 pub(crate) fn malloc(
     ids: &mut IdTable,
     heap: &mut SlicedHeap,
@@ -89,8 +89,8 @@ fn free_reply(fault: SliceFault) -> Short
     }
 }
 
-/// `w`: writes these bytes into the object of a live id, from byte `at` on. The reply is `ok`; or `unknown` if
-/// the id isn't live, or `range` if the bytes pass the object's end, and then nothing changes.
+/// `w`: writes these bytes into the sliced heap's object of a live id, from byte `at` on. The reply is `ok`; or
+/// `unknown` if the id isn't live, or `range` if the bytes pass the object's end, and then nothing changes.
 pub(crate) fn write(
     ids: &IdTable,
     heap: &mut SlicedHeap,

@@ -101,7 +101,7 @@ pub fn plays_are_runs()
         → RunsSliced from.quantum None items replies (option_map run_of_play new) }
 {}
 
-/// The output before the sink failed is a prefix of the output of a run over the whole script.
+/// In mode `slice`, the output before the sink failed is a prefix of the output of a run over the whole script.
 pub fn what_was_cut_is_a_prefix()
     ensures { (from to : SlicePlay) (call : Effects) (all : List ℕ) → IsQuantum from.quantum
         → (w : WroteInPart slices from (items_within all) call to)

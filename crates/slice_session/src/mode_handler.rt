@@ -63,7 +63,7 @@ impl ModeHandler<SlicedHeap> for SliceHandler {
         Ok(())
     }
 
-    /// Does the command on the heap and writes its reply.
+    /// Does the command on the sliced heap and writes its reply.
     fn answer<K: Sink>(
         &mut self,
         heap: &mut SlicedHeap,

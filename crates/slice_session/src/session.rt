@@ -47,7 +47,7 @@ impl Model for SliceSession {
 }
 
 impl SliceSession {
-    /// A new session, in which no id is live. Allocates the table of all 65,536 ids, and fails with
+    /// A new session over a sliced heap, in which no id is live. Allocates the table of all 65,536 ids, and fails with
     /// `OutOfMemory` if there is no memory for it.
     pub fn start(alloc: Global) -> Result<SliceSession, OutOfMemory>
         ensures { IfOk result (λ s. s ≡ map.empty) }

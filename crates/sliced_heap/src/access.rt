@@ -16,7 +16,7 @@ use region::Header;
 use step_ledger::Steps;
 
 impl OpenHeap {
-    /// Returns the word of the region with the number `word`, or `None` past the region's end.
+    /// Returns the word of an open sliced heap's region with the number `word`, or `None` past the region's end.
     pub fn peek(&self, word: u32, steps: &mut Steps) -> Option<u64>
         ensures value { result ≡ slice_get self.now.region word }
         ensures steps { RoseBy steps.old steps.new (if is_some result then 1 else 0) }

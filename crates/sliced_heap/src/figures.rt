@@ -17,7 +17,7 @@ use class_lists::Which;
 use step_ledger::Steps;
 
 impl OpenHeap {
-    /// The figures of class c; none if there is no such class.
+    /// The figures of class c of a sliced heap; none if there is no such class.
     pub fn figures(&self, c: u32) -> Option<Figures>
         requires { IsValid (seen self.now) }
         ensures { result ≡ figures_in (plan_of (seen self.now)) (state_of (seen self.now)) c }
@@ -29,7 +29,7 @@ impl OpenHeap {
         }
     }
 
-    /// The figures of class c, which must be one of the heap's classes.
+    /// The figures of class c, which must be one of the sliced heap's classes.
     fn figures_of(&self, c: u32) -> Figures
         requires kept { IsValid (seen self.now) }
         requires class { c < classes (paging_at (seen self.now)) }
@@ -45,7 +45,7 @@ impl OpenHeap {
         }
     }
 
-    /// The figures of the whole heap.
+    /// The figures of the whole open sliced heap.
     pub fn totals(&self) -> Totals
         requires { IsValid (seen self.now) }
         ensures { result ≡ totals_in (plan_of (seen self.now)) (state_of (seen self.now)) }
@@ -100,7 +100,7 @@ impl OpenHeap {
         Some(self.tables.classes.slot_words(c))
     }
 
-    /// The class of an object of `bytes` bytes; none if it needs more than a page. Costs one step.
+    /// The sliced heap's class of an object of `bytes` bytes; none if it needs more than a page. Costs one step.
     pub fn class_of(&self, bytes: u32, steps: &mut Steps) -> Option<u32>
         requires { IsValid (seen self.now) }
         ensures value { result ≡ class_of (paging_at (seen self.now)).sizes bytes }

@@ -49,14 +49,15 @@ impl Model for SlicedHeap {
 }
 
 impl SlicedHeap {
-    /// Returns a closed heap, which has allocated nothing.
+    /// Returns a closed sliced heap, which has allocated nothing.
     pub fn closed(alloc: Global) -> SlicedHeap
         ensures { result ≡ closed_state }
     {
         SlicedHeap { alloc, inner: None }
     }
 
-    /// The memory that `open_heap` asks for. The bytes of the `SlicedHeap` itself, which its owner keeps, aren't counted.
+    /// The memory that opening a sliced heap asks for. The bytes of the `SlicedHeap` itself, which its owner keeps,
+    /// aren't counted.
     pub fn bytes_needed(s: &Settings) -> BytesNeeded
         ensures needed { result ≡ sliced_bytes (profile_of s.now) }
         ensures few { result.total < 2 ^ 44 }
@@ -64,7 +65,7 @@ impl SlicedHeap {
         OpenHeap::bytes_needed(s)
     }
 
-    /// Returns whether the heap is open. The state of an open heap keeps the rules of `KeepsRules`.
+    /// Returns whether the sliced heap is open. The state of an open heap keeps the rules of `KeepsRules`.
     pub fn is_open(&self) -> bool
         ensures value { result ≡ self.now.is_open }
         ensures rules { IsTrue result → KeepsRules self.now }
@@ -87,12 +88,12 @@ impl SlicedHeap {
         Ok(())
     }
 
-    /// Makes an object of `bytes` bytes, all zero, under a handle that wasn't live. Fails with `Size` if
-    /// it needs more than a page, else with `Proxy` if every proxy is in use, else with `Space` if the
-    /// objects with it would need more pages than the heap has, else with `Busy` if there is no slot for
-    /// it while a job is pending. A refusal changes nothing. The object gets the next spare number of the
-    /// order. It gets the lowest free slot of its class's first partly full page; if the class has
-    /// no such page, slot 0 of the first free page. The slot of a pending job counts as used.
+    /// Makes an object of `bytes` bytes, all zero, in the sliced heap, under a handle that wasn't live. Fails with
+    /// `Size` if it needs more than a page, else with `Proxy` if every proxy is in use, else with `Space` if the
+    /// objects with it would need more pages than the heap has, else with `Busy` if there is no slot for it while a job
+    /// is pending. A refusal changes nothing. The object gets the next spare number of the order. It gets the lowest
+    /// free slot of its class's first partly full page; if the class has no such page, slot 0 of the first free page.
+    /// The slot of a pending job counts as used.
     pub fn malloc(&mut self, bytes: u32, steps: &mut Steps) -> Result<Handle, SliceRefusal>
         requires open { IsTrue self.old.is_open }
         ensures step { Happens (plan_in self.old) (working_in self.old) (Malloc bytes result) (working_in self.new) }
@@ -108,7 +109,8 @@ impl SlicedHeap {
         }
     }
 
-    /// Returns what a malloc of `bytes` bytes would return now, without the handle: `Ok`, or its refusal. Changes nothing.
+    /// Returns what a `SlicedHeap`'s malloc of `bytes` bytes would return now, without the handle: `Ok`, or its
+    /// refusal. Changes nothing.
     pub fn has_room(&self, bytes: u32, steps: &mut Steps) -> Result<(), SliceRefusal>
         requires open { IsTrue self.now.is_open }
         ensures value { IsRoomAnswer (plan_in self.now) (working_in self.now).state bytes result }
@@ -242,8 +244,8 @@ impl SlicedHeap {
         }
     }
 
-    /// The figures of size class `c`; `None` if there is no such class. The slot of a pending job counts as used, but not
-    /// as live.
+    /// The figures of size class `c` of a `SlicedHeap`; `None` if there is no such class. The slot of a pending job
+    /// counts as used, but not as live.
     pub fn figures(&self, c: u32) -> Option<Figures>
         requires open { IsTrue self.now.is_open }
         ensures { result ≡ figures_in (plan_in self.now) (working_in self.now).state c }
@@ -254,8 +256,8 @@ impl SlicedHeap {
         }
     }
 
-    /// The figures of the whole heap. The slot of a pending job counts as used, and its bytes as taken, but neither as live
-    /// nor as asked for.
+    /// The figures of the whole `SlicedHeap`. The slot of a pending job counts as used, and its bytes as taken, but
+    /// neither as live nor as asked for.
     pub fn totals(&self) -> Totals
         requires open { IsTrue self.now.is_open }
         ensures { result ≡ totals_in (plan_in self.now) (working_in self.now).state }
@@ -315,7 +317,7 @@ impl SlicedHeap {
         }
     }
 
-    /// Returns the word of the region with the number `word`, or `None` past the region's end.
+    /// Returns the word of a `SlicedHeap`'s region with the number `word`, or `None` past the region's end.
     pub fn peek(&self, word: u32, steps: &mut Steps) -> Option<u64>
         requires open { IsTrue self.now.is_open }
         ensures value { result ≡ slice_get self.now.words word }

@@ -53,7 +53,8 @@ impl OpenHeap {
         Ok(handle)
     }
 
-    /// Returns what a malloc of `bytes` bytes would return now, without the handle: `Ok`, or its refusal. Changes nothing.
+    /// Returns what an open sliced heap's malloc of `bytes` bytes would return now, without the handle: `Ok`, or its
+    /// refusal. Changes nothing.
     pub fn has_room(&self, bytes: u32, steps: &mut Steps) -> Result<(), SliceRefusal>
         requires { IsValid (seen self.now) }
         ensures value { IsRoomAnswer (plan_of (seen self.now)) (state_of (seen self.now)) bytes result }

@@ -69,7 +69,7 @@ impl OpenHeap {
         Ok(OpenHeap::empty(s, quantum, region, tables, lists, proxies))
     }
 
-    /// The memory that `new` asks for.
+    /// The memory that `new` of a sliced heap asks for.
     pub fn bytes_needed(s: &Settings) -> BytesNeeded
         ensures needed { result ≡ sliced_bytes (profile_of s.now) }
         ensures few { result.total < 2 ^ 44 }

@@ -1,4 +1,4 @@
-//! Single bits of a word of 64 bits. Bit 0 is the least significant.
+//! Single bits of a word of 64 bits, for the maps of used slots. Bit 0 is the least significant.
 ghost use Rattle.std.specs.Prelude.{◌≡◌, ◌≢◌, ℕ, ◌+◌, ◌^◌, ◌<◌, ◌≤◌, cond};
 ghost use Rattle.std.specs.Int.{bit_at};
 
@@ -10,7 +10,7 @@ pub(crate) fn has_bit(word: u64, bit: u32) -> bool
     (word >> bit) & 1 == 1
 }
 
-/// The position of the lowest set bit of a word that has one.
+/// For slot maps: the position of the lowest set bit of a word that has one.
 pub(crate) fn lowest_set(word: u64) -> u32
     requires { word ≢ 0 }
     ensures within { result < 64 }

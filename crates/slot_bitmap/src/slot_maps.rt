@@ -55,7 +55,7 @@ impl SlotMaps {
         }
     }
 
-    /// The memory that `new` asks for.
+    /// The memory that new slot maps ask for.
     pub fn bytes_needed(pages: u32, most: u32) -> BytesNeeded
         requires { most ≤ 4096 }
         ensures needed { result ≡ map_bytes pages most }

@@ -42,8 +42,8 @@ impl<B: FitPolicy> OpenHeap<B> {
         }
     }
 
-    /// Fills `out` with the bytes of an object, from byte `at` on. Fails with `Unknown` if the handle
-    /// isn't live, else with `Range` if the object is shorter, and then leaves `out` unchanged.
+    /// Fills `out` with the bytes of an object in a block, from byte `at` on. Fails with `Unknown` if the handle isn't
+    /// live, else with `Range` if the object is shorter, and then leaves `out` unchanged.
     pub(crate) fn read(
         &self,
         h: Handle,
@@ -104,8 +104,7 @@ impl<B: FitPolicy> OpenHeap<B> {
         Ok(place)
     }
 
-    /// The number of bytes of an object; none if the handle isn't live. Costs two steps, one if it
-    /// isn't.
+    /// The number of bytes of an object in a block; none if the handle isn't live. Costs two steps, one if it isn't.
     pub(crate) fn length(&self, h: Handle, steps: &mut Steps) -> Option<u32>
         ensures value { result ≡ length_of (state_of B.kind self.now) h.0 }
         ensures steps { RoseBy steps.old steps.new (length_steps B.kind result) }

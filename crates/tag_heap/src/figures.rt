@@ -12,8 +12,8 @@ use cf_model::Usage;
 use step_ledger::Steps;
 
 impl<B: FitPolicy> OpenHeap<B> {
-    /// The figures of the whole heap. Costs at most three steps and two for each free block, since
-    /// it searches the last free list that isn't empty for the largest free block.
+    /// The figures of the whole heap with blocks. Costs at most three steps and two for each free block, since it
+    /// searches the last free list that isn't empty for the largest free block.
     pub(crate) fn totals(&self, steps: &mut Steps) -> Totals
         ensures value { result ≡ block_totals (state_of B.kind self.now) }
         ensures steps { RoseBy steps.old steps.new (totals_steps (state_of B.kind self.now).order) }

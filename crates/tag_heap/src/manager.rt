@@ -44,14 +44,15 @@ impl<B: FitPolicy> Model for TagHeap<B> {
 }
 
 impl<B: FitPolicy> TagHeap<B> {
-    /// Returns a closed manager, which has allocated nothing.
+    /// Returns a closed manager with blocks, which has allocated nothing.
     pub fn closed(alloc: Global) -> TagHeap<B>
         ensures { result ≡ closed_state B.kind }
     {
         TagHeap { alloc, inner: None }
     }
 
-    /// The memory that `open_heap` asks for. The bytes of the manager itself, which its owner keeps, aren't counted.
+    /// The memory that opening a manager with blocks asks for. The bytes of the manager itself, which its owner keeps,
+    /// aren't counted.
     pub fn bytes_needed(s: &Settings) -> BytesNeeded
         ensures needed { result ≡ tag_bytes B.kind (profile_of s.now) }
         ensures few { result.total < 2 ^ 45 }
@@ -68,7 +69,7 @@ impl<B: FitPolicy> TagHeap<B> {
         self.open().block_words(h, steps)
     }
 
-    /// Borrows the open heap, for calls that change nothing.
+    /// Borrows the open heap with blocks, for calls that change nothing.
     fn open(&self) -> &OpenHeap<B>
         requires { IsTrue self.now.is_open }
         ensures { state_of B.kind result.now ≡ self.now }

@@ -51,7 +51,7 @@ impl<B: FitPolicy> Model for OpenHeap<B> {
 }
 
 impl<B: FitPolicy> OpenHeap<B> {
-    /// Returns a heap without objects, with the settings `s`. Only this call allocates. It fails with
+    /// Returns a heap with blocks and without objects, with the settings `s`. Only this call allocates. It fails with
     /// `OutOfMemory` if an allocation fails.
     pub(crate) fn new(alloc: Global, s: &Settings) -> Result<OpenHeap<B>, OutOfMemory>
         ensures empty { IfOk result (λ h. IsEmptyHeap B.kind s.now (state_of B.kind h)) }
@@ -62,7 +62,7 @@ impl<B: FitPolicy> OpenHeap<B> {
         Ok(OpenHeap::empty(s, blocks, proxies))
     }
 
-    /// The memory that `new` asks for.
+    /// The memory that `OpenHeap::new` with blocks asks for.
     pub(crate) fn bytes_needed(s: &Settings) -> BytesNeeded
         ensures needed { result ≡ tag_bytes B.kind (profile_of s.now) }
         ensures few { result.total < 2 ^ 45 }
@@ -71,7 +71,7 @@ impl<B: FitPolicy> OpenHeap<B> {
         blocks.and(ProxyTable::bytes_needed(s.proxies))
     }
 
-    /// Makes an open heap of these parts, each without objects.
+    /// Makes an open heap with blocks of these parts, each without objects.
     fn empty(s: &Settings, blocks: TagBlocks<B>, proxies: ProxyTable) -> OpenHeap<B>
         requires blocks { blocks.blocks ≡ one_free_block (s.now.pages * s.now.page_words) }
         requires words { length blocks.words ≡ s.now.pages * s.now.page_words }
