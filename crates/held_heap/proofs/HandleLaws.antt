@@ -22,12 +22,13 @@ use Rattle.cf_model.specs.Steps.{ChangesCost, IsFreeStep, IsMallocStep, IsReadAn
 use Rattle.page_model.specs.Held.{Placed}
 use Rattle.page_model.specs.Steps.{Request}
 use Rattle.held_heap.specs.Bound.{IsBoundCall, bound_code, class_to_bound}
-use Rattle.held_heap.specs.Calls.{IsFreeCall, IsFreshHeap, IsLengthCall, IsMallocCall, IsPlaceCall, IsReadCall, IsResizeCall, IsWriteCall, found_code, found_number, freed_shown, malloc_number, resized_shown}
+use Rattle.held_heap.specs.Calls.{IsFreeCall, IsFreshHeap, IsLengthCall, IsMallocCall, IsPlaceCall, IsReadCall, IsResizeCall, IsWriteCall, resized_shown}
 use Rattle.c_base.specs.Codes.{access_code, free_code, malloc_code, resize_code}
 use Rattle.c_base.specs.HandleRules.{AreHandles}
 use Rattle.held_heap.specs.HandleRules.{IsNewHandle, KeepsHandles}
 use Rattle.c_base.specs.Handles.{none, number_in, raised_by}
 use Rattle.held_heap.specs.HeldState.{HeldState}
+use Rattle.c_base.specs.Shown.{found_code, found_number, freed_shown, malloc_number}
 use Rattle.c_base.specs.declared.answers.NphFreed.{NphFreed}
 use Rattle.c_base.specs.declared.answers.NphResized.{NphResized}
 use Rattle.c_base.proofs.CallerLemmas.{first_are_handles, handle_small, length-raised_by, names_itself, raised_by_handles}
