@@ -508,14 +508,14 @@ HEAD = """`checks/worst_case --write` writes this page, and `checks/worst_case` 
 
 # The most steps, instructions and stack of each call from C
 
-[SPEED](SPEED.md#the-most-instructions-of-a-call-from-c) has the claim, and shows how to make time of it. The steps are [proved](C.md#what-is-proved). The instructions and the stack are computed from the machine code, without `memcpy`, `memmove`, `memset` and the allocator. Calls of a library with equal cells share a row; those without steps count none.
+[SPEED](SPEED.md#the-most-instructions-of-a-call-from-c) shows how to compute time from these bounds. The steps are [proved](C.md#what-is-proved). The instructions and the stack are computed from the machine code, without those of `memcpy`, `memmove`, `memset` and the allocator. Calls of a library with equal bounds share a row; those with no entry under "steps" count none. Of bounds with "or" between them the greatest holds.
 
-- "Longest": the longest call seen on 16 pages of 16 KiB with k = 1 and 4,096 proxies, and the bound for its lengths if the bound varies.
+- "Longest": the instructions of the longest call counted on 16 pages of 16 KiB with k = 1 and 4,096 proxies; if the bound has letters, also its value for that call.
 - "Stack": bytes, with return addresses.
-- `cf` is `libnorphuen.a`, `nm` is `libnorphuen_nonmoving.a`, `tlsf` is `libnorphuen_tlsf.a`, `half` is `libnorphuen_half.a`, `sliced` is `libnorphuen_sliced.a`, `tasks` is `libnorphuen_tasks.a`, `large` is `libnorphuen_large.a`, `images` is `libnorphuen_images.a`.
+- `cf` is `libnorphuen.a`, `nm` `libnorphuen_nonmoving.a`; `half` is `libnorphuen_half.a`, and so on.
 - A free or resize moves no other object ("alone"), or one ("move"). A resize keeps its slot ("same"), or takes another.
-- A free of long objects is of one that fits a page ("short"), or of one in parts ("long").
-- In slices a free clears a slot ("clear"), or begins to move an object ("move"). A step is the last of its job, after which no job is pending or another one moves an object ("next"); other steps are shorter.
+- With `large` a free is of an object that fits a page ("short"), or of one in parts ("long"). Of two step bounds the first is for objects that fit a page.
+- With `sliced` a free clears a slot ("clear"), or begins to move an object ("move"). A call of `step` ends a job, after which none is pending ("last") or another one moves an object ("next"); other calls of `step` are shorter.
 
 | letter | counts |
 |---|---|
@@ -524,20 +524,20 @@ HEAD = """`checks/worst_case --write` writes this page, and `checks/worst_case` 
 | m | words of the slot that moves |
 | r | words of the slot after the word in which the new length ends |
 | c | those of r that are cleared |
-| w | words that contain one of the bytes |
+| w | words that contain one of the bytes read or written |
 | b | blocks of four words that contain the r or w words |
 | f | free blocks |
 | n | needs that the call is passed, or objects of an image |
 | q | words of the quantum |
-| l | parts of a long object, or those that contain one of the bytes: s then counts all their words, and w in instructions those of one; or the chunks of at most 4,096 bytes in which the objects of an image are copied: w then counts the words of the longest chunk |
-| P, W, S | pages, words and size classes of a page |
-| Q, p | proxies, of each task if there are tasks, rounded up to a power of two |
+| l | parts of a long object, in a read or write those that contain one of the bytes; s then counts the words of all its slots, and w, in instructions, those of one part at most. With `images` chunks of at most 4,096 bytes in which objects are copied; w then counts the words of the longest chunk |
+| P, W, S | pages; words of a page; size classes |
+| Q, p | proxies, with `tasks` those of a task; Q rounded up to a power of two |
 
 | library | call | steps | instructions, x86-64 | longest | stack | instructions, ARM64 | longest | stack |
 |---|---|---|---|---|---|---|---|---|
 """
 SUMS = """
-Sums of the code that was bounded, which `tools/worst_case` prints:
+Checksums of each library's code, which `tools/worst_case` prints too:
 
 | archive | x86-64 | ARM64 |
 |---|---|---|
