@@ -228,7 +228,7 @@ NPH_CALL nph_status nph_bytes_needed(uint32_t pages, uint32_t page_bytes, uint32
 /* Writes how many pages of `page_bytes` bytes are enough for a program: with them no nph_malloc and no nph_resize fails with
  * NPH_SPACE, whatever their order, while the live objects are within the `count` needs. With fewer some such call fails so.
  * Needs of the same length add up. The number is the same for every k, and may be more than nph_open takes. Fails with
- * NPH_SIZE, NPH_PAGE_BYTES, NPH_BOUND, NPH_ENTRIES, or with NPH_PROXIES if the needs are more objects than a heap may have.
+ * NPH_ENTRIES, NPH_PAGE_BYTES, NPH_BOUND, NPH_SIZE, or with NPH_PROXIES if the needs are more objects than a heap may have.
  * A library with blocks lacks this call. */
 NPH_CALL nph_status nph_pages_needed(uint32_t page_bytes, uint32_t k, const nph_need *needs, size_t count, uint32_t *pages);
 
