@@ -131,7 +131,7 @@ const CLAIM = {
   cost: ['A refused malloc, free or, with pages, resize changes only the recorded steps of the last call.', ''],
   read: ["A read prints its object's bytes as last written (at first zeros), whatever moved.", 'reads_give_what_was_written'],
   output: ['With pages and every bound k = 1, the output is a function of kind and script, unless the script has a q, b, p or steps.', 'one_transcript'],
-  equal: ['Equal arguments and input give equal output in every mode, however the input is chunked. Conditions: each line has its reply or the image is loaded; the managers are of equal kinds, and promise an order, as those of main do.', 'equal_scripts_get_equal_output'],
+  equal: ['Equal arguments and input give equal output in every mode, however the input is chunked. Conditions: each line has its reply or the image is loaded; the managers passed are of equal kinds, and promise an order, as those of main do.', 'equal_scripts_get_equal_output'],
   physical: ["On NonMovingHeap an object keeps its physical blocks until it is freed or resized to another class", 'PagedHeap::free'],
   bad: ['a line within the limit is not in the grammar at its place', ''],
   slice: ['a function of script and quantum, but for the word p prints', 'MeetsSliced'],
