@@ -1,4 +1,4 @@
-//! Two inner loops. `answer_chunk` feeds a chunk to the reader in one call of `feed` or more. After each it calls
+//! Two inner loops: `answer_chunk` feeds a chunk to the reader in one call of `feed` or more. After each it calls
 //! `answer_pending_items`, which passes each whole item that the reader holds to the mode handler. An error is the
 //! status with which the script ends: `BadScript`, and the number of the bad line was written; `WriteFault`, and only
 //! a prefix of the last reply was written, though its item has taken effect; or `OutOfMemory`, at the `heap` line.

@@ -1,4 +1,4 @@
-//! `Classes`, the table of size classes of a heap's pages.
+//! `Classes`: the slot sizes of a heap's pages in a table, and the class of a length.
 ghost use Rattle.std.specs.Prelude.{◌≡◌, ◌↔◌, ◌/◌, ◌%◌, ◌^◌, ◌<◌, ◌≤◌, IsTrue, IsNone, IfOk, IfSome, length, slice_index};
 ghost use Rattle.step_ledger.specs.Counting.{RoseBy};
 ghost use Rattle.cf_base.specs.Classes.{need, slots, class_of};

@@ -1,4 +1,4 @@
--- The pages that declared objects need, summed over the slot sizes of a page, as the code computes them. No public clause cites this module.
+-- The pages that declared objects need, summed over the slot sizes of a page, as `count.rt` computes them. No public clause cites this module.
 use Rattle.std.specs.Prelude.{ℕ, zero, suc, ◌+◌, ◌/◌, ◌&&◌, List, [], ◌∷◌, if◌then◌else◌, nat_le, nat_lt, slice_index, sum_by}
 use Rattle.cf_base.specs.Classes.{need}
 use Rattle.page_model.specs.Counts.{ceil_div}

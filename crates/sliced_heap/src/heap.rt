@@ -232,7 +232,7 @@ impl SlicedHeap {
         }
     }
 
-    /// The size class of an object of `bytes` bytes, numbered from 0; `None` if it needs more than a page.
+    /// The class that an object of `bytes` bytes has in the sliced heap, from 0; `None` if it needs more than a page.
     pub fn class_of(&self, bytes: u32, steps: &mut Steps) -> Option<u32>
         requires open { IsTrue self.now.is_open }
         ensures value { result ≡ class_of (plan_in self.now).paging.sizes bytes }

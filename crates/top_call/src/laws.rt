@@ -1,7 +1,7 @@
-//! Theorems on calls of `cf_main`: when two calls print the same bytes. On managers that promise an order, a
-//! call prints the replies of runs in that order. Laws of a script on many managers: each has its own run and
-//! meets the headline; a cut reply stops between two managers; what was written is a prefix. And of long objects:
-//! from which numbers their step bounds are. The functions do nothing: their contracts are the laws.
+//! Laws of many managers on one script (mode `compare`), and of calls of `cf_main`: when two print the same bytes.
+//! Each manager has its own run and meets the headline; a cut reply stops between two managers; what was written is
+//! a prefix. On managers that promise an order, a call prints the replies of runs in that order. And of long objects:
+//! which numbers give their step bounds. The functions do nothing: their contracts are the laws.
 ghost use Rattle.std.specs.Prelude.{◌≡◌, ℕ, IsSome, List, Option, map, ◌++◌, [], None, Some, option_map};
 ghost use Rattle.std.specs.List.{All};
 ghost use Rattle.clap.specs.Words.{Text};
