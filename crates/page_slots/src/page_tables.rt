@@ -40,7 +40,7 @@ impl PageTables {
         })
     }
 
-    /// The memory that `new` asks for.
+    /// The memory that `PageTables::new` asks for.
     pub fn bytes_needed(s: &Settings, layout: Layout) -> BytesNeeded
         ensures needed { result ≡ table_bytes (profile_of s.now) layout }
         ensures few { result.total < 2 ^ 43 }

@@ -66,8 +66,8 @@ impl OpenHeap {
         Ok(handle)
     }
 
-    /// Returns what a malloc of `bytes` bytes would return now, without the handle: `Ok`, or its
-    /// refusal. Changes nothing, and costs one step.
+    /// Returns what `OpenHeap::malloc` of `bytes` bytes would return now, without the handle: `Ok`, or
+    /// its refusal. Changes nothing, and costs one step.
     pub fn has_room<A: Mapping>(&self, bytes: u32, steps: &mut Steps) -> Result<(), Refusal>
         requires { Holds A.kind self.now }
         ensures ok { IfOk result (λ u. (e : Refusal) → ¬ IsRefusedBy (state_at A.kind self.now) bytes e) }

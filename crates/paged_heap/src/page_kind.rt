@@ -19,16 +19,16 @@ use virtual_words::{Direct, Mapped, Mapping};
 
 /// A kind of manager with pages: what it does beside `Mapping` in its own way.
 pub trait PageKind: Mapping {
-    /// The kind.
+    /// The kind: moving or non-moving.
     fn kind() -> Kind
         ensures { result ≡ Self.kind };
 
-    /// Opens a heap without objects. Fails if out of memory.
+    /// Opens a heap of this kind without objects, with the settings `s`. Fails if out of memory.
     fn open(alloc: Global, s: &Settings) -> Result<OpenHeap, OutOfMemory>
         ensures kept { IfOk result (λ h. Holds Self.kind h) }
         ensures empty { IfOk result (λ h. IsEmptyHeap Self.kind s.now (state_at Self.kind h)) };
 
-    /// The memory that `open` asks for.
+    /// The memory that `PageKind::open` asks for.
     fn bytes_needed(s: &Settings) -> BytesNeeded
         ensures needed { result ≡ paged_bytes Self.kind (profile_of s.now) }
         ensures few { result.total < 2 ^ 45 };

@@ -45,16 +45,16 @@ impl Model for QuotaHeap {
 }
 
 impl QuotaHeap {
-    /// Returns a closed heap, which has allocated nothing.
+    /// Returns a closed heap of tasks, which has allocated nothing.
     pub fn closed(alloc: Global) -> QuotaHeap
         ensures { result ≡ closed_state }
     {
         QuotaHeap { alloc, inner: None }
     }
 
-    /// Opens the heap with the settings `s`; an open heap is closed first. No task has an object, and all
-    /// quotas are 0. Each task gets as many proxies of its own as `s` has. Each class of a task has bound
-    /// 1, whatever bound `s` has. Fails if out of memory; the heap is closed then.
+    /// Opens the heap of tasks with the settings `s`; an open heap is closed first. No task has an object,
+    /// and all quotas are 0. Each task gets as many proxies of its own as `s` has. Each class of a task has
+    /// bound 1, whatever bound `s` has. Fails if out of memory; the heap is closed then.
     pub fn open_heap(&mut self, s: &Settings) -> Result<(), OutOfMemory>
         ensures opened { IfOk result (λ done. self.new ≡ empty_state (profile_of s.now)) }
         ensures kept { IfOk result (λ done. KeepsTasks self.new) }
@@ -65,7 +65,8 @@ impl QuotaHeap {
         Ok(())
     }
 
-    /// The memory that `open_heap` asks for. The bytes of the `QuotaHeap` itself, which its owner keeps, aren't counted.
+    /// The memory that `QuotaHeap::open_heap` asks for. The bytes of the `QuotaHeap` itself, which its owner
+    /// keeps, aren't counted.
     pub fn bytes_needed(s: &Settings) -> BytesNeeded
         ensures needed { result ≡ quota_bytes (profile_of s.now) }
         ensures few { result.total < 2 ^ 44 }
@@ -73,8 +74,8 @@ impl QuotaHeap {
         OpenTasks::bytes_needed(s)
     }
 
-    /// Returns whether the heap is open. In an open heap no page has objects of two tasks, and no task
-    /// uses more pages than its quota (`KeepsTasks`).
+    /// Returns whether the heap of tasks is open. In an open heap no page has objects of two tasks, and no
+    /// task uses more pages than its quota (`KeepsTasks`).
     pub fn is_open(&self) -> bool
         ensures value { result ≡ self.now.is_open }
         ensures rules { IsTrue result → KeepsTasks self.now }
@@ -82,7 +83,7 @@ impl QuotaHeap {
         self.inner.is_some()
     }
 
-    /// The settings with which the heap was opened.
+    /// The settings with which the heap of tasks was opened.
     pub fn settings(&self) -> Settings
         requires { IsTrue self.now.is_open }
         ensures { profile_of result ≡ self.now.profile }
@@ -131,7 +132,7 @@ impl QuotaHeap {
         }
     }
 
-    /// The number of the region's pages less the sum of all quotas.
+    /// The number of pages that no task has as quota: the region's pages less the sum of all quotas.
     pub fn unassigned(&self) -> u32
         requires opened { IsTrue self.now.is_open }
         ensures { result + sum self.now.quotas ≡ self.now.profile.pages }
@@ -142,9 +143,9 @@ impl QuotaHeap {
         }
     }
 
-    /// Sets the quota of a task to `pages` pages. If it fails, nothing changes. The causes, tested in this
-    /// order: `Sum`, the quotas of all tasks would sum to more pages than the region has; `Used`, the task
-    /// already uses more than `pages` pages.
+    /// Sets the quota of a task to `pages` pages, if the region has them and the task uses no more. If it
+    /// fails, nothing changes. The causes, tested in this order: `Sum`, the quotas of all tasks would sum to
+    /// more pages than the region has; `Used`, the task already uses more than `pages` pages.
     pub fn set_quota(&mut self, task: u32, pages: u32) -> Result<(), QuotaFault>
         requires opened { IsTrue self.old.is_open }
         requires sixteen { task < 16 }
@@ -268,7 +269,7 @@ impl QuotaHeap {
         }
     }
 
-    /// Returns the word of the region with the number `word`, or `None` past the region's end.
+    /// Returns word number `word` of the region of the heap of tasks, or `None` past the region's end.
     pub fn peek(&self, word: u32, steps: &mut Steps) -> Option<u64>
         requires opened { IsTrue self.now.is_open }
         requires room { steps.old ≤ 2 ^ 63 }

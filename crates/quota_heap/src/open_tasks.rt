@@ -56,7 +56,7 @@ impl OpenTasks {
         })
     }
 
-    /// The memory that `new` asks for.
+    /// The memory that `OpenTasks::new` asks for.
     pub(crate) fn bytes_needed(s: &Settings) -> BytesNeeded
         ensures needed { result ≡ quota_bytes (profile_of s.now) }
         ensures few { result.total < 2 ^ 44 }
@@ -117,7 +117,7 @@ impl OpenTasks {
         task.proxies.live()
     }
 
-    /// The number of the region's pages less the sum of all quotas.
+    /// The number of the region's pages less `granted`, the sum of all quotas.
     pub(crate) fn unassigned(&self) -> u32
         requires kept { IsValid self.now }
         ensures { result + sum (state_of self.now).quotas ≡ self.now.shared_pages.settings.pages }
@@ -332,7 +332,7 @@ impl OpenTasks {
         }
     }
 
-    /// Returns the word of the region with the number `word`, or `None` past the region's end.
+    /// Returns word number `word` of the region that the tasks share, or `None` past its end.
     pub(crate) fn peek(&self, word: u32, steps: &mut Steps) -> Option<u64>
         ensures value { result ≡ slice_get self.now.shared_pages.region word }
         ensures steps { RoseBy steps.old steps.new (peek_steps result) }
