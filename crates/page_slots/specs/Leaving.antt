@@ -42,10 +42,6 @@ parts kind t lists proxies m = record {
   frames = frames_of kind m.blocks;
 }
 
--- the number of words of the slot
-abbrev pub words_in : Parts → LeftSlot → ℕ
-words_in w s = slice_index w.classes.sizes s.class
-
 -- the number of the object whose header is the word `from`
 abbrev pub number_at : Parts → LeftSlot → ℕ → ℕ
 number_at w s from = slice_index w.words from % 2 ^ 32 - s.first
@@ -53,21 +49,23 @@ number_at w s from = slice_index w.words from % 2 ^ 32 - s.first
 -- the object whose header is the word `from` can move to the slot
 pub record MayMove (kind : Kind) (w : Parts) (s : LeftSlot) (from : ℕ) : Type 0 where
   pub header : from < length w.words
-  pub source : from + words_in w s ≤ length w.words
-  pub apart : IsDisjoint from (words_in w s) s.place (words_in w s)
+  pub source : from + s.words ≤ length w.words
+  pub apart : IsDisjoint from s.words s.place s.words
   pub whole : IsWhole kind from
   pub first : s.first ≤ slice_index w.words from % 2 ^ 32
   pub live : IsSome (get w.proxies.places (number_at w s from))
 
--- The slot is used, and its object is freed or has moved away. If another object must move there (`moves`), the one that the tables choose can.
+-- The slot is used and has the words of its class, and its object is freed or has moved away. If another object must move there (`moves`), the one that the
+-- tables choose can.
 pub record MayLeave (kind : Kind) (w : Parts) (s : LeftSlot) (moves : Bool) : Type 0 where
   pub tables : AreTables w.classes w.tables
   pub used : IsUsed w.tables s.class (page_at w.classes s.place) (slot_at w.classes s.class s.place)
   pub class : s.class < length w.classes.sizes
-  pub inside : s.place + words_in w s ≤ length w.words
+  pub words : s.words ≡ slice_index w.classes.sizes s.class
+  pub inside : s.place + s.words ≤ length w.words
   pub handles : AreBelowLimit w.proxies
   pub whole : IsWhole kind s.place
-  pub whole_words : IsWhole kind (words_in w s)
+  pub whole_words : IsWhole kind s.words
   pub some : IsTrue moves → 1 ≤ length (pages_in w.tables.lists s.class NotFull)
   pub mover : IsTrue moves → (from : ℕ) (new : Tables) → FillsFrom w.classes w.tables s.class from new → AreTables w.classes new → MayMove kind w s from
 
@@ -82,7 +80,7 @@ pub record MovesSlot (old new : Parts) (b a n : ℕ) : Type 0 where
 pub record LeavesAlone (old : Parts) (s : LeftSlot) (new : Parts) : Type 0 where
   pub freed : Vacates old.tables s.class (page_at old.classes s.place) (slot_at old.classes s.class s.place) new.tables
   pub proxies : new.proxies ≡ old.proxies
-  pub words : Clears old.words new.words (record { from = s.place; count = words_in old s })
+  pub words : Clears old.words new.words (record { from = s.place; count = s.words })
   pub long : length new.words ≡ length old.words
   pub frames : new.frames ≡ old.frames
 
@@ -93,7 +91,7 @@ pub record LeavesFilled (old : Parts) (s : LeftSlot) (q : ℕ) (new : Parts) : T
   pub number : q ≡ number_at old s from
   pub proxies : new.proxies ≡ with_place old.proxies q s.place
   pub free : new.proxies.free ≡ old.proxies.free
-  pub moves : MovesSlot old new from s.place (words_in old s)
+  pub moves : MovesSlot old new from s.place s.words
 
 -- what `leave_slot` does, by its result: the object that moves to the slot, if one does
 abbrev pub Leaves : Parts → LeftSlot → Option Handle → Parts → Type 0
@@ -102,5 +100,5 @@ Leaves old s (Some q) new = LeavesFilled old s q.0 new
 
 -- the exact steps of `leave_slot`, by its result
 abbrev pub leaving_steps : Kind → Parts → LeftSlot → Option Handle → ℕ
-leaving_steps kind w s None = run_steps kind s.place (words_in w s) + steps_to_drop w.tables (page_at w.classes s.place)
-leaving_steps kind w s (Some q) = steps_to_fill w.tables s.class + word_steps kind + (slot_steps kind (words_in w s) + 1)
+leaving_steps kind w s None = run_steps kind s.place s.words + steps_to_drop w.tables (page_at w.classes s.place)
+leaving_steps kind w s (Some q) = steps_to_fill w.tables s.class + word_steps kind + (slot_steps kind s.words + 1)

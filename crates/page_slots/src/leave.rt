@@ -1,6 +1,6 @@
 //! Leaves the slot of an object that is freed or has moved away: clears it, or moves another object
 //! of the same owner there.
-ghost use Rattle.std.specs.Prelude.{◌≡◌, ◌+◌, is_some, slice_index};
+ghost use Rattle.std.specs.Prelude.{◌≡◌, ◌+◌, is_some};
 ghost use Rattle.step_ledger.specs.Counting.{RoseAtMost, RoseBy};
 ghost use Rattle.page_model.specs.Order.{word_steps};
 ghost use Rattle.proxy_table.specs.Proxies.{AreBelowLimit};
@@ -18,12 +18,13 @@ use region::{Header, Region};
 use step_ledger::Steps;
 use virtual_words::Mapping;
 
-/// A used slot of class `class` at the address `place`. The headers of its owner's objects have
-/// their handles plus `first`.
+/// A used slot of class `class`, of `words` words, at the address `place`. The headers of its owner's
+/// objects have their handles plus `first`.
 #[derive(Clone, Copy)]
 pub struct LeftSlot {
     pub class: u32,
     pub place: u32,
+    pub words: u32,
     pub first: u32,
 }
 
@@ -52,20 +53,19 @@ impl PageTables {
         ensures tables { AreTables self.old.classes (tables_with self.new lists.new) }
         ensures laid { FitTable A.kind blocks.new region.new }
         ensures handles { AreBelowLimit proxies.new }
-        ensures most { RoseAtMost steps.old steps.new (13 + word_steps A.kind + slot_steps A.kind (slice_index self.old.classes.sizes s.class)) }
+        ensures most { RoseAtMost steps.old steps.new (13 + word_steps A.kind + slot_steps A.kind s.words) }
         ensures steps { RoseBy steps.old steps.new
             (leaving_steps A.kind (parts A.kind self.old lists.old proxies.old (record { blocks = blocks.old; region = region.old })) s result) }
     {
-        let slot_words = self.classes.slot_words(s.class);
         if moves {
             let from = self.fill_slot(lists, s.class, steps);
             let header = Header::unpack(A::read(region, blocks, from, steps));
             let other = Handle(header.handle.0 - s.first);
-            A::move_slot(region, blocks, from, s.place, slot_words, steps);
+            A::move_slot(region, blocks, from, s.place, s.words, steps);
             proxies.rebind(other, s.place, steps);
             Some(other)
         } else {
-            A::clear(region, blocks, s.place, slot_words, steps);
+            A::clear(region, blocks, s.place, s.words, steps);
             self.drop_slot(lists, s.class, s.place, steps);
             None
         }

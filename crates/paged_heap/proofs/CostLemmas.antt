@@ -70,36 +70,35 @@ module _ {h : Heap} (k : IsValid h) {q a size c : ℕ} (o : IsObjectAt (owner_in
       ∙ ap (Order.steps_to_fill (paging_at h) (held_in h) (order_in h)) (sym (it_class (owns k) o))
 
   -- the steps of leaving the object's slot (`leave_slot`), by the tables of a heap g that yield the same steps, and by the order
-  pub leaving_is : (g : Heap) → g.kind ≡ h.kind → g.classes ≡ h.classes
+  pub leaving_is : {words : ℕ} → words ≡ get_or h.classes.sizes c 0 → (g : Heap) → g.kind ≡ h.kind → g.classes ≡ h.classes
       → steps_to_drop (tables_in g) (page_at h.classes a) ≡ steps_to_drop (tables_in h) (page_at h.classes a)
       → steps_to_fill (tables_in g) c ≡ steps_to_fill (tables_in h) c → (r : Option Handle)
       → (IsSome r → (page : ℕ) × (slice_get (pages_in h.lists c NotFull) 0 ≡ Some page))
-      → leaving_steps g.kind (parts_of g) (left_slot c a) r ≡ leaving_cost (state_of h) (order_in h) (it (owns k) o) r
-  leaving_is g kind classes drop fill None front =
+      → leaving_steps g.kind (parts_of g) (left_slot words c a) r ≡ leaving_cost (state_of h) (order_in h) (it (owns k) o) r
+  leaving_is {words} long g kind classes drop fill None front =
       let w = whole_slot h k q (it (owns k) o) (it_found (owns k) o) in
       let slot = slot_for (paging_at h) (length (it (owns k) o).bytes) in
-      let wiped : run_steps h.kind a (get_or h.classes.sizes c 0) ≡ wipe_steps h.kind slot = ap (run_steps h.kind a) (it_slot (owns k) o) ∙ whole_run h.kind
-      a slot w.0 w.1 in
+      let wiped : run_steps h.kind a words ≡ wipe_steps h.kind slot = ap (run_steps h.kind a) (long ∙ it_slot (owns k) o) ∙ whole_run h.kind a slot w.0 w.1 in
       let e = drops_by in
-      ap (λ (κ : Kind). run_steps κ a (get_or g.classes.sizes c 0) + steps_to_drop (tables_in g) (page_at g.classes a)) kind
-      ∙ ap (λ (t : ClassTable). run_steps h.kind a (get_or t.sizes c 0) + steps_to_drop (tables_in g) (page_at t a)) classes ∙ (omega arith)
-  leaving_is g kind classes drop fill (Some y) front =
+      ap (λ (κ : Kind). run_steps κ a words + steps_to_drop (tables_in g) (page_at g.classes a)) kind
+      ∙ ap (λ (t : ClassTable). run_steps h.kind a words + steps_to_drop (tables_in g) (page_at t a)) classes ∙ (omega arith)
+  leaving_is {words} long g kind classes drop fill (Some y) front =
       let slot = slot_for (paging_at h) (length (it (owns k) o).bytes) in
-      let moved : slot_steps h.kind (get_or h.classes.sizes c 0) ≡ slot_steps h.kind slot = ap (slot_steps h.kind) (it_slot (owns k) o) in
+      let moved : slot_steps h.kind words ≡ slot_steps h.kind slot = ap (slot_steps h.kind) (long ∙ it_slot (owns k) o) in
       let f = front refl in
       let e = fills_by f.0 f.1 in
-      ap (λ (κ : Kind). steps_to_fill (tables_in g) c + word_steps κ + (slot_steps κ (get_or g.classes.sizes c 0) + 1)) kind
-      ∙ ap (λ (t : ClassTable). steps_to_fill (tables_in g) c + word_steps h.kind + (slot_steps h.kind (get_or t.sizes c 0) + 1)) classes ∙ (omega arith)
+      ap (λ (κ : Kind). steps_to_fill (tables_in g) c + word_steps κ + (slot_steps κ words + 1)) kind ∙ (omega arith)
 
   -- the steps of releasing the number and leaving the slot
-  pub leaves_sum : {g : Heap} → g ≡ taken_out h q size c → (n : Parts) (r : Option Handle) → Leaves (parts_of g) (left_slot c a) r n → (s t u : ℕ) → RoseBy s t 2
-      → RoseBy t u (leaving_steps g.kind (parts_of g) (left_slot c a) r) → RoseBy s u (2 + leaving_cost (state_of h) (order_in h) (it (owns k) o) r)
-  leaves_sum {g} counted n r left s t u r1 r2 =
-      let is = subst (λ (x : Heap). leaving_steps x.kind (parts_of x) (left_slot c a) r ≡ leaving_cost (state_of h) (order_in h) (it (owns k) o) r) (sym counted)
-      (leaving_is (taken_out h q size c) refl refl refl refl r (front r left)) in
+  pub leaves_sum : {words : ℕ} → words ≡ get_or h.classes.sizes c 0 → {g : Heap} → g ≡ taken_out h q size c → (n : Parts) (r : Option Handle)
+      → Leaves (parts_of g) (left_slot words c a) r n → (s t u : ℕ) → RoseBy s t 2 → RoseBy t u (leaving_steps g.kind (parts_of g) (left_slot words c a) r)
+      → RoseBy s u (2 + leaving_cost (state_of h) (order_in h) (it (owns k) o) r)
+  leaves_sum {words} long {g} counted n r left s t u r1 r2 =
+      let is = subst (λ (x : Heap). leaving_steps x.kind (parts_of x) (left_slot words c a) r ≡ leaving_cost (state_of h) (order_in h) (it (owns k) o) r)
+      (sym counted) (leaving_is long (taken_out h q size c) refl refl refl refl r (front r left)) in
       rose_by s u _ _ (ap (λ n. 2 + n) is) (rose_both s t u _ _ r1 r2)
     where
-      front : (r : Option Handle) → Leaves (parts_of g) (left_slot c a) r n → IsSome r → (page : ℕ) × (slice_get (pages_in h.lists c NotFull) 0 ≡ Some page)
+      front : (r : Option Handle) → Leaves (parts_of g) (left_slot words c a) r n → IsSome r → (page : ℕ) × (slice_get (pages_in h.lists c NotFull) 0 ≡ Some page)
       front None left none = absurd (false≢true none)
       front (Some y) left some = (left.filled.page, subst (λ (x : Heap). slice_get (pages_in x.lists c NotFull) 0 ≡ Some left.filled.page) counted left.filled.front)
 

@@ -35,11 +35,11 @@ pub record FreesBy (h : Heap) (q : ℕ) (freed : Freed) (n : Heap) : Type 0 wher
 module _ {h : Heap} (k : IsValid h) {q a size c : ℕ} (o : IsObjectAt (owner_in h) q a size c) (moves : Bool)
     (due : IsTrue moves ↔ MustMoveInto (owner_in h) a c) {g : Heap}
     (counted : g ≡ taken_out h q size c) where
-  pub may_leave : AreBelowLimit g.proxies → MayLeave h.kind (parts_of g) (slot c a) moves
-  may_leave handles = subst (λ (x : Heap). MayLeave h.kind (parts_of x) (slot c a) moves) (sym counted)
-      (can_leave (owns k) o 0 (λ b new f. (let e = number_shown k f in omega arith)) h.kind moves due refl
+  pub may_leave : {words : ℕ} → words ≡ get_or h.classes.sizes c 0 → AreBelowLimit g.proxies → MayLeave h.kind (parts_of g) (slot words c a) moves
+  may_leave {words} long handles = subst (λ (x : Heap). MayLeave h.kind (parts_of x) (slot words c a) moves) (sym counted)
+      (can_leave (owns k) o 0 (λ b new f. (let e = number_shown k f in omega arith)) h.kind moves long due refl
       (subst (λ (x : Heap). AreBelowLimit x.proxies) counted handles) (whole_slot h k q (it (owns k) o) (it_found (owns k) o)).0
-      (subst (IsWhole h.kind) (sym (it_slot (owns k) o)) (whole_slot h k q (it (owns k) o) (it_found (owns k) o)).1) (λ b new f. whole_source k f))
+      (subst (IsWhole h.kind) (sym (long ∙ it_slot (owns k) o)) (whole_slot h k q (it (owns k) o) (it_found (owns k) o)).1) (λ b new f. whole_source k f))
 
   pub freed_by : {n : Heap} → AreTables g.classes (tables_in n) → IsFramed h.kind n → AreBelowLimit n.proxies → (moved : Option Handle)
       → is_some moved ≡ moves → Left g c a moved n → (freed : Freed) → freed.slot_words ≡ get_or h.classes.sizes c 0 → freed.moved ≡ moved → FreesBy h q freed n

@@ -34,18 +34,16 @@ pub record ChangesBy (h : Heap) (asked : Request) (done : Resized) (m : Heap) : 
 
 module _ {h : Heap} (k : IsValid h) {x : Change} (is : IsChange h x) {b : ℕ} {n : Heap} (en : EntersAt h x b n) (moves : Bool)
     (due : IsTrue moves ↔ MustMoveInto (owner_in h) x.place x.class) where
-  size_is : get_or n.classes.sizes x.class 0 ≡ old_words h x
-  size_is = ap (λ (t : ClassTable). get_or t.sizes x.class 0) en.classes
-
-  pub may_leave : MayLeave h.kind (parts_of n) (slot x.class x.place) moves
-  may_leave = record {
+  pub may_leave : {words : ℕ} → words ≡ old_words h x → MayLeave h.kind (parts_of n) (slot words x.class x.place) moves
+  may_leave {words} long = record {
     tables = subst (λ (t : ClassTable). AreTables t (tables_in n)) (sym en.classes) en.tables;
     used = old_used k is en;
     class = (let l = class_listed (owns k) is.object in let e = ap (λ (t : ClassTable). length t.sizes) en.classes in omega arith);
-    inside = (let i = it_inside (owns k) is.object in let l = entered_long k is en in let e = size_is in omega arith);
+    words = long ∙ sym (ap (λ (t : ClassTable). get_or t.sizes x.class 0) en.classes);
+    inside = (let i = it_inside (owns k) is.object in let l = entered_long k is en in omega arith);
     handles = en.handles;
     whole = (whole_slot h k x.handle.0 (object k is en) (found k is en)).0;
-    whole_words = subst (IsWhole h.kind) (sym (size_is ∙ it_slot (owns k) is.object)) (whole_slot h k x.handle.0 (object k is en) (found k is en)).1;
+    whole_words = subst (IsWhole h.kind) (sym (long ∙ it_slot (owns k) is.object)) (whole_slot h k x.handle.0 (object k is en) (found k is en)).1;
     some = λ t. filled.some_fills k is en (due.0 t);
     mover = λ t from new fills tables. (
         let f : filled.Refills h x b n from new =
@@ -54,8 +52,8 @@ module _ {h : Heap} (k : IsValid h) {x : Change} (is : IsChange h x) {b : ℕ} {
         let number : filled.r f ≡ get_or n.words from 0 % 2 ^ 32 - 0 = omega arith in
         record {
           header = filled.place_in f;
-          source = (let s = filled.source_in f in let e = size_is in omega arith);
-          apart = subst (λ w. (from + w ≤ x.place) ⊎ (x.place + w ≤ from)) (sym size_is) (filled.slots_apart f);
+          source = (let s = filled.source_in f in omega arith);
+          apart = subst (λ w. (from + w ≤ x.place) ⊎ (x.place + w ≤ from)) (sym long) (filled.slots_apart f);
           whole = filled.whole_source f;
           first = omega arith;
           live = subst (λ j. IsSome (get n.proxies.places j)) number (filled.live_still f);

@@ -28,7 +28,7 @@ use Rattle.page_slots.specs.Leaving.{Leaves, Parts, leaving_steps}
 use Rattle.paged_heap.proofs.LeftSlot.{parts_of, slot}
 use Rattle.paged_heap.specs.Heap.{Heap}
 use Rattle.paged_heap.specs.Layout.{IsValid, held_in, order_in, paging_at, state_of, tables_in, owner_in}
-use Rattle.paged_heap.specs.ResizeClass.{EntersAt, IsChange, changing_cost, entering_cost, kept_words}
+use Rattle.paged_heap.specs.ResizeClass.{EntersAt, IsChange, changing_cost, entering_cost, kept_words, old_words}
 use Rattle.paged_heap.specs.declared.resize_class.Change.{Change}
 use Rattle.paged_heap.proofs.CostLemmas.{leaving_is, takes_by}
 use Rattle.paged_heap.proofs.CountLimits.{page_small}
@@ -63,15 +63,16 @@ module _ {h : Heap} (k : IsValid h) {x : Change} (is : IsChange h x) where
     used_of = (it_used (owns k) is.object).of
 
     -- the steps if then the old slot is left (`leave_slot`)
-    pub left_sum : (m : Parts) (r : Option Handle) → Leaves (parts_of n) (slot x.class x.place) r m → (s t u : ℕ) → RoseBy s t (entering_cost h x)
-        → RoseBy t u (leaving_steps n.kind (parts_of n) (slot x.class x.place) r) → RoseBy s u (entering_cost h x + leaving_cost (state_of h) (order_in h) (it (owns k) is.object) r)
-    left_sum m r left s t u r1 r2 =
+    pub left_sum : {words : ℕ} → words ≡ old_words h x → (m : Parts) (r : Option Handle) → Leaves (parts_of n) (slot words x.class x.place) r m → (s t u : ℕ)
+        → RoseBy s t (entering_cost h x) → RoseBy t u (leaving_steps n.kind (parts_of n) (slot words x.class x.place) r)
+        → RoseBy s u (entering_cost h x + leaving_cost (state_of h) (order_in h) (it (owns k) is.object) r)
+    left_sum {words} long m r left s t u r1 r2 =
         let drop = drop_keeps h.classes (tables_in h) (tables_in n) (tables_ok h k) en.tables x.to b in_to en.taken x.class differ (page_at h.classes x.place) used_of in
         let fill = fill_keeps h.classes (tables_in h) (tables_in n) (tables_ok h k) en.tables x.to b in_to en.taken x.class differ in
-        let same = leaving_is k is.object n en.kind en.classes drop fill r (front r left) in
+        let same = leaving_is k is.object long n en.kind en.classes drop fill r (front r left) in
         rose_by s u _ _ (ap (λ n. entering_cost h x + n) same) (rose_both s t u _ _ r1 r2)
       where
-        front : (r : Option Handle) → Leaves (parts_of n) (slot x.class x.place) r m → IsSome r → (page : ℕ) × (slice_get (pages_in h.lists x.class NotFull) 0 ≡ Some page)
+        front : (r : Option Handle) → Leaves (parts_of n) (slot words x.class x.place) r m → IsSome r → (page : ℕ) × (slice_get (pages_in h.lists x.class NotFull) 0 ≡ Some page)
         front None left none = absurd (false≢true none)
         front (Some y) left some = (
           left.filled.page,

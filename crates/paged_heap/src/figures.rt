@@ -22,7 +22,7 @@ impl OpenHeap {
     }
 
     /// The number of pages of class c, full or partly full.
-    pub fn pages_of<A: Mapping>(&self, c: u32) -> u32
+    fn pages_of<A: Mapping>(&self, c: u32) -> u32
         requires kept { Holds A.kind self.now }
         requires class { c < classes (paging_at (seen A.kind self.now)) }
         ensures { result ≡ pages_of_class (paging_at (seen A.kind self.now)) (held_in (seen A.kind self.now)) c }
@@ -31,7 +31,7 @@ impl OpenHeap {
     }
 
     /// The number of partly full pages of class c.
-    pub fn not_full<A: Mapping>(&self, c: u32) -> u32
+    fn not_full<A: Mapping>(&self, c: u32) -> u32
         requires kept { Holds A.kind self.now }
         requires class { c < classes (paging_at (seen A.kind self.now)) }
         ensures { result ≡ not_full_pages (paging_at (seen A.kind self.now)) (held_in (seen A.kind self.now)) c }
@@ -39,7 +39,7 @@ impl OpenHeap {
         self.lists.len(c, Which::NotFull)
     }
 
-    /// The number of free pages.
+    /// The number of pages in the pool, which are free.
     pub fn free_pages<A: Mapping>(&self) -> u32
         requires { Holds A.kind self.now }
         ensures value { result ≡ free_pages (paging_at (seen A.kind self.now)) (held_in (seen A.kind self.now)) }
@@ -48,7 +48,11 @@ impl OpenHeap {
         self.tables.pool.left()
     }
 
+<<<<<<< HEAD
     /// With pages, the figures of class c; none if there is no such class.
+=======
+    /// The figures of class c of an open heap with pages; none if there is no such class.
+>>>>>>> 2ada9b3687de5929bb679a4b0980e2a842adb42c
     pub fn figures<A: Mapping>(&self, c: u32) -> Option<Figures>
         requires { Holds A.kind self.now }
         ensures { result ≡ if nat_lt c (classes (paging_at (seen A.kind self.now)))
@@ -61,7 +65,7 @@ impl OpenHeap {
         }
     }
 
-    /// The figures of class c, which must be one of the heap's classes.
+    /// The figures that `figures` returns for class c, which must be one of the heap's classes.
     fn figures_of<A: Mapping>(&self, c: u32) -> Figures
         requires kept { Holds A.kind self.now }
         requires class { c < classes (paging_at (seen A.kind self.now)) }
@@ -76,7 +80,11 @@ impl OpenHeap {
         }
     }
 
+<<<<<<< HEAD
     /// The figures of the whole heap with pages.
+=======
+    /// The figures of an open heap with pages as a whole.
+>>>>>>> 2ada9b3687de5929bb679a4b0980e2a842adb42c
     pub fn totals<A: Mapping>(&self) -> Totals
         requires { Holds A.kind self.now }
         ensures { result ≡ totals_of (paging_at (seen A.kind self.now)) (held_in (seen A.kind self.now)) }

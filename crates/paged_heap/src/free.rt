@@ -90,6 +90,7 @@ impl OpenHeap {
         let slot = LeftSlot {
             class: c,
             place,
+            words: slot_words,
             first: 0,
         };
         let moved = self.tables.leave_slot::<A>(

@@ -20,11 +20,11 @@ use region::Region;
 use std::alloc::Global;
 use virtual_words::Mapping;
 
-/// An open heap. By class, `bounds` is how many pages may be partly full, and `live` the number of
-/// live objects. `asked` and `taken` are the bytes of all objects and of their slots. `cost` is the
-/// steps of the last malloc, free or resize, 0 before the first. `blocks` is the block table, which
-/// only the non-moving manager has. `tables` has the slot sizes, the used slots of each page and the
-/// free pages, `lists` the pages of each class, and `proxies` the objects' addresses by number.
+/// An open heap with pages. By class, `bounds` is how many pages may be partly full, and `live` the
+/// number of live objects. `asked` and `taken` are the bytes of all objects and of their slots. `cost`
+/// is the steps of the last malloc, free or resize, 0 before the first. `blocks` is the block table,
+/// which only the non-moving manager has. `tables` has the slot sizes, the used slots of each page and
+/// the free pages, `lists` the pages of each class, and `proxies` the objects' addresses by number.
 #[derive(Drop)]
 pub struct OpenHeap {
     pub settings: Settings,
@@ -61,7 +61,11 @@ impl OpenHeap {
         Ok(OpenHeap::empty::<A>(s, region, blocks, tables, lists, proxies))
     }
 
+<<<<<<< HEAD
     /// The memory that `OpenHeap::new` with pages asks for.
+=======
+    /// The memory that `OpenHeap::new` asks for.
+>>>>>>> 2ada9b3687de5929bb679a4b0980e2a842adb42c
     pub(crate) fn bytes_needed(s: &Settings, layout: Layout) -> BytesNeeded
         ensures needed { result ≡ open_bytes (profile_of s.now) layout }
         ensures few { result.total < 2 ^ 44 }
@@ -73,7 +77,7 @@ impl OpenHeap {
         words.and(lists.and(ProxyTable::bytes_needed(s.proxies)))
     }
 
-    /// Makes an open heap of these parts, each without objects.
+    /// Makes an open heap of this region and these tables, lists and proxies, each without objects.
     fn empty<A: Mapping>(
         s: &Settings,
         region: Region,

@@ -34,8 +34,8 @@ pub(crate) struct Change {
 }
 
 impl Change {
-    /// The number of words that the kept bytes fill, without the header. The kept bytes are those
-    /// that both the old and the new length have.
+    /// The number of words that the kept bytes of a resize fill, without the header. The kept bytes are
+    /// those that both the old and the new length have.
     fn words(self) -> u32
         ensures { result ≡ kept_words self }
     {
@@ -72,6 +72,7 @@ impl OpenHeap {
         let slot = LeftSlot {
             class: x.class,
             place: x.place,
+            words: old_slot_words,
             first: 0,
         };
         let moved = self.tables.leave_slot::<A>(

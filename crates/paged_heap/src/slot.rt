@@ -14,7 +14,7 @@ use step_ledger::Steps;
 use virtual_words::Mapping;
 
 impl OpenHeap {
-    /// The words of an object's slot; none if the handle is not live.
+    /// The number of words of an object's slot; none if the handle is not live.
     pub fn slot_words<A: Mapping>(&self, h: Handle, steps: &mut Steps) -> Option<u32>
         requires { Holds A.kind self.now }
         ensures value { result ≡ option_map (slot_in A.kind (state_at A.kind self.now)) (map.get (state_at A.kind self.now).held h.0) }
@@ -30,7 +30,11 @@ impl OpenHeap {
         Some(self.tables.classes.slot_words(c))
     }
 
+<<<<<<< HEAD
     /// With pages, the class of an object of `bytes` bytes; none if it needs more than a page. Costs one step.
+=======
+    /// The class of the slot for `bytes` bytes; none if they need more than a page. Costs one step.
+>>>>>>> 2ada9b3687de5929bb679a4b0980e2a842adb42c
     pub fn class_of<A: Mapping>(&self, bytes: u32, steps: &mut Steps) -> Option<u32>
         requires { Holds A.kind self.now }
         ensures value { result ≡ class_of (paging_in (state_at A.kind self.now)).sizes bytes }

@@ -24,12 +24,12 @@ use Rattle.page_slots.specs.Tables.{AreTables, Tables, page_at, slot_at}
 use Rattle.page_slots.proofs.CallerLemmas.{filled_occupied, filled_part, vacated_occupied, vacated_part, held, it, it_found, it_class, it_slot}
 use Rattle.page_slots.proofs.CallerLemmas.{page_same, slot_same, moving, Fills, must_fill, other_fills, kept_tables, other, other_object}
 use Rattle.page_slots.proofs.CallerLemmas.{other_found, other_at, other_known, other_may, other_moved, same_slot}
-use Rattle.proxy_table.specs.Proxies.{Proxies}
+use Rattle.proxy_table.specs.Proxies.{Proxies, without_place}
 use Rattle.quota_model.specs.Joined.{AreNumbers, joined, places_at}
 use Rattle.quota_model.proofs.CallerLemmas.{joined_insert, joined_remove, moved_image, numbers_set, removed_image}
 use Rattle.quota_model.specs.Parts.{key_of, objects_of_task}
 use Rattle.quota_model.proofs.CallerLemmas.{found_whole}
-use Rattle.quota_heap.specs.Calls.{IsRemoved, parts_without, slot_of}
+use Rattle.quota_heap.specs.Calls.{IsRemoved, parts_of, parts_without, slot_of}
 use Rattle.quota_heap.specs.Layout.{ArePages, IsTask, IsTaskIn, IsValid, held_in, held_of, paging_at, places_of, state_of, tables_of, as_owner}
 use Rattle.quota_heap.specs.Steps.{FreesOfTask}
 use Rattle.quota_heap.specs.declared.shared_pages.SharedPages.{SharedPages}
@@ -99,9 +99,17 @@ number_read {g} k {t} {x} i lt b new f =
     low : (v l : ℕ) → v < 2 ^ 32 → header_word v l % 2 ^ 32 ≡ v
     low v l lt = omega arith
 
+-- what `leave_slot` does to the task's parts, from what it does with the words that were read, once the number is released
+pub left_by : (g : SharedPages) (x : Task) {q words : ℕ} {p : Proxies} (t c a : ℕ) (moved : Option Handle) (new : Parts)
+    → words ≡ get_or g.tables.classes.sizes c 0 → p ≡ without_place x.proxies q → Leaves (record (parts_of g x) { proxies = p }) (record (slot_of g t c a) { words = words }) moved new
+    → Leaves (parts_without g x q) (slot_of g t c a) moved new
+left_by g x {q} {words} {p} t c a moved new long gone left =
+    subst (λ n. Leaves (parts_without g x q) (record (slot_of g t c a) { words = n }) moved new) long
+    (subst (λ o. Leaves (record (parts_of g x) { proxies = o }) (record (slot_of g t c a) { words = words }) moved new) gone left)
+
 -- the pool has at most the free pages of before and the pages of the task, whether or not another object moved
 pub left_account : {g : SharedPages} (k : ArePages g) {t : ℕ} {x : Task} (i : IsTask g t x) {q a size c : ℕ} (o : IsObjectAt (as_owner g x) q a size c)
-    (moved : Option Handle) → (IsSome moved ↔ MustMoveInto (as_owner g x) a c) → (new : Parts) → Leaves (parts_without g x q) (slot_of t c a) moved new
+    (moved : Option Handle) → (IsSome moved ↔ MustMoveInto (as_owner g x) a c) → (new : Parts) → Leaves (parts_without g x q) (slot_of g t c a) moved new
     → AreTables g.tables.classes new.tables → length new.tables.pool.free ≤ x.pages + length g.tables.pool.free
 left_account k i o None due new left tables = vacated_account k i o new.tables tables left.freed
 left_account k i o (Some r) due new left tables = filled_account k i (filling k i o (due.0 refl) left.filled tables)
@@ -109,7 +117,7 @@ left_account k i o (Some r) due new left tables = filled_account k i (filling k 
 -- a free of task t from heap h to heap n, which moves no other object
 module _ (h n : OpenTasks) (k : IsValid h) (t : ℕ) (x x' : Task) (at : IsTaskIn h t x) (tasks : n.tasks.items ≡ set h.tasks.items t x')
     (granted : n.granted ≡ h.granted) (q a size c : ℕ)
-    (o : IsObjectAt (as_owner h.shared_pages x) q a size c) (go : IsRemoved h.shared_pages x q (slot_of t c a) None n.shared_pages x') where
+    (o : IsObjectAt (as_owner h.shared_pages x) q a size c) (go : IsRemoved h.shared_pages x q (slot_of h.shared_pages t c a) None n.shared_pages x') where
   abbrev i : IsTask h.shared_pages t x
   i = k.task t x at
 
@@ -150,7 +158,7 @@ module _ (h n : OpenTasks) (k : IsValid h) (t : ℕ) (x x' : Task) (at : IsTaskI
 -- a free of task t from heap h to heap n, which moves the object of handle v to the freed slot
 module _ (h n : OpenTasks) (k : IsValid h) (t : ℕ) (x x' : Task) (at : IsTaskIn h t x) (tasks : n.tasks.items ≡ set h.tasks.items t x')
     (granted : n.granted ≡ h.granted) (q a size c : ℕ) (v : Handle)
-    (o : IsObjectAt (as_owner h.shared_pages x) q a size c) (fi : IsRemoved h.shared_pages x q (slot_of t c a) (Some v) n.shared_pages x') where
+    (o : IsObjectAt (as_owner h.shared_pages x) q a size c) (fi : IsRemoved h.shared_pages x q (slot_of h.shared_pages t c a) (Some v) n.shared_pages x') where
   abbrev i' : IsTask h.shared_pages t x
   i' = k.task t x at
 
@@ -250,15 +258,15 @@ module _ (h n : OpenTasks) (k : IsValid h) (t : ℕ) (x x' : Task) (at : IsTaskI
 -- a free of task t from heap h to heap n, whether or not another object moved
 module _ (h n : OpenTasks) (k : IsValid h) (t : ℕ) (x x' : Task) (at : IsTaskIn h t x) (tasks : n.tasks.items ≡ set h.tasks.items t x')
     (granted : n.granted ≡ h.granted) (q a size c : ℕ) (o : IsObjectAt (as_owner h.shared_pages x) q a size c) where
-  pub removed_kept : (moved : Option Handle) → IsRemoved h.shared_pages x q (slot_of t c a) moved n.shared_pages x' → IsValid n
+  pub removed_kept : (moved : Option Handle) → IsRemoved h.shared_pages x q (slot_of h.shared_pages t c a) moved n.shared_pages x' → IsValid n
   removed_kept None go = alone_kept h n k t x x' at tasks granted q a size c o go
   removed_kept (Some r) go = filled_kept h n k t x x' at tasks granted q a size c r o go
 
-  pub removed_freed : (freed : Freed) → IsRemoved h.shared_pages x q (slot_of t c a) freed.moved n.shared_pages x'
+  pub removed_freed : (freed : Freed) → IsRemoved h.shared_pages x q (slot_of h.shared_pages t c a) freed.moved n.shared_pages x'
       → freed.slot_words ≡ get_or h.shared_pages.tables.classes.sizes c 0 → FreesOfTask (state_of h) t q freed (state_of n)
   removed_freed freed go words = by freed.moved refl go
     where
-      by : (moved : Option Handle) → freed.moved ≡ moved → IsRemoved h.shared_pages x q (slot_of t c a) moved n.shared_pages x'
+      by : (moved : Option Handle) → freed.moved ≡ moved → IsRemoved h.shared_pages x q (slot_of h.shared_pages t c a) moved n.shared_pages x'
           → FreesOfTask (state_of h) t q freed (state_of n)
       by None is go = alone_freed h n k t x x' at tasks granted q a size c o go freed words (ap number_of is)
       by (Some r) is go = filled_freed h n k t x x' at tasks granted q a size c r o go freed words (ap number_of is)

@@ -144,8 +144,8 @@ module _ (h : OpenTasks) (k : IsValid h) (t : ℕ) (x : Task) (at : IsTaskIn h t
     found : get (held_by (state_of h) t) q ≡ Some (it (owns k.shared_pages i) o)
     found = ap (λ m. get m q) (part_is h k t x at) ∙ it_found (owns k.shared_pages i) o
 
-    leaves_by : (moved : Option Handle) (g' : SharedPages) (x' : Task) → IsRemoved h.shared_pages x q (slot_of t c a) moved g' x'
-        → 2 + leaving_steps Moving (parts_without h.shared_pages x q) (slot_of t c a) moved
+    leaves_by : (moved : Option Handle) (g' : SharedPages) (x' : Task) → IsRemoved h.shared_pages x q (slot_of h.shared_pages t c a) moved g' x'
+        → 2 + leaving_steps Moving (parts_without h.shared_pages x q) (slot_of h.shared_pages t c a) moved
         ≡ 2 + slot_for (paging_at h.shared_pages) (length (it (owns k.shared_pages i) o).bytes) + leaving_cost (state_of h) t (it (owns k.shared_pages i) o) moved
     leaves_by None g' x' removed =
         let slot = it_slot (owns k.shared_pages i) o in
@@ -162,13 +162,13 @@ module _ (h : OpenTasks) (k : IsValid h) (t : ℕ) (x : Task) (at : IsTaskIn h t
         omega arith
 
     -- the steps of a free's parts sum to its exact cost
-    pub free_sum : (freed : Freed) (g' : SharedPages) (x' : Task) → IsRemoved h.shared_pages x q (slot_of t c a) freed.moved g' x' → (s u v : ℕ) → RoseBy s u 3
-        → RoseBy u v (3 + leaving_steps Moving (parts_without h.shared_pages x q) (slot_of t c a) freed.moved) → RoseBy s v (free_cost (state_of h) t q (Ok freed))
+    pub free_sum : (freed : Freed) (g' : SharedPages) (x' : Task) → IsRemoved h.shared_pages x q (slot_of h.shared_pages t c a) freed.moved g' x' → (s u v : ℕ) → RoseBy s u 3
+        → RoseBy u v (3 + leaving_steps Moving (parts_without h.shared_pages x q) (slot_of h.shared_pages t c a) freed.moved) → RoseBy s v (free_cost (state_of h) t q (Ok freed))
     free_sum freed g' x' removed s u v first more =
         let is : free_cost (state_of h) t q (Ok freed) ≡ 6 + slot_for (paging_at g) (length y.bytes) + leaving_cost (state_of h) t y freed.moved =
         ap (λ (m : Option Placed). elim m [ None ↦ 0 | Some z ↦ 6 + slot_for (paging_at g) (length z.bytes) + leaving_cost (state_of h) t z freed.moved ]) found in
         let leaves = leaves_by freed.moved g' x' removed in
-        rose_by s v (3 + (3 + leaving_steps Moving (parts_without h.shared_pages x q) (slot_of t c a) freed.moved)) (free_cost (state_of h) t q (Ok freed)) (omega arith)
+        rose_by s v (3 + (3 + leaving_steps Moving (parts_without h.shared_pages x q) (slot_of h.shared_pages t c a) freed.moved)) (free_cost (state_of h) t q (Ok freed)) (omega arith)
         (rose_both s u v 3 _ first more)
 
 -- ---- bounds

@@ -55,8 +55,8 @@ abbrev pub parts_without : SharedPages → Task → ℕ → Parts
 parts_without g x q = record (parts_of g x) { proxies = without_place x.proxies q }
 
 -- the slot of class c at the address `place`; the headers of task t hold the keys of its objects
-abbrev pub slot_of : ℕ → ℕ → ℕ → LeftSlot
-slot_of t c place = record { class = c; place = place; first = t * 65536 }
+abbrev pub slot_of : SharedPages → ℕ → ℕ → ℕ → LeftSlot
+slot_of g t c place = record { class = c; place = place; words = slice_index g.tables.classes.sizes c; first = t * 65536 }
 
 -- what `free_inner` does: it removes object q, which is in the slot s, from task x; and moves another object into that slot if and only if the slot must be
 -- filled

@@ -31,9 +31,9 @@ impl SharedPages {
         requires sixteen { t < 16 }
         requires few { task.old.pages ≤ 4096 }
         requires object { IsObjectAt (as_owner self.old task.old) h.0 x.place x.length x.class }
-        ensures removed { IsRemoved self.old task.old h.0 (slot_of t x.class x.place) result.moved self.new task.new }
+        ensures removed { IsRemoved self.old task.old h.0 (slot_of self.old t x.class x.place) result.moved self.new task.new }
         ensures slot { result.slot_words ≡ slice_index self.old.tables.classes.sizes x.class }
-        ensures steps { RoseBy steps.old steps.new (3 + leaving_steps Moving (parts_without self.old task.old h.0) (slot_of t x.class x.place) result.moved) }
+        ensures steps { RoseBy steps.old steps.new (3 + leaving_steps Moving (parts_without self.old task.old h.0) (slot_of self.old t x.class x.place) result.moved) }
     {
         let slot_words = self.tables.classes.slot_words(x.class);
         let left = self.tables.pool.left();
@@ -45,6 +45,7 @@ impl SharedPages {
         let slot = LeftSlot {
             class: x.class,
             place: x.place,
+            words: slot_words,
             first: t * NUMBERS,
         };
         let moved = self.tables.leave_slot::<Direct>(

@@ -52,9 +52,9 @@ impl QuotaHeap {
         QuotaHeap { alloc, inner: None }
     }
 
-    /// Opens the heap with the settings `s`; an open heap is closed first. No task has an object, and all
-    /// quotas are 0. Each task gets as many proxies of its own as `s` has. Each class of a task has bound
-    /// 1, whatever bound `s` has. Fails if out of memory; the heap is closed then.
+    /// Opens the heap of tasks with the settings `s`; an open heap is closed first. No task has an object,
+    /// and all quotas are 0. Each task gets as many proxies of its own as `s` has. Each class of a task has
+    /// bound 1, whatever bound `s` has. Fails if out of memory; the heap is closed then.
     pub fn open_heap(&mut self, s: &Settings) -> Result<(), OutOfMemory>
         ensures opened { IfOk result (λ done. self.new ≡ empty_state (profile_of s.now)) }
         ensures kept { IfOk result (λ done. KeepsTasks self.new) }
@@ -65,8 +65,13 @@ impl QuotaHeap {
         Ok(())
     }
 
+<<<<<<< HEAD
     /// The memory that opening a heap of tasks asks for. The bytes of the `QuotaHeap` itself, which its owner keeps,
     /// aren't counted.
+=======
+    /// The memory that `QuotaHeap::open_heap` asks for. The bytes of the `QuotaHeap` itself, which its owner
+    /// keeps, aren't counted.
+>>>>>>> 2ada9b3687de5929bb679a4b0980e2a842adb42c
     pub fn bytes_needed(s: &Settings) -> BytesNeeded
         ensures needed { result ≡ quota_bytes (profile_of s.now) }
         ensures few { result.total < 2 ^ 44 }
@@ -74,8 +79,13 @@ impl QuotaHeap {
         OpenTasks::bytes_needed(s)
     }
 
+<<<<<<< HEAD
     /// Returns whether the heap of tasks is open. In an open heap no page has objects of two tasks, and no task uses
     /// more pages than its quota (`KeepsTasks`).
+=======
+    /// Returns whether the heap of tasks is open. In an open heap no page has objects of two tasks, and no
+    /// task uses more pages than its quota (`KeepsTasks`).
+>>>>>>> 2ada9b3687de5929bb679a4b0980e2a842adb42c
     pub fn is_open(&self) -> bool
         ensures value { result ≡ self.now.is_open }
         ensures rules { IsTrue result → KeepsTasks self.now }
@@ -83,7 +93,7 @@ impl QuotaHeap {
         self.inner.is_some()
     }
 
-    /// The settings with which the heap was opened.
+    /// The settings with which the heap of tasks was opened.
     pub fn settings(&self) -> Settings
         requires { IsTrue self.now.is_open }
         ensures { profile_of result ≡ self.now.profile }
@@ -132,7 +142,7 @@ impl QuotaHeap {
         }
     }
 
-    /// The number of the region's pages less the sum of all quotas.
+    /// The number of pages that no task has as quota: the region's pages less the sum of all quotas.
     pub fn unassigned(&self) -> u32
         requires opened { IsTrue self.now.is_open }
         ensures { result + sum self.now.quotas ≡ self.now.profile.pages }
@@ -143,9 +153,9 @@ impl QuotaHeap {
         }
     }
 
-    /// Sets the quota of a task to `pages` pages. If it fails, nothing changes. The causes, tested in this
-    /// order: `Sum`, the quotas of all tasks would sum to more pages than the region has; `Used`, the task
-    /// already uses more than `pages` pages.
+    /// Sets the quota of a task to `pages` pages, if the region has them and the task uses no more. If it
+    /// fails, nothing changes. The causes, tested in this order: `Sum`, the quotas of all tasks would sum to
+    /// more pages than the region has; `Used`, the task already uses more than `pages` pages.
     pub fn set_quota(&mut self, task: u32, pages: u32) -> Result<(), QuotaFault>
         requires opened { IsTrue self.old.is_open }
         requires sixteen { task < 16 }
@@ -269,7 +279,11 @@ impl QuotaHeap {
         }
     }
 
+<<<<<<< HEAD
     /// Returns the word of the tasks' region with the number `word`, or `None` past the region's end.
+=======
+    /// Returns word number `word` of the region of the heap of tasks, or `None` past the region's end.
+>>>>>>> 2ada9b3687de5929bb679a4b0980e2a842adb42c
     pub fn peek(&self, word: u32, steps: &mut Steps) -> Option<u64>
         requires opened { IsTrue self.now.is_open }
         requires room { steps.old ≤ 2 ^ 63 }

@@ -117,7 +117,7 @@ impl OpenTasks {
         task.proxies.live()
     }
 
-    /// The number of the region's pages less the sum of all quotas.
+    /// The number of the region's pages less `granted`, the sum of all quotas.
     pub(crate) fn unassigned(&self) -> u32
         requires kept { IsValid self.now }
         ensures { result + sum (state_of self.now).quotas ≡ self.now.shared_pages.settings.pages }
@@ -332,7 +332,11 @@ impl OpenTasks {
         }
     }
 
+<<<<<<< HEAD
     /// Returns the word of the region of `OpenTasks` with the number `word`, or `None` past the region's end.
+=======
+    /// Returns word number `word` of the region that the tasks share, or `None` past its end.
+>>>>>>> 2ada9b3687de5929bb679a4b0980e2a842adb42c
     pub(crate) fn peek(&self, word: u32, steps: &mut Steps) -> Option<u64>
         ensures value { result ≡ slice_get self.now.shared_pages.region word }
         ensures steps { RoseBy steps.old steps.new (peek_steps result) }

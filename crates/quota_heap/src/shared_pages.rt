@@ -70,7 +70,8 @@ impl SharedPages {
         })
     }
 
-    /// The length of object `h` of a task in bytes. `None` if the handle is not live in this task.
+    /// Reads the length in bytes of object `h` of a task from its header. `None` if the handle is not live in
+    /// this task.
     pub(crate) fn length(&self, task: &Task, h: Handle, steps: &mut Steps) -> Option<u32>
         requires shared_pages { ArePages self.now }
         requires kept { (t : ℕ) × IsTask self.now t task.now }

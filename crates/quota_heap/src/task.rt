@@ -12,14 +12,14 @@ use proxy_table::ProxyTable;
 use std::alloc::Global;
 use std::mem::size_of;
 
-/// The number of tasks.
+/// The number of tasks that a heap of tasks has.
 pub(crate) const TASKS: u32 = 16;
 
 /// A task numbers its objects below this. The header of object h of task t has the number
 /// `t * NUMBERS + h`.
 pub(crate) const NUMBERS: u32 = 65_536;
 
-/// A task.
+/// What each task has for itself.
 #[derive(Drop)]
 pub(crate) struct Task {
     /// The most pages that the task may use.

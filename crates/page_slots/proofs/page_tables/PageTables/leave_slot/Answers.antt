@@ -2,10 +2,7 @@
 use Rattle.std.proofs.Common.{◌%◌, ◌^◌, ◌-◌, arith, refl, sym, ◌∙◌, ap, subst}
 use Rattle.std.specs.Prelude.{IsSome}
 use Rattle.std.specs.FinMap.{get}
-use Rattle.page_model.specs.Image.{Clears, IsDisjoint}
 use Rattle.virtual_words.proofs.CallerLemmas.{laid_long}
-use Rattle.virtual_words.specs.Words.{words_of}
-use Rattle.page_slots.specs.Leaving.{MovesSlot, parts}
 use Rattle.page_slots.proofs.page_tables.PageTables.leave_slot.Goals as goal
 
 pub read-requires-clause-within : goal.read-requires-clause-within
@@ -24,19 +21,16 @@ pub move_slot-requires-clause-source : goal.move_slot-requires-clause-source
 move_slot-requires-clause-source g c =
     let may = c.requires.may.mover c.if-moves.true _ _ c.fill_slot-from.ensures.filled c.fill_slot-from.ensures.kept in
     let in_words = may.source in let long = laid_long g.A.Mapping.kind c.args.blocks.now c.args.region.now c.requires.laid in
-    let size = c.slot_words-slot_words.ensures.value in
     omega arith
 
 pub move_slot-requires-clause-target : goal.move_slot-requires-clause-target
 move_slot-requires-clause-target g c =
     let inside = c.requires.may.inside in let long = laid_long g.A.Mapping.kind c.args.blocks.now c.args.region.now c.requires.laid in
-    let size = c.slot_words-slot_words.ensures.value in
     omega arith
 
 pub move_slot-requires-clause-apart : goal.move_slot-requires-clause-apart
 move_slot-requires-clause-apart g c =
-    let may = c.requires.may.mover c.if-moves.true _ _ c.fill_slot-from.ensures.filled c.fill_slot-from.ensures.kept in
-    subst (λ n. IsDisjoint c.fill_slot-from.result n c.args.s.place n) (sym c.slot_words-slot_words.ensures.value) may.apart
+    (c.requires.may.mover c.if-moves.true _ _ c.fill_slot-from.ensures.filled c.fill_slot-from.ensures.kept).apart
 
 pub move_slot-requires-clause-whole_source : goal.move_slot-requires-clause-whole_source
 move_slot-requires-clause-whole_source g c =
@@ -51,27 +45,23 @@ rebind-requires g c =
 pub clear-requires-clause-within : goal.clear-requires-clause-within
 clear-requires-clause-within g c =
     let inside = c.requires.may.inside in let long = laid_long g.A.Mapping.kind c.args.blocks.now c.args.region.now c.requires.laid in
-    let size = c.slot_words-slot_words.ensures.value in
     omega arith
 
 pub returns-then-moves-clause-left : goal.returns-then-moves-clause-left
 returns-then-moves-clause-left g c =
     let kind = g.A.Mapping.kind in
-    let old = parts kind c.args.self.now c.args.lists.now c.args.proxies.now (record { blocks = c.args.blocks.now; region = c.args.region.now }) in
-    let new = parts kind c.fill_slot-from.new.self c.fill_slot-from.new.lists c.rebind.new.self
-    (record { blocks = c.move_slot.new.blocks; region = c.move_slot.new.region }) in
     record {
       from = c.fill_slot-from.result;
       filled = c.fill_slot-from.ensures.filled;
       number = ap (λ n. n - c.args.s.first) (c.unpack-header.ensures.number ∙ ap (λ w. w % 2 ^ 32) c.read.ensures.value);
       proxies = c.rebind.ensures.places;
       free = c.rebind.ensures.free;
-      moves = subst (MovesSlot old new c.fill_slot-from.result c.args.s.place) c.slot_words-slot_words.ensures.value (record {
+      moves = record {
         long = laid_long kind c.move_slot.new.blocks c.move_slot.new.region c.move_slot.ensures.laid ∙ c.move_slot.ensures.len
             ∙ sym (laid_long kind c.args.blocks.now c.args.region.now c.requires.laid);
         words = c.move_slot.ensures.words;
         frames = c.move_slot.ensures.frames;
-      });
+      };
     }
 
 pub returns-else-moves-clause-left : goal.returns-else-moves-clause-left
@@ -80,8 +70,7 @@ returns-else-moves-clause-left g c =
     record {
       freed = c.drop_slot.ensures.freed;
       proxies = refl;
-      words = subst (λ n. Clears (words_of kind blocks c.args.region.now) (words_of kind blocks c.clear.new.region) (record { from = c.args.s.place; count = n }))
-          c.slot_words-slot_words.ensures.value c.clear.ensures.words;
+      words = c.clear.ensures.words;
       long = laid_long kind blocks c.clear.new.region c.clear.ensures.laid ∙ c.clear.ensures.len ∙ sym (laid_long kind blocks c.args.region.now c.requires.laid);
       frames = refl;
     }

@@ -1,7 +1,6 @@
 -- The number is released, the object is taken out of the counts, and its slot is left.
 use Rattle.std.proofs.Common.{get_or, arith, refl, sym, ap, subst, ◌∙◌}
 use Rattle.proxy_table.specs.Proxies.{AreBelowLimit}
-use Rattle.virtual_words.specs.Words.{slot_steps}
 use Rattle.paged_heap.specs.declared.open_heap.OpenHeap.{OpenHeap}
 use Rattle.paged_heap.specs.Heap.{seen}
 use Rattle.paged_heap.proofs.ByKind.{framed_from, laid_same}
@@ -36,7 +35,7 @@ leave_slot-moved-requires-clause-may g c =
     let kind = g.A.Mapping.kind in let k = c.requires.kept.kept in let o = c.requires.object in
     let counted = ap (seen kind) c.count_out.ensures
     ∙ ap (λ p. record (taken_out (seen kind c.args.self.now) c.args.h.0 c.args.length c.args.c) { proxies = p }) c.release.ensures.places in
-    may_leave k o c.args.moves c.requires.due counted (subst AreBelowLimit (sym (ap (λ (x : OpenHeap). x.proxies) c.count_out.ensures)) c.release.ensures.kept)
+    may_leave k o c.args.moves c.requires.due counted c.slot_words-slot_words.ensures.value (subst AreBelowLimit (sym (ap (λ (x : OpenHeap). x.proxies) c.count_out.ensures)) c.release.ensures.kept)
 
 pub returns : goal.returns
 returns g c =
@@ -44,16 +43,16 @@ returns g c =
     let counted = ap (seen kind) c.count_out.ensures
     ∙ ap (λ p. record (taken_out (seen kind c.args.self.now) c.args.h.0 c.args.length c.args.c) { proxies = p }) c.release.ensures.places in
     let l = c.leave_slot-moved.ensures in let p = c.leave_slot-moved.new in
-    let left = left_by kind c.count_out.new.self p.self p.lists p.proxies (record { blocks = p.blocks; region = p.region }) l.classes l.left in
+    let size = c.slot_words-slot_words.ensures.value in
+    let same = ap (λ (x : OpenHeap). get_or x.tables.classes.sizes c.args.c 0) c.count_out.ensures in
+    let left = left_by kind c.count_out.new.self p.self p.lists p.proxies (record { blocks = p.blocks; region = p.region }) (size ∙ sym same) l.classes l.left in
     let by = freed_by k o c.args.moves c.requires.due counted l.tables (framed_from kind p.blocks p.region _ l.laid refl refl) l.handles
-    c.leave_slot-moved.result l.moved left _ c.slot_words-slot_words.ensures.value refl in
-    let size = ap (slot_steps kind) c.slot_words-slot_words.ensures.value in
-    let same = ap (λ (x : OpenHeap). slot_steps kind (get_or x.tables.classes.sizes c.args.c 0)) c.count_out.ensures in
+    c.leave_slot-moved.result l.moved left _ size refl in
     let a = c.release.ensures.steps in
     record {
       step = by.step;
       kept = record { laid = l.laid; kept = by.kept };
       choice = by.choice;
-      steps = record { kept = omega (arith, a.kept, l.most.kept); bound = omega (arith, size, same, a.bound, l.most.bound) };
-      cost = leaves_sum k o counted _ c.leave_slot-moved.result l.left _ _ _ a l.steps;
+      steps = record { kept = omega (arith, a.kept, l.most.kept); bound = omega (arith, a.bound, l.most.bound) };
+      cost = leaves_sum k o size counted _ c.leave_slot-moved.result l.left _ _ _ a l.steps;
     }

@@ -1,5 +1,5 @@
 -- The object enters its new class, and its old slot is left.
-use Rattle.std.proofs.Common.{get_or, arith, refl, rules, sym, ap, subst}
+use Rattle.std.proofs.Common.{get_or, arith, refl, rules, sym, ◌∙◌, ap, subst}
 use Rattle.std.specs.Prelude.{◌↔◌, IsTrue}
 use Rattle.page_slots.proofs.CallerLemmas.{page_there}
 use Rattle.page_slots.specs.Owner.{MustMoveInto}
@@ -39,23 +39,25 @@ returns-in_default g c =
 pub leave_slot-moved-requires-clause-may : goal.leave_slot-moved-requires-clause-may
 leave_slot-moved-requires-clause-may g c =
     let due : IsTrue c.must_move-moves.result ↔ MustMoveInto (owner_in (seen g.A.Mapping.kind c.args.self.now)) c.args.x.place c.args.x.class = search rules in
-    may_leave c.requires.kept.kept c.requires.change c.in-Some.ensures.entered c.must_move-moves.result due
+    may_leave c.requires.kept.kept c.requires.change c.in-Some.ensures.entered c.must_move-moves.result due c.slot_words-old_slot_words.ensures.value
 
 pub returns : goal.returns
 returns g c =
     let kind = g.A.Mapping.kind in let k = c.requires.kept.kept in let is = c.requires.change in let en = c.in-Some.ensures.entered in
     let due : IsTrue c.must_move-moves.result ↔ MustMoveInto (owner_in (seen kind c.args.self.now)) c.args.x.place c.args.x.class = search rules in
     let l = c.leave_slot-moved.ensures in let p = c.leave_slot-moved.new in
-    let left = left_by kind c.enter_class.new.self p.self p.lists p.proxies (record { blocks = p.blocks; region = p.region }) l.classes l.left in
+    let size = c.slot_words-old_slot_words.ensures.value in
+    let same = ap (λ (t : ClassTable). get_or t.sizes c.args.x.class 0) en.classes in
+    let left = left_by kind c.enter_class.new.self p.self p.lists p.proxies (record { blocks = p.blocks; region = p.region }) (size ∙ sym same) l.classes l.left in
     let by = changed_by k is en c.must_move-moves.result due l.tables (framed_from kind p.blocks p.region _ l.laid refl refl) l.handles
-    c.leave_slot-moved.result l.moved left _ c.slot_words-old_slot_words.ensures.value c.slot_words-slot_words.ensures.value refl in
-    let size = ap (λ (t : ClassTable). slot_steps kind (get_or t.sizes c.args.x.class 0)) en.classes in
+    c.leave_slot-moved.result l.moved left _ size c.slot_words-slot_words.ensures.value refl in
+    let most = ap (slot_steps kind) size in
     let m = c.must_move-moves.ensures.steps in let a = c.enter_class.ensures.steps in
     record {
       step = by.step;
       kept = record { laid = l.laid; kept = by.kept };
       cause = search rules;
       choice = by.choice;
-      steps = record { kept = omega (arith, m.kept, a.kept, l.most.kept); bound = omega (arith, size, m.bound, a.bound, l.most.bound) };
-      cost = rose_both _ _ _ _ _ m (left_sum k is en _ c.leave_slot-moved.result l.left _ _ _ (c.in-Some.ensures.cost refl) l.steps);
+      steps = record { kept = omega (arith, m.kept, a.kept, l.most.kept); bound = omega (arith, most, m.bound, a.bound, l.most.bound) };
+      cost = rose_both _ _ _ _ _ m (left_sum k is en size _ c.leave_slot-moved.result l.left _ _ _ (c.in-Some.ensures.cost refl) l.steps);
     }
