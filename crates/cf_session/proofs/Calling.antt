@@ -1,21 +1,13 @@
 -- For `set_bound`, which does command `k`: its step with and without live objects; no id is live if and only if no object is. For `push_steps`: the line
 -- that it builds is the reply to `steps`.
-use Rattle.std.proofs.Common.{Bool, ◌≡◌, ◌∙◌, ◌++◌, ℕ, true, false, List, Option, Some, None, refl, ap, sym, inl, inr, append_assoc}
-use Rattle.std.specs.Prelude.{◌⊎◌, codes, if◌then◌else◌, nat_eq, is_some}
+use Rattle.std.proofs.Common.{Bool, ◌≡◌, ◌∙◌, ◌++◌, ℕ, true, false, List, Option, Some, None, refl, ap, sym, inl, inr, append_assoc, ◌⊎◌, codes, if◌then◌else◌, nat_eq, is_some}
 use Rattle.std.specs.Ordering.{nat_cmp}
 use Rattle.std.specs.FinMap.{get, len, empty, empty_of_len, get-empty, len-empty}
-use Rattle.cf_base.specs.declared.kind.Kind.{Kind}
-use Rattle.cf_base.specs.declared.kind.Kind.TheVariants.{Moving, NonMoving}
+use Rattle.run_model.specs.Terms.{AreTied, Bound, HeapState, Held, IsGoing, KeepsRules, Kind, Moving, NonMoving, Placed, said, SessionState, with_bound, with_number}
 use Rattle.cf_lemmas.proofs.Maps.{equal_maps}
-use Rattle.page_model.specs.Held.{Held, Placed}
 use Rattle.cf_lemmas.proofs.Tests.{eq_no}
-use Rattle.cf_model.specs.Answers.{with_bound, class_with}
-use Rattle.cf_model.specs.Rules.{KeepsRules}
-use Rattle.cf_model.specs.State.{HeapState}
-use Rattle.script_reader.specs.declared.command.Command.TheVariants.{Bound}
-use Rattle.run_model.specs.Sessions.{AreTied, IsGoing, SessionState}
+use Rattle.cf_model.specs.Answers.{class_with}
 use Rattle.run_model.specs.Steps.{Step, bound_text, class_to_bound}
-use Rattle.run_model.specs.Texts.{said, with_number}
 use Rattle.run_model.specs.Replies.{steps_text}
 use Rattle.cf_session.specs.Apply.{run_at}
 

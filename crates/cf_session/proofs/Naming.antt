@@ -1,21 +1,14 @@
 -- For `Namer` of a session: from the steps of the commands `m`, `w` and `f` to what the calls of a `Namer` do.
-use Rattle.std.proofs.Common.{◌≡◌, ◌≢◌, ◌∙◌, ◌+◌, ℕ, Bool, true, false, List, Option, Some, None, length, refl, ap, sym, subst}
-use Rattle.std.specs.Prelude.{Result, Ok, Err, is_ok}
+use Rattle.std.proofs.Common.{◌≡◌, ◌≢◌, ◌∙◌, ◌+◌, ℕ, Bool, true, false, List, Option, Some, None, length, refl, ap, sym, subst, Result, Ok, Err, is_ok}
 use Rattle.std.specs.Bool.{OnFalse, OnTrue}
-use Rattle.std.specs.FinMap.{get}
-use Rattle.cf_base.specs.declared.answers.AccessFault.{AccessFault}
-use Rattle.cf_base.specs.declared.answers.Handle.{Handle}
-use Rattle.cf_base.specs.declared.answers.Refusal.{Refusal}
+use Rattle.run_model.specs.Terms.{AccessFault, Free, get, Handle, Malloc, Refusal, Reply, RunState, said, Write}
 use Rattle.cf_base.specs.declared.answers.Refusal.TheVariants as refusal
 use Rattle.cf_model.specs.Steps.{IsWriteStep, WritesBytes}
 use Rattle.id_table.specs.Named.{FreesNamed, HasBytes, MakesNamed, WritesNamed}
-use Rattle.id_table.specs.Sessions.{RunState}
 use Rattle.id_table.proofs.CallerLemmas.{no_fault}
 use Rattle.run_model.specs.Replies.{malloc_text}
 use Rattle.run_model.specs.Steps.{Frees, Mallocs, Step, Writes}
-use Rattle.run_model.specs.Texts.{Reply, said}
 use Rattle.run_model.proofs.CallerLemmas.{FreesAt, MallocsAt, WritesAt}
-use Rattle.script_reader.specs.declared.command.Command.TheVariants.{Free, Malloc, Write}
 use Rattle.cf_session.specs.Apply.{outcome_of}
 use Rattle.cf_session.specs.declared.outcome.Outcome.{Outcome}
 use Rattle.cf_session.specs.declared.outcome.Outcome.TheVariants.{Good, Refused}

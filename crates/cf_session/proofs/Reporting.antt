@@ -1,44 +1,116 @@
--- For `answer` and `apply_ref`, which do one command: if its reply, a report, one line or the bytes of a read, was written whole or in part, the contract
--- `AppliesOneManager` holds, and the run stays in progress.
-use Rattle.std.proofs.Common.{◌≡◌, ◌∙◌, ℕ, ◌++◌, List, [], ◌∷◌, Option, Some, None, Result, Ok, Err, length, map, refl, ap}
-use Rattle.std.proofs.Common.{ap₂, sym, subst, append_assoc}
-use Rattle.std.specs.Prelude.{codes}
+-- For `answer` and `queries.rt`: the reply to a command, whether built on a line or written, is that of the command.
+use Rattle.std.proofs.Common.{◌≡◌, ◌∙◌, ◌+◌, ◌<◌, ◌≤◌, ◌/◌, ◌%◌, ◌^◌, ◌++◌, ℕ, List, ◌∷◌, Option, Some, None, Err, option_map, length, take, drop, nat_eq, false, refl, sym, ap, arith, lit<, Bor, [], Result, Ok, map, ap₂, subst, append_assoc, codes, slice_index, le-leb, ne_eqb}
+use Rattle.std.specs.Int.{byte_at, bytes_high_first}
+use Rattle.std.proofs.Math.Nat.{mod-lt}
+use Rattle.run_model.specs.Terms.{AccessFault, Command, Failed, Frag, get, HalfFit, HeapState, IsGoing, Kind, led, Moving, NonMoving, owned_command, paging_in, Placed, Position, Reply, RunState, said, SessionState, SinkFailsIf, SinkState, Tlsf, totals_in, Walk, with_number, Writes}
+use Rattle.hex.specs.Hex.{encode_lower, encode_with, hex_digit_value, lower_digits}
+use Rattle.hex.proofs.HexLemmas.{IsDigits-lower_digits}
+use Rattle.cf_io.specs.Lines.{word_text}
+use Rattle.cf_lemmas.proofs.Tests.{le_no}
+use Rattle.cf_model.specs.Steps.{IsFault, ReadsBytes}
+use Rattle.run_model.specs.Replies.{place_text, read_text, steps_text, write_text, object_of, shown}
+use Rattle.cf_session.specs.Apply.{outcome_in, AppliesOneManager, outcome_of, run_at, IsEnded}
+use Rattle.cf_session.specs.OneLine.{SaidOn, lines_at, HasRoom, IsPut}
+use Rattle.cf_session.specs.declared.outcome.Outcome.{Outcome}
+use Rattle.cf_session.specs.declared.outcome.Outcome.TheVariants.{Other, Good}
+use Rattle.script_reader.specs.declared.command_ref.CommandRef.{CommandRef}
+use Rattle.run_model.specs.Steps.{Step}
 use Rattle.std.specs.Result.{is_err}
-use Rattle.std.specs.FinMap.{get}
-use Rattle.hex.specs.Hex.{encode_lower}
-use Rattle.cf_base.specs.declared.answers.AccessFault.{AccessFault}
 use Rattle.std.proofs.lemmas.List.{nil_from_length}
-use Rattle.cf_base.specs.declared.answers.Failed.{Failed}
 use Rattle.cf_base.specs.declared.answers.Totals.{Totals}
 use Rattle.cf_base.specs.declared.answers.Figures.{Figures}
-use Rattle.cf_base.specs.declared.kind.Kind.{Kind}
-use Rattle.cf_base.specs.declared.kind.Kind.TheVariants.{Moving, NonMoving, Tlsf, HalfFit}
-use Rattle.cf_io.specs.Feeds.{SinkFailsIf, SinkState, Writes, WritesAll}
-use Rattle.cf_model.specs.State.{HeapState, paging_in}
-use Rattle.cf_model.specs.Answers.{totals_in}
-use Rattle.cf_model.specs.Steps.{IsFault, Position, ReadsBytes}
+use Rattle.cf_io.specs.Feeds.{WritesAll}
 use Rattle.page_model.specs.Figures.{figures_of}
 use Rattle.cf_io.proofs.CallerLemmas.{puts_line, puts_same}
-use Rattle.script_reader.specs.declared.command.Command.{Command}
-use Rattle.script_reader.specs.declared.command.Command.TheVariants.{Walk, Frag}
 use Rattle.run_model.specs.Answering.{Moment}
-use Rattle.run_model.specs.Replies.{object_of, read_text, shown, write_text}
 use Rattle.run_model.specs.Reports.{class_line, total_line, frag_of, walk_of, live_classes}
 use Rattle.run_model.specs.Runs.{IsCommandStep}
-use Rattle.run_model.specs.Sessions.{IsGoing, RunState, SessionState}
-use Rattle.run_model.specs.Steps.{Step}
-use Rattle.run_model.specs.Texts.{Reply, led, said}
 use Rattle.run_model.proofs.CallerLemmas.{step_meets_bounds, step_going}
-use Rattle.cf_session.proofs.LookReplies.{fault_said, read_said}
-use Rattle.cf_session.specs.Apply.{AppliesOneManager, outcome_in, outcome_of, run_at}
-use Rattle.cf_session.specs.Apply.{IsEnded}
-use Rattle.cf_session.specs.OneLine.{HasRoom, IsPut, SaidOn, lines_at}
 use Rattle.cf_session.specs.Short.{short_text}
 use Rattle.cf_session.specs.declared.short.OneLine.{OneLine}
-use Rattle.cf_session.specs.declared.short.OneLine.TheVariants as reply
-use Rattle.cf_session.specs.declared.outcome.Outcome.{Outcome}
-use Rattle.cf_session.specs.declared.outcome.Outcome.TheVariants.{Good, Other}
 use Rattle.cf_session.specs.declared.short.Short.{Short}
+use Rattle.cf_base.specs.declared.answers.AccessFault.TheVariants as access
+use Rattle.cf_session.specs.declared.short.OneLine.TheVariants as reply
+use Rattle.script_reader.specs.declared.command_ref.CommandRef.TheVariants as borrowed
+
+-- For `src/queries.rt`, which does `r`, `q`, `b`, `p` and `steps`: the line that each function builds is the lead and the text of the reply, and the outcome
+-- that it returns (good, refused or other) is that of the text.
+
+-- `SaidOn` for a text that was appended to a line with the lead
+pub written : (lead begun line text : List ℕ) (outcome : Outcome) → begun ≡ lead → line ≡ begun ++ text → length line < 9000 → outcome ≡ outcome_in text
+    → SaidOn (lines_at lead line) text (reply.Written outcome)
+written lead begun line text outcome begins is short shows = (is ∙ ap (λ (l : List ℕ). l ++ text) begins, short, shows)
+
+-- the reply to a read of bytes that the object has, and of bytes that pass its end
+pub read_within : (x : Placed) (from count : ℕ) → from + count ≤ length x.bytes
+    → read_text (Some x) from count ≡ codes "=" ++ encode_lower (take count (drop from x.bytes))
+read_within x from count le = rw (le-leb _ _ le) refl
+
+pub read_past : (x : Placed) (from count : ℕ) → length x.bytes < from + count → read_text (Some x) from count ≡ codes "range"
+read_past x from count lt = rw (le_no _ _ lt) refl
+
+-- the reply to a read that the heap did is `=` and its bytes
+pub read_said : (s : HeapState) (position : Position) (count : ℕ) (bytes : List ℕ) → ReadsBytes s position count bytes
+    → read_text (get s.held position.number) position.from count ≡ codes "=" ++ encode_lower bytes
+read_said s position count bytes r = rw r.found (read_within r.object position.from count r.within ∙ ap (λ (b : List ℕ). codes "=" ++ encode_lower b) (sym r.value))
+
+-- the reply to a read that the heap refused, by the fault
+pub fault_said : (s : HeapState) (position : Position) (count : ℕ) (fault : AccessFault) → IsFault s position count fault
+    → write_text (Err fault) ≡ read_text (get s.held position.number) position.from count
+fault_said s position count access.Unknown none = rw none refl
+fault_said s position count access.Range past = rw past.found (sym (read_past past.object position.from count past.past))
+
+pub place_said : (o : Option Placed) (word : ℕ) → Some word ≡ option_map (λ (x : Placed). x.place) o → with_number (codes "at ") word ≡ place_text o
+place_said None word is = absurd cc
+place_said (Some x) word is = ap (with_number (codes "at ")) (let e : word ≡ x.place = cc in e)
+
+pub steps_other : (k : Kind) (s : SessionState) (cost : ℕ) → Other ≡ outcome_in (steps_text k s cost)
+steps_other Moving s cost = refl
+steps_other _ s cost = refl
+
+-- a text that begins with a hexadecimal digit is neither good nor a refusal
+digit_other : (d n : ℕ) (rest : List ℕ) → hex_digit_value d ≡ Some n → Other ≡ outcome_in (d ∷ rest)
+digit_other d n rest is =
+    let o : nat_eq d 111 ≡ false = ne_eqb d 111 (λ e. let none : None ≡ Some n = ap hex_digit_value (sym e) ∙ is in absurd cc) in
+    let equals : nat_eq 61 d ≡ false = ne_eqb 61 d (λ e. let none : None ≡ Some n = ap hex_digit_value e ∙ is in absurd cc) in
+    let r : nat_eq 114 d ≡ false = ne_eqb 114 d (λ e. let none : None ≡ Some n = ap hex_digit_value e ∙ is in absurd cc) in
+    rw (o, equals, r) refl
+
+bytes_other : (b : ℕ) (rest : List ℕ) → b < 256 → Other ≡ outcome_in (encode_lower (b ∷ rest))
+unfolding encode_with
+bytes_other b rest fits =
+    digit_other (slice_index lower_digits (b / 16)) (b / 16) (slice_index lower_digits (b % 16) ∷ encode_lower rest)
+    (IsDigits-lower_digits (b / 16) (omega arith))
+
+pub word_other : (v : ℕ) → Other ≡ outcome_in (word_text v)
+word_other v = bytes_other (byte_at 7 v) (bytes_high_first 7 v) (mod-lt (v / 256 ^ 7) {m = 256} (lit< tt))
+
+-- For `answer`, the match over all commands: a command of another mode, for which it has no branch, gets the reply `none` and changes nothing.
+
+-- the reply to a command that is none of those with a branch is `none`
+pub lacking : (run : RunState) (c : CommandRef)
+    → ((id bytes : ℕ) → c ≡ borrowed.Malloc id bytes → ⊥) → ((id : ℕ) → c ≡ borrowed.Free id → ⊥)
+    → ((id at : ℕ) (bytes : Bor (List ℕ)) → c ≡ borrowed.Write id at bytes → ⊥) → ((id at len : ℕ) → c ≡ borrowed.Read id at len → ⊥)
+    → ((id : ℕ) → c ≡ borrowed.Place id → ⊥) → ((id i : ℕ) → c ≡ borrowed.Block id i → ⊥) → ((word : ℕ) → c ≡ borrowed.Peek word → ⊥)
+    → (c ≡ borrowed.Walk → ⊥) → (c ≡ borrowed.Frag → ⊥) → (c ≡ borrowed.Steps → ⊥) → ((slot_words k : ℕ) → c ≡ borrowed.Bound slot_words k → ⊥)
+    → ((id bytes : ℕ) → c ≡ borrowed.Resize id bytes → ⊥)
+    → Step run (owned_command c) (said (codes "none")) run
+lacking run (borrowed.Malloc id bytes) malloc _ _ _ _ _ _ _ _ _ _ _ = absurd (malloc id bytes refl)
+lacking run (borrowed.Free id) _ free _ _ _ _ _ _ _ _ _ _ = absurd (free id refl)
+lacking run (borrowed.Write id at bytes) _ _ write _ _ _ _ _ _ _ _ _ = absurd (write id at bytes refl)
+lacking run (borrowed.Read id at len) _ _ _ read _ _ _ _ _ _ _ _ = absurd (read id at len refl)
+lacking run (borrowed.Place id) _ _ _ _ place _ _ _ _ _ _ _ = absurd (place id refl)
+lacking run (borrowed.Block id i) _ _ _ _ _ block _ _ _ _ _ _ = absurd (block id i refl)
+lacking run (borrowed.Peek word) _ _ _ _ _ _ peek _ _ _ _ _ = absurd (peek word refl)
+lacking run borrowed.Walk _ _ _ _ _ _ _ walk _ _ _ _ = absurd (walk refl)
+lacking run borrowed.Frag _ _ _ _ _ _ _ _ frag _ _ _ = absurd (frag refl)
+lacking run borrowed.Steps _ _ _ _ _ _ _ _ _ steps _ _ = absurd (steps refl)
+lacking run (borrowed.Bound slot_words k) _ _ _ _ _ _ _ _ _ _ bound _ = absurd (bound slot_words k refl)
+lacking run (borrowed.Resize id bytes) _ _ _ _ _ _ _ _ _ _ _ resize = absurd (resize id bytes refl)
+lacking run _ _ _ _ _ _ _ _ _ _ _ _ _ = (refl, refl)
+
+-- For `answer` and `apply_ref`, which do one command: if its reply, a report, one line or the bytes of a read, was written whole or in part, the contract
+-- `AppliesOneManager` holds, and the run stays in progress.
 
 -- a step of a run in progress is an `IsCommandStep`, since it also meets the bounds
 turn : (old new : RunState) (c : Command) (reply : Reply) → IsGoing old → Step old c reply new → IsCommandStep old c reply new

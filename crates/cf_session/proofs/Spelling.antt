@@ -1,6 +1,5 @@
 -- For `spell_bytes`, which fills a buffer in turn with the lead, `=`, hexadecimal digits and a line feed: the buffer then begins with the reply to the read.
-use Rattle.std.proofs.Common.{◌≡◌, ◌∙◌, ◌+◌, ◌≤◌, ◌++◌, ℕ, List, [], ◌∷◌, length, take, drop, slice_set, refl, sym, ap, ap₂, arith}
-use Rattle.std.proofs.Common.{append_assoc, append-nil, length-append}
+use Rattle.std.proofs.Common.{◌≡◌, ◌∙◌, ◌+◌, ◌≤◌, ◌++◌, ℕ, List, [], ◌∷◌, length, take, drop, slice_set, refl, sym, ap, ap₂, arith, append_assoc, append-nil, length-append}
 use Rattle.std.proofs.Math.Seq.{take-append_seam}
 
 -- if a text begins with the lead, `=` (61), the digits and a line feed (10), its first bytes, without `rest`, are this line

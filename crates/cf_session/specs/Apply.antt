@@ -3,14 +3,11 @@
 use Rattle.std.specs.Prelude.{◌≡◌, ℕ, ◌||◌, List, [], ◌∷◌, Option, Result, Ok, Err, codes, nat_eq, if◌then◌else◌}
 use Rattle.std.specs.List.{starts_with}
 use Rattle.std.specs.Str.{bytes_eq}
-use Rattle.cf_base.specs.declared.answers.Failed.{Failed}
-use Rattle.cf_model.specs.State.{HeapState}
+use Rattle.run_model.specs.Terms.{Failed, HeapState, Reply, SessionState}
 use Rattle.cf_session.specs.declared.outcome.Outcome.{Outcome}
 use Rattle.cf_session.specs.declared.outcome.Outcome.TheVariants.{Good, Refused, Other}
 use Rattle.run_model.specs.Answering.{Asked, IsAnswered, IsCutShort, Moment}
-use Rattle.run_model.specs.Sessions.{SessionState}
 pub use Rattle.id_table.specs.Sessions.{LacksOne, run_at}
-use Rattle.run_model.specs.Texts.{Reply}
 
 -- the state of a run at one moment, and the bytes written by then; `None` if the sink isn't observable
 abbrev pub moment_at : SessionState → HeapState → Option (List ℕ) → Moment

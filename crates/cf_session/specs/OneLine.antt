@@ -1,14 +1,12 @@
 -- Replies of one line while they are built and written, for the functions inside this crate. No public clause cites this module.
 use Rattle.std.specs.Prelude.{◌≡◌, ◌<◌, ℕ, ◌++◌, List, length, Result}
-use Rattle.cf_io.specs.Feeds.{SinkState, Writes}
+use Rattle.run_model.specs.Terms.{Failed, led, said, SinkState, Writes}
 use Rattle.cf_io.specs.Lines.{line_capacity}
-use Rattle.cf_base.specs.declared.answers.Failed.{Failed}
 use Rattle.cf_session.specs.Apply.{IsEnded, outcome_in}
 use Rattle.cf_session.specs.Short.{short_text}
 use Rattle.cf_session.specs.declared.outcome.Outcome.{Outcome}
 use Rattle.cf_session.specs.declared.short.OneLine.{OneLine}
 use Rattle.cf_session.specs.declared.short.OneLine.TheVariants as reply
-use Rattle.run_model.specs.Texts.{led, said}
 
 -- `text` is all that a line holds so far, and `lead` the bytes with which it must begin
 pub record Lines : Type 0 where

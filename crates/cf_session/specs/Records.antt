@@ -1,7 +1,6 @@
 -- The state of a session, and of a run (session and manager), computed from the records that a session keeps: its live ids and its counters. No public
 -- clause cites this module.
-use Rattle.cf_model.specs.State.{HeapState}
-use Rattle.run_model.specs.Sessions.{RunState, SessionState}
+use Rattle.run_model.specs.Terms.{HeapState, RunState, SessionState}
 use Rattle.cf_session.specs.Apply.{run_at}
 use Rattle.cf_session.specs.declared.records.Records.{Records}
 

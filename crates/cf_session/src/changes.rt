@@ -3,11 +3,9 @@
 ghost use Rattle.std.specs.Prelude.{◌≡◌, ◌^◌, ◌≤◌, IsTrue, Err};
 ghost use Rattle.cf_session.specs.Records.{run_with, session_of};
 ghost use Rattle.cf_session.specs.Short.{short_text};
-ghost use Rattle.script_reader.specs.declared.command.Command.TheVariants.{Malloc, Free, Write, Resize, Bound};
+ghost use Rattle.run_model.specs.Terms.{AreTied, Bound, Free, IsGoing, Malloc, Resize, said, Write};
 ghost use Rattle.run_model.specs.Replies.{resize_text};
-ghost use Rattle.run_model.specs.Sessions.{AreTied, IsGoing};
 ghost use Rattle.run_model.specs.Steps.{Step};
-ghost use Rattle.run_model.specs.Texts.{said};
 
 use crate::records::Records;
 use crate::short::{Short, fault_reply, refusal_reply};

@@ -1,12 +1,9 @@
 //! `answer`, the one match over all commands: does a command on the heap and writes its reply.
 ghost use Rattle.std.specs.Prelude.{◌≡◌, ◌^◌, ◌≤◌, length};
 ghost use Rattle.cf_base.specs.declared.numbers.TheConstants.{CHUNK};
-ghost use Rattle.cf_io.specs.Feeds.{SinkFailsIf};
+ghost use Rattle.run_model.specs.Terms.{IsGoing, IsWellFormed, owned_command, SinkFailsIf};
 ghost use Rattle.cf_session.specs.Apply.{AppliesOneManager, moment_at};
 ghost use Rattle.cf_session.specs.Records.{run_with, session_of};
-ghost use Rattle.script_reader.specs.Commands.{IsWellFormed};
-ghost use Rattle.script_reader.specs.Owned.{owned_command};
-ghost use Rattle.run_model.specs.Sessions.{IsGoing};
 ghost use Rattle.std.specs.Result.{is_err};
 
 use crate::changes::{free, malloc, resize, set_bound, write};

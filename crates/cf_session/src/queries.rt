@@ -9,8 +9,7 @@ ghost use Rattle.hex.specs.Hex.{encode_lower};
 ghost use Rattle.cf_session.specs.OneLine.{IsPut, SaidOn, lines_at};
 ghost use Rattle.cf_session.specs.Records.{run_with, session_of};
 ghost use Rattle.run_model.specs.Replies.{block_text_at, object_of, peek_text, place_text, read_text, steps_text};
-ghost use Rattle.run_model.specs.Sessions.{AreTied};
-ghost use Rattle.run_model.specs.Texts.{led, said};
+ghost use Rattle.run_model.specs.Terms.{AreTied, led, said};
 
 use crate::outcome::Outcome;
 use crate::records::Records;

@@ -1,14 +1,10 @@
 //! `Session`: does the commands of a script on one manager and writes their replies.
 ghost use Rattle.std.specs.Prelude.{◌≡◌, ◌≤◌, IsTrue, IfOk, length};
 ghost use Rattle.std.specs.FinMap as map;
-ghost use Rattle.cf_io.specs.Feeds.{SinkFailsIf};
-ghost use Rattle.cf_model.specs.Rules.{KeepsRules};
+ghost use Rattle.run_model.specs.Terms.{AreTied, fresh_session, IsGoing, IsWellFormed, KeepsRules, owned_command, SinkFailsIf};
 ghost use Rattle.cf_model.specs.Steps.{number_of};
 ghost use Rattle.cf_session.specs.Apply.{AppliesOneManager, moment_at, run_at};
 ghost use Rattle.id_table.specs.Ids.{AreWithin};
-ghost use Rattle.script_reader.specs.Commands.{IsWellFormed};
-ghost use Rattle.script_reader.specs.Owned.{owned_command};
-ghost use Rattle.run_model.specs.Sessions.{AreTied, IsGoing, fresh_session};
 ghost use Rattle.std.specs.Result.{is_err};
 
 use crate::dispatch::answer;

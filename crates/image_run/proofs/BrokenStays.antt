@@ -1,8 +1,6 @@
 -- For the law `a_broken_rule_stays_broken`: bytes that break a rule of images, and are not only cut, decode to the same whatever bytes follow (`Stays`). T
 -- and U decode bytes.
-use Rattle.std.proofs.Common.{◌≡◌, ◌∙◌, ◌++◌, ◌≤◌, ◌<◌, ℕ, zero, suc, Bool, true, false, List, [], ◌∷◌, Some, None, length, take, drop}
-use Rattle.std.proofs.Common.{refl, ap, sym, arith, inl, inr, length-append}
-use Rattle.std.specs.Prelude.{if◌then◌else◌, nat_le, nat_lt}
+use Rattle.std.proofs.Common.{◌≡◌, ◌∙◌, ◌++◌, ◌≤◌, ◌<◌, ℕ, zero, suc, Bool, true, false, List, [], ◌∷◌, Some, None, length, take, drop, refl, ap, sym, arith, inl, inr, length-append, if◌then◌else◌, nat_le, nat_lt}
 use Rattle.std.specs.Int.{Width, w16, w32, byte_len}
 use Rattle.std.specs.FinMap.{empty}
 use Rattle.std.specs.Str.{bytes_eq}

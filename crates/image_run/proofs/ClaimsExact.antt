@@ -1,10 +1,7 @@
 -- For the law `wrong_images_fall_short`: the claims of modes `save` and `load` allow one output, so an output that is empty, of another length, or of other
 -- objects doesn't meet them.
-use Rattle.std.proofs.Common.{◌≡◌, ◌≢◌, ◌∙◌, ◌+◌, ◌*◌, ℕ, List, [], Option, Some, None, true, length, arith, refl, ap, sym}
-use Rattle.std.specs.Prelude.{option_map}
-use Rattle.std.specs.FinMap.{get, insert, len}
-use Rattle.cf_base.specs.Settings.{Profile}
-use Rattle.cf_base.specs.declared.kind.Kind.TheVariants.{Moving}
+use Rattle.std.proofs.Common.{◌≡◌, ◌≢◌, ◌∙◌, ◌+◌, ◌*◌, ℕ, List, [], Option, Some, None, true, length, arith, refl, ap, sym, option_map}
+use Rattle.run_model.specs.Terms.{get, insert, items, len, Moving, Objects, Profile}
 use Rattle.cf_lemmas.proofs.Maps.{len_fresh}
 use Rattle.script_laws.proofs.CallerLemmas.{view}
 use Rattle.script_laws.specs.ShownHeap.{ShownHeap}
@@ -12,16 +9,11 @@ use Rattle.heap_image.specs.Decoded.{Decoded, decoded, whole}
 use Rattle.heap_image.specs.Heaps.{HaveImage, image_under}
 use Rattle.image_run.specs.Script.{script_under, after_items, state_of_objects, script_items}
 use Rattle.page_model.specs.Figures.{asked_bytes}
-use Rattle.page_model.specs.Held.{Objects}
 use Rattle.page_model.proofs.CallerLemmas.{asked_added}
-use Rattle.script_reader.specs.Items.{items}
 use Rattle.script_laws.specs.ById.{ById}
 use Rattle.image_run.specs.Claims.{MeetsLoad, MeetsSave, image_shown}
-use Rattle.image_run.proofs.Loaded.{asked_ones, asked_places}
-use Rattle.image_run.proofs.Made.{makes}
-use Rattle.image_run.proofs.ObjectsShown.{run_leaves}
-use Rattle.image_run.proofs.Plain.{read_back}
-use Rattle.image_run.proofs.Sized.{image_long}
+use Rattle.image_run.proofs.Loaded.{asked_ones, asked_places, makes, run_leaves}
+use Rattle.image_run.proofs.Printed.{read_back, image_long}
 
 module _ (p : Profile) (o : Objects) (h : HaveImage p o) where
   pub saves_exactly : (printed : List ℕ) → MeetsSave (script_items p o) printed → printed ≡ image_under p o

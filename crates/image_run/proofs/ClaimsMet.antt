@@ -1,11 +1,7 @@
 -- For `cf_main`: what modes `save` and `load` print is as claimed (`SavesAs`, `LoadsAs`): an image, a script, the offset at which the bytes break a rule, or
 -- nothing.
-use Rattle.std.proofs.Common.{◌≡◌, ◌≢◌, ◌∙◌, ◌++◌, ℕ, false, List, [], Option, Some, None, append-nil, refl, ap, sym, subst}
-use Rattle.std.specs.Prelude.{Err, Ok, if◌then◌else◌}
-use Rattle.cf_base.specs.Settings.{profile_of}
-use Rattle.cf_base.specs.declared.kind.Kind.{Kind}
-use Rattle.cf_base.specs.declared.kind.Kind.TheVariants.{Moving}
-use Rattle.cf_base.specs.declared.status.Status.{Status}
+use Rattle.std.proofs.Common.{◌≡◌, ◌≢◌, ◌∙◌, ◌++◌, ℕ, false, List, [], Option, Some, None, append-nil, refl, ap, sym, subst, Err, Ok, if◌then◌else◌}
+use Rattle.run_model.specs.Terms.{Kind, Moving, profile_of, RunState, Status}
 use Rattle.cf_base.specs.declared.status.Status.TheVariants.{Done, Words, BadScript, ReadFault, WriteFault, OutOfMemory, TooLong, BadImage}
 use Rattle.script_laws.proofs.CallerLemmas.{run_met, shown_at, run_keeps}
 use Rattle.heap_image.proofs.CallerLemmas.{observed_load}
@@ -13,13 +9,12 @@ use Rattle.heap_image.specs.Decoded.{Decoded, decoded}
 use Rattle.heap_image.specs.Heaps.{heap_image}
 use Rattle.heap_image.specs.declared.fault.LoadFault.TheVariants as fault
 use Rattle.image_run.specs.Claims.{LoadsAs, MeetsSave, Prints, SavesAs, image_shown}
-use Rattle.image_run.proofs.ObjectsShown.{same_image}
+use Rattle.image_run.proofs.Loaded.{same_image}
 use Rattle.image_run.specs.Loads.{EndsLoad, EndsLoadBy, bad_image}
 use Rattle.image_run.specs.Saves.{EndsSave, WritesAtEnd, saved, unseen}
 use Rattle.image_run.specs.Script.{heap_script, script_under}
 use Rattle.script_laws.specs.ValidItems.{IsRunOf}
 use Rattle.run_model.specs.Runs.{Run}
-use Rattle.run_model.specs.Sessions.{RunState}
 use Rattle.script_loop.proofs.CallerLemmas.{wrote_all}
 use Rattle.cf_io.proofs.CallerLemmas.{appended_none}
 use Rattle.script_loop.specs.Consequences.{AnswersAll}
@@ -64,12 +59,7 @@ module _ (from to : RunState) (call : Effects) (read : List ℕ) (moving : from.
         claimed = subst (λ (st : Status). SavesAs st read (saved to)) is (saved_met (sym is) ends);
       }
       go WriteFault is wrote = absurd (firm (sym is))
-      go Words is same = none Words is same refl
-      go BadScript is same = none BadScript is same refl
-      go ReadFault is same = none ReadFault is same refl
-      go OutOfMemory is same = none OutOfMemory is same refl
-      go TooLong is same = none TooLong is same refl
-      go BadImage is same = none BadImage is same refl
+      go st is same = none st is same refl
 
 -- Mode `load` prints the script of the objects, or the offset at which the bytes break a rule, or nothing.
 pub load_met : (from to : RunState) (call : Effects) (read : List ℕ) → call.had ≡ Some read → call.status ≢ WriteFault → EndsLoad from call to
@@ -112,6 +102,4 @@ load_met from to call read had firm ends = go call.status refl ends
       claimed = subst (λ (st : Status). LoadsAs st read []) is refl;
     }
     go WriteFault is e = absurd (firm (sym is))
-    go Words is e = absurd e
-    go BadScript is e = absurd e
-    go TooLong is e = absurd e
+    go _ is e = absurd e

@@ -1,20 +1,9 @@
-mod LineLemmas
-mod WriteLemmas
-mod PrintLemmas
-mod SaveLemmas
-pub mod Rising
-pub mod OnlyEntries
+pub mod PrintLemmas
+pub mod SavedImage
 pub mod OnlyImages
 pub mod BrokenStays
-mod Plain
-mod Made
-mod Bounded
-mod Short
-mod Sized
-mod ObjectsShown
-mod Loaded
-mod Alike
-mod SavedImage
+pub mod Printed
+pub mod Loaded
 mod ClaimsMet
 mod ClaimsExact
 pub mod CallerLemmas

@@ -1,22 +1,16 @@
 -- What is claimed of modes `save` and `load`, by the bytes read and the bytes printed alone: the image of what a script leaves, the script of an image's
 -- objects, the offset of a broken rule, or nothing.
 use Rattle.std.specs.Prelude.{◌≡◌, ℕ, List, [], Option, Some, None}
-use Rattle.cf_base.specs.Settings.{Profile}
-use Rattle.cf_base.specs.declared.kind.Kind.TheVariants.{Moving}
-use Rattle.cf_base.specs.declared.status.Status.{Status}
+use Rattle.run_model.specs.Terms.{appended, Item, Moving, Objects, objects, Profile, Reply, Status}
 use Rattle.cf_base.specs.declared.status.Status.TheVariants.{Done, BadImage}
-use Rattle.cf_io.specs.Feeds.{appended}
 use Rattle.script_laws.specs.Headline.{MayReply, OpensEmpty}
 use Rattle.script_laws.specs.ShownHeap.{ShownHeap}
 use Rattle.heap_image.specs.Decoded.{decoded, whole}
 use Rattle.heap_image.specs.Heaps.{image_under}
 use Rattle.image_run.specs.Loads.{bad_image}
 use Rattle.image_run.specs.Script.{script_under}
-use Rattle.page_model.specs.Held.{Objects, objects}
 use Rattle.run_model.specs.Plays.{PlayRun}
-use Rattle.run_model.specs.Texts.{Reply}
 use Rattle.script_loop.specs.ScriptOutcome.{Effects, items_within}
-use Rattle.script_reader.specs.Items.{Item}
 
 -- the image of the objects of the heap that a script and its replies show (`ShownHeap`); no bytes if no `heap` line opened it
 abbrev pub image_shown : Option ShownHeap → List ℕ

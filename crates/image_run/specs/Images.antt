@@ -1,7 +1,6 @@
 -- When bytes are the heap image of given objects, by id and under given settings.
 use Rattle.std.specs.Prelude.{◌≡◌, ℕ, List}
-use Rattle.cf_base.specs.Settings.{Profile}
-use Rattle.page_model.specs.Held.{Objects}
+use Rattle.run_model.specs.Terms.{Objects, Profile}
 use Rattle.heap_image.specs.Heaps.{HaveImage, image_under}
 
 -- the bytes are the image of these objects by id under the settings `p`, and these objects and settings have an image (`HaveImage`)

@@ -2,16 +2,14 @@
 -- is the state of the run before, `to` after it.
 use Rattle.std.specs.Prelude.{◌≡◌, ℕ, List, [], Option, Result, Ok, Err, codes}
 use Rattle.cf_base.specs.declared.settings.Settings.{Settings}
-use Rattle.cf_base.specs.declared.status.Status.{Status}
+use Rattle.run_model.specs.Terms.{appended, led, RunState, said, Status, with_number}
 use Rattle.cf_base.specs.declared.status.Status.TheVariants.{Done, ReadFault, WriteFault, OutOfMemory, BadImage}
-use Rattle.cf_io.specs.Feeds.{WritesPrefix, appended}
-use Rattle.cf_io.specs.Texts.{led, said, with_number}
+use Rattle.cf_io.specs.Feeds.{WritesPrefix}
 use Rattle.heap_image.specs.Feed.{feed_at}
 use Rattle.heap_image.specs.Load.{LoadsBy}
 use Rattle.heap_image.specs.declared.fault.LoadFault.{LoadFault}
 use Rattle.heap_image.specs.declared.fault.LoadFault.TheVariants as fault
 use Rattle.image_run.specs.Script.{heap_script}
-use Rattle.run_model.specs.Sessions.{RunState}
 use Rattle.script_loop.specs.ScriptOutcome.{Effects}
 
 -- the line `bad image` with the offset of the first field that breaks a rule

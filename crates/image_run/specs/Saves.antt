@@ -1,13 +1,10 @@
 -- The contract of `save_script`, by status: a script is run, its replies are dropped, and the objects that are live at its end are written as an image,
 -- whole or in part.
 use Rattle.std.specs.Prelude.{◌≡◌, ℕ, List, [], Option, None, IsTrue, if◌then◌else◌}
-use Rattle.cf_base.specs.Settings.{at_bound_one}
-use Rattle.cf_base.specs.declared.kind.Kind.TheVariants.{Moving}
-use Rattle.cf_base.specs.declared.status.Status.{Status}
+use Rattle.run_model.specs.Terms.{appended, at_bound_one, IsGoing, Moving, RunState, Status}
 use Rattle.cf_base.specs.declared.status.Status.TheVariants.{Done, WriteFault}
-use Rattle.cf_io.specs.Feeds.{WritesPrefix, appended}
+use Rattle.cf_io.specs.Feeds.{WritesPrefix}
 use Rattle.heap_image.specs.Heaps.{HaveImage, heap_image, live_objects}
-use Rattle.run_model.specs.Sessions.{IsGoing, RunState}
 use Rattle.script_loop.specs.OneManager.{one_manager}
 use Rattle.script_loop.specs.ScriptOutcome.{Effects, MeetsOutcome}
 

@@ -3,16 +3,9 @@
 use Rattle.std.specs.Prelude.{ℕ, zero, suc, ◌+◌, ◌*◌, ◌++◌, List, [], ◌∷◌, length, take, drop, Option, map}
 use Rattle.std.specs.FinMap.{entries}
 use Rattle.std.specs.Int.{div_ceil}
-use Rattle.cf_base.specs.Settings.{Profile}
+use Rattle.run_model.specs.Terms.{asks, Command, Item, Kind, Malloc, Moving, Objects, Profile, RunState, starts, Write}
 use Rattle.generator.specs.ReadBack.{heap_line, lines_of}
 use Rattle.heap_image.specs.Heaps.{live_objects}
-use Rattle.page_model.specs.Held.{Objects}
-use Rattle.run_model.specs.Sessions.{RunState}
-use Rattle.script_reader.specs.declared.command.Command.{Command}
-use Rattle.script_reader.specs.declared.command.Command.TheVariants.{Malloc, Write}
-use Rattle.cf_base.specs.declared.kind.Kind.{Kind}
-use Rattle.cf_base.specs.declared.kind.Kind.TheVariants.{Moving}
-use Rattle.script_reader.specs.Items.{Item, asks, starts}
 use Rattle.script_laws.specs.ById.{ById, begun}
 use Rattle.script_laws.specs.Transcripts.{after_at}
 

@@ -2,11 +2,8 @@
 //! the script that `load` prints makes the objects of the image, and that the two modes undo each other. The
 //! functions do nothing but call other laws for their contracts: the contract of each is a theorem.
 ghost use Rattle.std.specs.Prelude.{IsTrue, ◌≡◌, ◌≢◌, ◌↔◌, ◌+◌, ◌*◌, ◌<◌, ◌^◌, ◌++◌, [], ℕ, List, None, Option, Some, codes, false, length, map, true};
-ghost use Rattle.std.specs.FinMap.{get, insert, len};
-ghost use Rattle.cf_base.specs.Settings.{Profile, at_bound_one};
-ghost use Rattle.cf_base.specs.declared.kind.Kind.TheVariants.{Moving};
+ghost use Rattle.run_model.specs.Terms.{AreBytes, at_bound_one, EveryBoundIsOne, get, insert, IsGoing, Item, items, len, Moving, Objects, paging_in, Profile, Reply, RunState, said};
 ghost use Rattle.cf_base.specs.declared.status.Status.TheVariants.{BadImage, Done};
-ghost use Rattle.cf_model.specs.State.{paging_in};
 ghost use Rattle.heap_image.specs.Decoded.{IsHeapImage, decoded, whole};
 ghost use Rattle.heap_image.specs.Heaps.{HaveImage, image_under, live_objects};
 ghost use Rattle.heap_image.specs.Load.{IsLoading};
@@ -15,15 +12,9 @@ ghost use Rattle.image_run.specs.Images.{IsImageOf};
 ghost use Rattle.image_run.specs.Script.{after_items, state_of_objects, script_items, script_under};
 ghost use Rattle.image_run.specs.Loads.{EndsLoad};
 ghost use Rattle.image_run.specs.Saves.{EndsSave, saved};
-ghost use Rattle.page_model.specs.Bytes.{AreBytes};
 ghost use Rattle.page_model.specs.Figures.{asked_bytes};
-ghost use Rattle.page_model.specs.Held.{Objects};
-ghost use Rattle.page_model.specs.Paging.{EveryBoundIsOne};
 ghost use Rattle.run_model.specs.Runs.{Run};
-ghost use Rattle.run_model.specs.Sessions.{IsGoing, RunState};
-ghost use Rattle.run_model.specs.Texts.{Reply, said};
 ghost use Rattle.script_loop.specs.ScriptOutcome.{Effects, IsClean};
-ghost use Rattle.script_reader.specs.Items.{Item, items};
 ghost use Rattle.script_laws.specs.Histories.{AreAlike, AreFurther};
 
 use heap_image::{an_image_determines_its_objects, an_image_is_read_back};

@@ -2,8 +2,7 @@
 //! offset of the first field that breaks a rule.
 ghost use Rattle.std.specs.Prelude.{◌≡◌};
 ghost use Rattle.std.specs.FinMap as map;
-ghost use Rattle.cf_base.specs.declared.kind.Kind.TheVariants.{Moving};
-ghost use Rattle.cf_io.specs.Feeds.{SinkFailsIf, SourceFailsIf, Writes};
+ghost use Rattle.run_model.specs.Terms.{Moving, SinkFailsIf, SourceFailsIf, Writes};
 ghost use Rattle.cf_session.specs.Apply.{run_at};
 ghost use Rattle.image_run.specs.Loads.{EndsLoad, bad_image};
 ghost use Rattle.script_loop.specs.ScriptOutcome.{effects, is_read_fault, is_write_fault};

@@ -1,16 +1,11 @@
 //! `print_script`, for mode `load`: writes the script that makes the live objects of a heap.
 ghost use Rattle.std.specs.Prelude.{◌≡◌, ◌≤◌, IsTrue, Some, length};
 ghost use Rattle.std.specs.FinMap as map;
-ghost use Rattle.cf_base.specs.declared.kind.Kind.TheVariants.{Moving};
-ghost use Rattle.cf_base.specs.Settings.{profile_of};
-ghost use Rattle.cf_io.specs.Feeds.{Writes};
+ghost use Rattle.run_model.specs.Terms.{AreTied, Malloc, Moving, Placed, profile_of, Write, Writes};
 ghost use Rattle.cf_session.specs.Apply.{run_at};
 ghost use Rattle.generator.specs.CommandText.{line_of};
 ghost use Rattle.generator.specs.ReadBack.{lines_of};
 ghost use Rattle.image_run.specs.Script.{heap_script, object_lines, opening_line, writes_of};
-ghost use Rattle.page_model.specs.Held.{Placed};
-ghost use Rattle.run_model.specs.Sessions.{AreTied};
-ghost use Rattle.script_reader.specs.declared.command.Command.TheVariants.{Malloc, Write};
 
 use cf_base::{CHUNK, Failed, Handle, Settings};
 use cf_io::{Line, Sink, push_field, push_text, put_line};

@@ -1,10 +1,9 @@
 //! Mode `save`: runs a script, drops its replies, and writes an image of the objects that it leaves.
 ghost use Rattle.std.specs.Prelude.{◌≡◌, None, false};
-ghost use Rattle.cf_base.specs.declared.kind.Kind.TheVariants.{Moving};
+ghost use Rattle.run_model.specs.Terms.{fresh_session, Moving};
 ghost use Rattle.cf_model.specs.Ordered.{KeepsPromise};
 ghost use Rattle.cf_session.specs.Apply.{run_at};
 ghost use Rattle.image_run.specs.Saves.{EndsSave};
-ghost use Rattle.run_model.specs.Sessions.{fresh_session};
 ghost use Rattle.script_loop.specs.ScriptOutcome.{HasCauses, effects};
 
 use cf_base::Status;

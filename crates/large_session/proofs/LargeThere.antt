@@ -1,28 +1,213 @@
--- Each call of a heap of long objects has a result and a state after it that its contract allows: a malloc with room, or a cause to refuse it; a free; and a
--- write, part by part.
-use Rattle.std.proofs.Common.{◌≡◌, ℕ, zero, suc, ◌+◌, ◌-◌, ◌*◌, ◌/◌, ◌%◌, ◌<◌, ◌≤◌, true, List, Some}
-use Rattle.std.proofs.Common.{None, length, set, take, drop, min, arith, sym, ◌∙◌, ap, refl, subst, inl, inr}
-use Rattle.std.specs.Prelude.{◌⊎◌, IsTrue, Option, option_map}
-use Rattle.std.specs.FinMap.{get, insert}
+-- Each call of a heap of long objects has a result and a state after it, composed from those of the inner manager.
+use Rattle.std.proofs.Common.{◌≡◌, ℕ, zero, suc, ◌+◌, ◌<◌, ◌≤◌, List, [], ◌∷◌, Some, None, length, get_or, arith, sym, ◌∙◌, ap, refl, subst, inl, inr, ◌*◌, ◌-◌, ◌/◌, ◌%◌, true, set, take, drop, min, Option, option_map, Result, Ok, Err, codes, ◌⊎◌, IsTrue}
+use Rattle.std.specs.Option.{MatchOption}
+use Rattle.run_model.specs.Terms.{AreBytes, AreTied, CostsAtMost, Free, get, Handle, HeapState, Ids, insert, IsGoing, KeepsRules, Malloc, Objects, objects, paging_in, Placed, Refusal, Reply, RunState, SessionState, Write, written}
 use Rattle.std.proofs.lemmas.Bool.{cases_lt}
-use Rattle.std.proofs.lemmas.List.{length-drop, length-take}
+use Rattle.std.proofs.lemmas.List.{get_or_past, length-drop, length-take}
 use Rattle.std.proofs.lemmas.Option.{same_Some}
-use Rattle.cf_base.specs.declared.answers.Refusal.{Refusal}
-use Rattle.cf_base.specs.declared.answers.Refusal.TheVariants as refusal
-use Rattle.page_model.specs.Bytes.{AreBytes, written}
-use Rattle.page_model.specs.Held.{Objects, objects}
-use Rattle.page_model.proofs.CallerLemmas.{bytes_part}
-use Rattle.cf_model.specs.State.{HeapState, paging_in}
-use Rattle.large_objects.specs.InnerCalls.{IsReadyInner}
-use Rattle.large_objects.specs.Large.{KeepsParts, LargeState, named}
+use Rattle.cf_lemmas.specs.Maps.{numbered}
+use Rattle.cf_lemmas.proofs.Numbered.{get-numbered}
+use Rattle.cf_model.specs.Ordered.{IsOrderedMalloc}
+use Rattle.cf_model.specs.Steps.{IsMallocStep}
+use Rattle.run_model.specs.Steps.{Frees, Mallocs, Stays, Writes}
+use Rattle.script_laws.proofs.CallerLemmas.{step_exists}
+use Rattle.large_objects.specs.InnerCalls.{FreesInner, MakesOneInner, HasInner, HasInnerRoom, IsReadyInner, WritesInner}
+use Rattle.page_model.proofs.CallerLemmas.{held_of_bytes, bytes_part}
+use Rattle.large_objects.proofs.CallerLemmas.{inner_freed, inner_given, inner_not_refused, inner_written, grows_first, grows_more, inner_beside, part_named, place_in_spine, room_for_part, room_for_short, room_for_spine, next_there, releases_long, shrinks_first, shrinks_more, spine_is_live, inside_part, is_ready, next_write, so_far_more, then_kept, wrote_all, wrote_nothing, all_gathered, handle_below, gone_frees, gone_kept, has_inner_objects, long_kept, long_writes, made_gives, made_kept, object_room, part_there, same_kept, short_kept, short_inner, short_writes, some_words}
+use Rattle.std.specs.Int.{to_le_bytes, w32}
+use Rattle.large_objects.specs.Growing.{GrowsInner, HasObjectRoom, MakesInner}
+use Rattle.large_objects.specs.Large.{named, KeepsParts, LargeState}
+use Rattle.large_objects.specs.InnerObjects.{part_length, part_count, spine_bytes, inner_count, inner_pages_with, inner_lengths}
+use Rattle.large_objects.specs.Shrinking.{HasInnerObjects, HasParts, ReleasesInner, Shrinks}
 use Rattle.large_objects.specs.LargeSteps.{FreesLarge, GivesLarge, HasLong, HasPartRange, HasLargeRoom, HasShort, IsRefusedLarge, StaysKept, WritesLarge, part_bytes_in}
 use Rattle.large_objects.specs.Layout.{AreKept, AreLengths, IsValid, gathered_objects, large_state}
-use Rattle.large_objects.specs.InnerObjects.{inner_count, inner_pages_with, inner_lengths, spine_bytes}
-use Rattle.large_objects.proofs.CallerLemmas.{inside_part, is_ready, next_write, so_far_more, then_kept, wrote_all, wrote_nothing, all_gathered, handle_below}
-use Rattle.large_objects.proofs.CallerLemmas.{gone_frees, gone_kept, has_inner_objects, long_kept, long_writes, made_gives}
-use Rattle.large_objects.proofs.CallerLemmas.{made_kept, object_room, part_there, same_kept, short_kept, short_inner, short_writes, some_words}
-use Rattle.large_session.proofs.OwnRun.{length-listed, listed, listed_is, writes_there}
-use Rattle.large_session.proofs.InnerThere.{makes_there, releases_there}
+use Rattle.cf_base.specs.declared.answers.Refusal.TheVariants as refusal
+
+-- An inner manager has a state after each malloc with room, free or write of an inner object: it is the state of a run whose ids are the live handles, and
+-- each command of a run has a reply.
+
+-- the n values of f from k on
+abbrev pub listed : {X : Type 0} → (ℕ → Option X) → ℕ → ℕ → List (Option X)
+listed f k zero = []
+listed f k (suc n) = f k ∷ listed f (k + 1) n
+
+module _ {X : Type 0} (f : ℕ → Option X) where
+  pub length-listed : (k n : ℕ) → length (listed f k n) ≡ n
+  length-listed k zero = refl
+  length-listed k (suc n) = omega (arith, length-listed (k + 1) n)
+
+  listed_at : (k n i q : ℕ) → i < n → q ≡ k + i → get_or (listed f k n) i None ≡ f q
+  listed_at k zero i q lt is = absurd (omega arith)
+  listed_at k (suc n) zero q lt is = (let e : k ≡ q = omega arith in ap f e)
+  listed_at k (suc n) (suc i) q lt is = listed_at (k + 1) n i q (omega arith) (omega arith)
+
+  -- the first n values are all values of f, if f has none from n on
+  pub listed_is : (n : ℕ) → ((q : ℕ) → n ≤ q → f q ≡ None) → (q : ℕ) → get_or (listed f 0 n) q None ≡ f q
+  listed_is n none q = elim (cases_lt q n) [
+    | inl lt ↦ listed_at 0 n q q lt (omega arith)
+    | inr past ↦ get_or_past (listed f 0 n) q None (let l = length-listed 0 n in omega arith) ∙ sym (none q past)
+  ]
+
+module _ (s : HeapState) (ready : IsReadyInner s) where
+  abbrev own : ℕ → Option ℕ
+  own q = option_map (λ (x : Placed). q) (get s.held q)
+
+  own_past : (q : ℕ) → s.profile.proxies ≤ q → own q ≡ None
+  own_past q past = go (get s.held q) refl
+    where
+      go : (o : Option Placed) → get s.held q ≡ o → own q ≡ None
+      go None none = ap (option_map (λ (x : Placed). q)) none
+      go (Some x) some = absurd (let lt = ready.rules.numbers.handles q x some in omega arith)
+
+  abbrev ids : Ids
+  ids = numbered 0 (listed own 0 s.profile.proxies)
+
+  id_is : (q : ℕ) → get ids q ≡ own q
+  id_is q = get-numbered (listed own 0 s.profile.proxies) q ∙ listed_is own s.profile.proxies own_past q
+
+  id_live : (id h : ℕ) → get ids id ≡ Some h → (h ≡ id) × ((x : Placed) × (get s.held id ≡ Some x))
+  id_live id h is = go (get s.held id) refl (sym (id_is id) ∙ is)
+    where
+      go : (o : Option Placed) → get s.held id ≡ o → option_map (λ (x : Placed). id) o ≡ Some h → (h ≡ id) × ((x : Placed) × (get s.held id ≡ Some x))
+      go None none e = absurd (let z : ◌≡◌ {A = Option ℕ} None (Some h) = e in cc)
+      go (Some x) some e = (sym (same_Some id h e), (x, some))
+
+  abbrev session : SessionState
+  session = record { ids = ids; bound = s.cost; moves = 0; words = 0 }
+
+  abbrev run : RunState
+  run = record { session = session; heap = s }
+
+  costs : CostsAtMost s.kind s.cost s.cost
+  costs = rw (ready.pages, CostsAtMost) (omega arith)
+
+  tied : AreTied session s
+  tied = record {
+    ids = record {
+      named = λ id h is. (let l = id_live id h is in (l.1.0, ap (get s.held) l.0 ∙ l.1.1));
+      once = λ id other h is also. (let l = id_live id h is in let m = id_live other h also in sym m.0 ∙ l.0);
+      all = λ h x is. (h, id_is h ∙ ap (option_map (λ (x : Placed). h)) is);
+    };
+    cost = costs;
+  }
+
+  going : IsGoing run
+  going = record { opened = ready.opened; rules = ready.rules; tied = tied }
+
+  -- an inner object is made, if there is room
+  pub gives_there : (n : ℕ) → HasInnerRoom s n → (q : ℕ) × (new : HeapState) × MakesOneInner s q n new
+  gives_there n room =
+      let t = step_exists run (Malloc s.profile.proxies n) going (record { formed = tt; bytes = tt }) in
+      let m = of_free t.0 t.1 (get ids s.profile.proxies) (id_is s.profile.proxies ∙ own_past s.profile.proxies (omega arith)) t.2.step in
+      by_answer t.1.heap m.answer m.step m.ordered m.rules
+    where
+      of_free : (reply : Reply) (new : RunState) (o : Option ℕ) → o ≡ None
+          → MatchOption o (Mallocs run (record { number = s.profile.proxies; length = n }) reply new) (λ h. Stays run (codes "live") reply new)
+          → Mallocs run (record { number = s.profile.proxies; length = n }) reply new
+      of_free reply new None none m = m
+      of_free reply new (Some h) none m = absurd (let z : ◌≡◌ {A = Option ℕ} (Some h) None = none in cc)
+
+      by_answer : (new : HeapState) (r : Result Handle Refusal) → IsMallocStep s n r new → IsOrderedMalloc s n r new → KeepsRules new
+          → (q : ℕ) × (new : HeapState) × MakesOneInner s q n new
+      by_answer new (Ok h) given ordered rules = (h.0, new, inner_given s new h n ready given ordered rules)
+      by_answer new (Err e) (cause, same) ordered rules = absurd (inner_not_refused s n ready room e cause)
+
+  -- a live inner object is freed
+  pub frees_there : (q : ℕ) → HasInner s q 0 0 → (new : HeapState) × FreesInner s q new
+  frees_there q has =
+      let x = held_of_bytes s.held q has.bytes has.found in
+      let t = step_exists run (Free q) going (record { formed = tt; bytes = tt }) in
+      let f = of_live t.0 t.1 (get ids q) (id_is q ∙ ap (option_map (λ (x : Placed). q)) x.1) t.2.step in
+      (t.1.heap, inner_freed s t.1.heap q has.bytes (Ok f.freed) ready has.found f.step f.ordered f.rules)
+    where
+      of_live : (reply : Reply) (new : RunState) (o : Option ℕ) → o ≡ Some q
+          → MatchOption o (Stays run (codes "unknown") reply new) (λ h. Frees run (record { id = q; number = h }) reply new)
+          → Frees run (record { id = q; number = q }) reply new
+      of_live reply new None live f = absurd (let z : ◌≡◌ {A = Option ℕ} None (Some q) = live in cc)
+      of_live reply new (Some h) live f = (let e = same_Some h q live in subst (λ k. Frees run (record { id = q; number = k }) reply new) e f)
+
+  -- bytes are written into a live inner object: at most 4,096, as in a command `w`
+  pub writes_there : (q at : ℕ) (bytes : List ℕ) → HasInner s q at (length bytes) → AreBytes bytes → 1 ≤ length bytes → length bytes ≤ 4096
+      → (new : HeapState) × WritesInner s q at bytes new
+  writes_there q at bytes has are some few =
+      let x = held_of_bytes s.held q has.bytes has.found in
+      let t = step_exists run (Write q at bytes) going (record { formed = (some, few); bytes = are }) in
+      let w = of_live t.0 t.1 (get ids q) (id_is q ∙ ap (option_map (λ (x : Placed). q)) x.1) t.2.step in
+      (t.1.heap, inner_written s t.1.heap (record { number = q; from = at }) bytes w.answer ready has w.step w.rules)
+    where
+      of_live : (reply : Reply) (new : RunState) (o : Option ℕ) → o ≡ Some q
+          → MatchOption o (Stays run (codes "unknown") reply new) (λ h. Writes run (record { number = h; from = at }) bytes reply new)
+          → Writes run (record { number = q; from = at }) bytes reply new
+      of_live reply new None live w = absurd (let z : ◌≡◌ {A = Option ℕ} None (Some q) = live in cc)
+      of_live reply new (Some h) live w = (let e = same_Some h q live in subst (λ k. Writes run (record { number = k; from = at }) bytes reply new) e w)
+
+-- For the proof that each call has a result: if there is room, the inner manager has a state after all inner objects of a new object are made, and one after
+-- those of a live object are freed.
+
+-- the bytes of a handle
+handle_bytes : (q : ℕ) → AreBytes (to_le_bytes w32 q)
+handle_bytes q zero = omega arith
+handle_bytes q (suc zero) = omega arith
+handle_bytes q (suc (suc zero)) = omega arith
+handle_bytes q (suc (suc (suc zero))) = omega arith
+handle_bytes q (suc (suc (suc (suc i)))) = omega arith
+
+module _ (u n : ℕ) (old : HeapState) (some : 0 < u) (room : HasObjectRoom u n old) where
+  module _ (long : u < n) (h : ℕ) where
+    -- one part more
+    grown_more : (i : ℕ) (now : HeapState) → GrowsInner u n old h i now → i < part_count u n → (next : HeapState) × GrowsInner u n old h (i + 1) next
+    grown_more i now g below =
+        let p = gives_there now g.stays.ready (part_length u n i) (room_for_part u n old now h i some long room g below) in
+        let place = place_in_spine u n old now h i some long room g below in
+        let w = writes_there p.1 p.2.stays.ready h (4 * i) (to_le_bytes w32 p.0) (inner_beside now p.1 h p.0 (part_length u n i) (4 * i) 4 p.2 place)
+        (handle_bytes p.0) (omega arith) (omega arith) in
+        (w.0, grows_more u n old now h i some long room g below w.0 (part_named now p.1 w.0 h i (part_length u n i) p.0 p.2 place.bytes place.found w.1))
+
+    grown : (k : ℕ) (first : HeapState) → GrowsInner u n old h 0 first → k ≤ part_count u n → (now : HeapState) × GrowsInner u n old h k now
+    grown zero first g few = (first, g)
+    grown (suc k) first g few =
+        let before = grown k first g (omega arith) in
+        let next = grown_more k before.0 before.1 (omega arith) in
+        (next.0, subst (λ j. GrowsInner u n old h j next.0) (let e : k + 1 ≡ suc k = omega arith in e) next.1)
+
+  pub makes_there : (h : ℕ) × (new : HeapState) × MakesInner u n old h new
+  makes_there = elim (cases_lt u n) [
+    | inl long ↦ (
+        let g = gives_there old room.ready (spine_bytes u n) (room_for_spine u n old some long room) in
+        let all = grown long g.0 (part_count u n) g.1 (grows_first u n old g.1 g.0 some long g.2) (omega arith) in
+        (g.0, all.0, inr (record { long = long; grown = all.1 })))
+    | inr short ↦ (
+        let g = gives_there old room.ready n (room_for_short u n old some short room) in
+        (g.0, g.1, inl (record { short = short; stays = g.2.stays; unused = g.2.unused; left = g.2.left })))
+  ]
+
+module _ (u n : ℕ) (old : HeapState) (h : ℕ) (some : 0 < u) (ready : IsReadyInner old) where
+  module _ (long : u < n) (has : HasParts u n (objects old.held) h) where
+    shrunk : (k : ℕ) → k ≤ part_count u n → (now : HeapState) × Shrinks u n old h k now
+    shrunk zero few = (old, shrinks_first u n old h some long has ready)
+    shrunk (suc k) few =
+        let before = shrunk k (omega arith) in
+        let there = next_there u n old before.0 h k some long has before.1 (omega arith) in
+        let f = frees_there before.0 before.1.stays.ready (named (objects before.0.held) h k) there in (
+          f.0,
+          subst (λ j. Shrinks u n old h j f.0) (let e : k + 1 ≡ suc k = omega arith in e)
+              (shrinks_more u n old before.0 h k some long has before.1 (omega arith) f.0 f.1),
+        )
+
+    released : (new : HeapState) × ReleasesInner u n old h new
+    released =
+        let all = shrunk (part_count u n) (omega arith) in
+        let f = frees_there all.0 all.1.stays.ready h (spine_is_live u n old all.0 h has all.1) in
+        (f.0, inr (releases_long u n old all.0 f.0 h long all.1 f.1))
+
+  pub releases_there : HasInnerObjects u n old h → (new : HeapState) × ReleasesInner u n old h new
+  releases_there (inl (short, (v, found, long))) =
+      let f = frees_there old ready h (record { bytes = v; found = found; within = omega arith }) in
+      (f.0, inl (record { short = short; stays = f.1.stays; left = f.1.left }))
+  releases_there (inr (long, has)) = released long has
+
+-- Each call of a heap of long objects has a result and a state after it that its contract allows: a malloc with room, or a cause to refuse it; a free; and a
+-- write, part by part.
 
 module _ (old : LargeState) (opened : IsTrue old.is_open) (kept : KeepsParts old) where
   abbrev u : ℕ

@@ -1,12 +1,5 @@
-pub mod OwnRun
-pub mod InnerThere
 pub mod LargeThere
 pub mod RunInvariant
-pub mod ReplyLemmas
-pub mod OpenReply
-pub mod Turns
-pub mod Reports
-pub mod Steps
 pub mod Claims
 pub mod Worked
 pub mod CallerLemmas

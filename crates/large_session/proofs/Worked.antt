@@ -1,20 +1,11 @@
 -- For `wrong_large_replies_fall_short`: the right replies to a small script in mode `large`, worked out command by command, meet the claim; replies that meet
 -- it are eight, with the same letters in their first lines.
-use Rattle.std.proofs.Common.{◌≡◌, ℕ, true, List, [], ◌∷◌, Some, None, drop, length, replicate, get_or, sym, ◌∙◌, ap, refl}
-use Rattle.std.specs.Prelude.{codes}
+use Rattle.std.proofs.Common.{◌≡◌, ℕ, true, List, [], ◌∷◌, Some, None, drop, length, replicate, get_or, sym, ◌∙◌, ap, refl, codes}
 use Rattle.std.specs.Fmt.{digits}
-use Rattle.std.specs.FinMap.{empty, insert}
+use Rattle.run_model.specs.Terms.{asks, Command, empty, Frag, insert, Item, items, Malloc, Moving, Objects, Profile, Read, Reply, said, starts, Walk, Write, written}
 use Rattle.cf_base.specs.Classes.{sizes_from}
-use Rattle.cf_base.specs.Settings.{Profile}
-use Rattle.cf_base.specs.declared.kind.Kind.TheVariants.{Moving}
 use Rattle.hex.specs.Hex.{decode_pairs, encode_with}
-use Rattle.page_model.specs.Bytes.{written}
-use Rattle.page_model.specs.Held.{Objects}
 use Rattle.page_model.specs.Paging.{class_for}
-use Rattle.run_model.specs.Texts.{Reply, said}
-use Rattle.script_reader.specs.Items.{Item, asks, items, starts}
-use Rattle.script_reader.specs.declared.command.Command.{Command}
-use Rattle.script_reader.specs.declared.command.Command.TheVariants.{Frag, Malloc, Read, Walk, Write}
 use Rattle.script_laws.specs.ById.{ById, begun}
 use Rattle.script_laws.proofs.CallerLemmas.{got, got_none, listed, listed_none}
 use Rattle.large_objects.specs.InnerObjects.{in_class, inner_count, inner_live, inner_pages_with, inner_sum, inner_lengths, part_count}

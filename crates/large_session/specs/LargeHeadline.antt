@@ -5,23 +5,15 @@
 use Rattle.std.specs.Prelude.{◌≡◌, ℕ, ◌+◌, ◌-◌, ◌*◌, ◌&&◌, List, [], ◌∷◌, ◌++◌, Option, Some, None, Err, codes, filter, if◌then◌else◌, length, map, nat_eq, nat_lt, not}
 use Rattle.std.specs.Prelude.{replicate}
 use Rattle.std.specs.List.{range_with_len}
-use Rattle.std.specs.FinMap.{get}
-use Rattle.cf_base.specs.Settings.{at_bound_one}
+use Rattle.run_model.specs.Terms.{asks, at_bound_one, bad, bad_line, classes, Command, Frag, Free, get, Item, Kind, Malloc, Objects, Read, Refusal, Reply, said, slot_words, slots_of, starts, Walk, Write}
 use Rattle.cf_base.specs.declared.answers.Figures.{Figures}
-use Rattle.cf_base.specs.declared.answers.Refusal.{Refusal}
 use Rattle.cf_base.specs.declared.answers.Refusal.TheVariants as refusal
 use Rattle.cf_base.specs.declared.answers.Totals.{Totals}
-use Rattle.cf_base.specs.declared.kind.Kind.{Kind}
 use Rattle.page_model.specs.Arrangement.{pages_for}
 use Rattle.page_model.specs.Counts.{ceil_div}
-use Rattle.page_model.specs.Held.{Objects}
-use Rattle.page_model.specs.Paging.{class_for, classes, slot_words, slots_of}
+use Rattle.page_model.specs.Paging.{class_for}
 use Rattle.run_model.specs.Replies.{malloc_text}
 use Rattle.run_model.specs.Reports.{class_line, frag_line, total_line}
-use Rattle.run_model.specs.Texts.{Reply, bad_line, said}
-use Rattle.script_reader.specs.Items.{Item, asks, bad, starts}
-use Rattle.script_reader.specs.declared.command.Command.{Command}
-use Rattle.script_reader.specs.declared.command.Command.TheVariants.{Malloc, Free, Write, Read, Walk, Frag}
 use Rattle.large_objects.specs.InnerObjects.{inner_count, inner_live, inner_pages_with, inner_sum, inner_lengths, whole_part_bytes, spine_bytes}
 use Rattle.script_laws.specs.AtOne.{part_pages}
 use Rattle.script_laws.specs.ById.{ById, begun, paging_by_id}

@@ -1,16 +1,12 @@
 -- A session over a heap of long objects: its state, the calls of its heap, and for each command the reply and the state after it.
 use Rattle.std.specs.Prelude.{◌≡◌, ℕ, IsTrue, List, Option, codes}
-use Rattle.cf_base.specs.declared.answers.Refusal.{Refusal}
-use Rattle.cf_io.specs.Texts.{Reply, said}
-use Rattle.id_table.specs.Ids.{Ids}
+use Rattle.run_model.specs.Terms.{Command, Frag, Ids, Refusal, Reply, said, Walk}
 use Rattle.large_objects.specs.Large.{KeepsParts, LargeState}
 use Rattle.large_objects.specs.LargeSteps.{FreesLarge, IsLargeMalloc, IsLargeWrite, StaysKept}
 use Rattle.script_laws.specs.ObjectRun.{Calls, IsGoingObjects, ObjectRun, ObjectStep, object_run}
 use Rattle.run_model.specs.Replies.{malloc_text}
 use Rattle.run_model.specs.Reports.{frag_of, walk_of}
 use Rattle.script_loop.specs.Semantics.{Snapshot, snapshot}
-use Rattle.script_reader.specs.declared.command.Command.{Command}
-use Rattle.script_reader.specs.declared.command.Command.TheVariants.{Walk, Frag}
 
 -- the live ids with the handles that they name, and the heap
 abbrev pub LargeRun : Type 0

@@ -1,14 +1,9 @@
 -- Mode `large` for the script loop: how a run over a heap of long objects begins, its runs over a script, and its state after an allocation failed.
 use Rattle.std.specs.Prelude.{◌≡◌, true, List, Option, codes}
-use Rattle.std.specs.FinMap.{empty}
-use Rattle.cf_base.specs.Settings.{Profile, at_bound_one}
-use Rattle.cf_base.specs.declared.kind.Kind.{Kind}
-use Rattle.cf_io.specs.Texts.{Reply, said}
-use Rattle.cf_model.specs.Families.{IsPaged}
+use Rattle.run_model.specs.Terms.{at_bound_one, empty, IsPaged, Item, Kind, Profile, Reply, said}
 use Rattle.cf_model.specs.Steps.{IsOpeningOrder, IsOpeningWords, ordered_heap}
 use Rattle.run_model.specs.Plays.{PlayRun}
 use Rattle.script_loop.specs.Semantics.{Semantics}
-use Rattle.script_reader.specs.Items.{Item}
 use Rattle.script_loop.specs.Applying.{TurnsInPart}
 use Rattle.large_objects.specs.Large.{KeepsParts}
 use Rattle.large_session.specs.LargeRun.{IsGoingLarge, LargeRun, LargeStep}

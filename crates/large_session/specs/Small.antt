@@ -1,8 +1,6 @@
 -- A small script in mode `large` on which right and wrong replies are tried, and replies to its eight lines.
 use Rattle.std.specs.Prelude.{ℕ, true, List, [], ◌∷◌, codes}
-use Rattle.cf_base.specs.declared.kind.Kind.TheVariants.{Moving}
-use Rattle.run_model.specs.Texts.{Reply, said}
-use Rattle.script_reader.specs.Items.{items}
+use Rattle.run_model.specs.Terms.{items, Moving, Reply, said}
 use Rattle.large_session.specs.LargeHeadline.{MeetsLarge}
 
 -- `replies` meet the claim for this script, on eight pages of 512 bytes. An object of 600 bytes has a spine of 8 bytes and parts of 504 and 96 bytes; `m 3

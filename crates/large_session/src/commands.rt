@@ -2,10 +2,9 @@
 //! The first three return their reply; `r` builds its reply in `line`.
 ghost use Rattle.std.specs.Prelude.{◌≡◌, ◌<◌, ◌≤◌, [], IsTrue, length};
 ghost use Rattle.cf_io.specs.Lines.{line_capacity};
-ghost use Rattle.cf_io.specs.Texts.{said};
+ghost use Rattle.run_model.specs.Terms.{Free, Malloc, said, Write};
 ghost use Rattle.cf_session.specs.Apply.{outcome_in};
 ghost use Rattle.cf_session.specs.Short.{short_text};
-ghost use Rattle.script_reader.specs.declared.command.Command.TheVariants.{Malloc, Free, Write};
 ghost use Rattle.id_table.specs.Ties.{AreTiedTo};
 ghost use Rattle.large_session.specs.LargeRun.{LargeStep, large_calls, large_run};
 ghost use Rattle.script_laws.specs.ObjectRun.{object_bytes};

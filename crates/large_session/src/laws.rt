@@ -2,17 +2,11 @@
 //! claimed of every script in mode `large`, by its lines and their replies alone (`MeetsLarge`). The functions
 //! do nothing: their clauses are the laws.
 ghost use Rattle.std.specs.Prelude.{◌≡◌, ℕ, ◌++◌, Bool, List, [], Option, None, codes, take, ◌∷◌};
-ghost use Rattle.cf_base.specs.declared.kind.Kind.{Kind};
-ghost use Rattle.cf_base.specs.Settings.{Profile};
-ghost use Rattle.cf_io.specs.Texts.{Reply, said, text_of};
-ghost use Rattle.cf_model.specs.Families.{IsPaged};
-ghost use Rattle.cf_model.specs.Rules.{AreInRange};
+ghost use Rattle.run_model.specs.Terms.{AreInRange, Command, IsPaged, Item, items, Kind, Profile, Reply, said, text_of};
 ghost use Rattle.script_laws.specs.ValidItems.{IsValidCommand};
 ghost use Rattle.script_laws.specs.IdBytes.{AreReadsOf};
 ghost use Rattle.script_loop.specs.Consequences.{IsPrefixBy};
 ghost use Rattle.script_loop.specs.ScriptOutcome.{Effects, WroteInPart, items_within};
-ghost use Rattle.script_reader.specs.Items.{Item, items};
-ghost use Rattle.script_reader.specs.declared.command.Command.{Command};
 ghost use Rattle.large_session.specs.LargeRun.{IsGoingLarge, LargeRun, LargeStep};
 ghost use Rattle.large_session.specs.Playing.{BeginsLarge, RunsLarge, large_heap};
 ghost use Rattle.script_loop.specs.Semantics.{RunBy};

@@ -2,10 +2,8 @@
 //! its reply.
 ghost use Rattle.std.specs.Prelude.{◌≡◌, ◌<◌, [], IsTrue, IfOk, length};
 ghost use Rattle.std.specs.FinMap as map;
-ghost use Rattle.cf_io.specs.Feeds.{SinkFailsIf};
+ghost use Rattle.run_model.specs.Terms.{IsWellFormed, owned_command, SinkFailsIf};
 ghost use Rattle.cf_session.specs.Apply.{outcome_in};
-ghost use Rattle.script_reader.specs.Commands.{IsWellFormed};
-ghost use Rattle.script_reader.specs.Owned.{owned_command};
 ghost use Rattle.script_loop.specs.Applying.{Applies, BuildsReply};
 ghost use Rattle.id_table.specs.Ties.{AreTiedTo};
 ghost use Rattle.large_session.specs.LargeRun.{IsGoingLarge, LargeStep, large_moment, large_run};

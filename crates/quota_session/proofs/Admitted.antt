@@ -1,9 +1,7 @@
 -- For `an_admitted_task_is_served`: after `yes` to `admit`, no malloc of the task is refused while it stays within what it declared. Also, `admit` has one
 -- result.
-use Rattle.std.proofs.Common.{◌≡◌, ℕ, suc, Bool, true, false, ◌+◌, ◌≤◌, List, [], ◌∷◌, ◌++◌, Option, Some, None, Err, length, drop, get_or}
-use Rattle.std.proofs.Common.{arith, ap, sym, ◌∙◌, refl, inl, inr, subst}
-use Rattle.std.specs.Prelude.{◌⊎◌, codes, nat_eq, nat_lt}
-use Rattle.std.specs.FinMap.{empty, get}
+use Rattle.std.proofs.Common.{◌≡◌, ℕ, suc, Bool, true, false, ◌+◌, ◌≤◌, List, [], ◌∷◌, ◌++◌, Option, Some, None, Err, length, drop, get_or, arith, ap, sym, ◌∙◌, refl, inl, inr, subst, ◌⊎◌, codes, nat_eq, nat_lt}
+use Rattle.run_model.specs.Terms.{asks, bad, Command, empty, get, Item, Reply, said, starts}
 use Rattle.std.proofs.lemmas.Bool.{cases_lt}
 use Rattle.cf_lemmas.proofs.Ranges.{one}
 use Rattle.cf_lemmas.proofs.Tests.{eq_yes, lt_no, lt_yes}
@@ -14,15 +12,12 @@ use Rattle.quota_model.specs.declared.answers.Admission.{Admission}
 use Rattle.quota_model.specs.declared.answers.Admission.TheVariants.{Yes, No, Size, Proxies}
 use Rattle.quota_model.specs.declared.answers.Need.{Need}
 use Rattle.run_model.specs.Replies.{malloc_text}
-use Rattle.run_model.specs.Texts.{Reply, said}
-use Rattle.script_reader.specs.Items.{Item, asks, bad, starts}
-use Rattle.script_reader.specs.declared.command.Command.{Command}
 use Rattle.script_reader.specs.declared.command.Command.TheVariants as command
 use Rattle.script_laws.specs.RepliesById.{malloc_fault, malloc_said, ok_or}
 use Rattle.quota_session.specs.Admitted.{AreServed, IsMallocWithin, IsServed, StayWithin, StaysWithin, states_in}
 use Rattle.quota_session.specs.Tasks.{own_heap}
 use Rattle.quota_session.specs.Transcript.{MeetsTasks, TaskState, admission, admission_by, admission_text, command_reply, share_of, state_after, task_replies}
-use Rattle.quota_session.proofs.Alone.{same_refusal}
+use Rattle.quota_session.proofs.Isolated.{same_refusal}
 
 -- a byte of the first line of a reply
 abbrev pub byte_at : ℕ → Reply → ℕ
@@ -67,9 +62,6 @@ module _ (t : Share) (needs : List Need) where
 
 profile_kept : (now : TaskState) (c : Command) → (state_after now c).tasks.profile ≡ now.tasks.profile
 profile_kept now (command.Task u) = refl
-profile_kept now (command.Quota u pages) = refl
-profile_kept now (command.Need u bytes count) = refl
-profile_kept now (command.Admit u) = refl
 profile_kept now c = refl
 
 module _ (task : ℕ) (admitted : TaskState) (asked : CanBeAsked admitted.tasks.profile (admitted.needs task))

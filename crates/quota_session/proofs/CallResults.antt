@@ -1,33 +1,21 @@
 -- For `CommandSteps`: each malloc, free and write of a task has a result and a heap after it. A malloc that isn't refused finds a slot, and some words are the
 -- image of the objects after the call.
-use Rattle.std.proofs.Common.{◌≡◌, ◌≢◌, ℕ, zero, suc, ◌+◌, ◌-◌, ◌*◌, ◌/◌, ◌%◌, ◌<◌, ◌≤◌, List, Bool, true, false, cond, Some, None}
-use Rattle.std.proofs.Common.{length, get_or, set, arith, sym, ◌∙◌, ap, refl, subst, inl, inr}
-use Rattle.std.specs.Prelude.{IsTrue, Option, Result, Ok, Err, nat_eq, nat_lt}
+use Rattle.std.proofs.Common.{◌≡◌, ◌≢◌, ℕ, zero, suc, ◌+◌, ◌-◌, ◌*◌, ◌/◌, ◌%◌, ◌<◌, ◌≤◌, List, Bool, true, false, cond, Some, None, length, get_or, set, arith, sym, ◌∙◌, ap, refl, subst, inl, inr, IsTrue, Option, Result, Ok, Err, nat_eq, nat_lt, length-set}
 use Rattle.std.specs.List.{range_with_len}
 use Rattle.std.proofs.lemmas.Bool.{cases_eq, cases_lt, false≢true}
-use Rattle.std.proofs.lemmas.List.{length-set}
-use Rattle.std.specs.FinMap.{get, insert, len}
-use Rattle.cf_base.specs.Classes.{need}
+use Rattle.run_model.specs.Terms.{AccessFault, class_at, classes, Freed, get, Handle, Held, insert, IsPaging, IsSound, len, need, objects, page_of, Paging, Placed, Profile, Refusal, region_words, Request, slot_words, slots_of, written}
 use Rattle.cf_base.specs.Limits.{is_page_size}
-use Rattle.cf_base.specs.Settings.{Profile}
-use Rattle.cf_base.specs.declared.answers.AccessFault.{AccessFault}
 use Rattle.cf_base.specs.declared.answers.AccessFault.TheVariants as access
-use Rattle.cf_base.specs.declared.answers.Freed.{Freed}
-use Rattle.cf_base.specs.declared.answers.Handle.{Handle}
-use Rattle.cf_base.specs.declared.answers.Refusal.{Refusal}
 use Rattle.cf_base.specs.declared.answers.Refusal.TheVariants as refusal
 use Rattle.cf_lemmas.proofs.Ranges.{one, sum_at_least, sum_le}
 use Rattle.cf_lemmas.proofs.Searches.{few_keys, fresh_key}
 use Rattle.cf_lemmas.proofs.Tests.{eq_no, eq_yes, lt_yes}
-use Rattle.cf_model.specs.State.{region_words}
-use Rattle.page_model.specs.Arrangement.{IsSound, class_at, pages_of_class, live, not_full_pages, pages_needed, pages_needed_with}
+use Rattle.page_model.specs.Arrangement.{pages_of_class, live, not_full_pages, pages_needed, pages_needed_with}
 use Rattle.page_model.specs.Arrangement.{count_on, used_pages}
-use Rattle.page_model.specs.Bytes.{written}
 use Rattle.page_model.specs.Counts.{LieOn, ceil_div}
-use Rattle.page_model.specs.Held.{Held, Placed, objects}
 use Rattle.page_model.specs.Image.{IsSlotImage, MovesWords, header_word, object_word, slot_for}
-use Rattle.page_model.specs.Paging.{IsPaging, Paging, address_of, bound_of, class_for, classes, page_of, slot_words, slots_of}
-use Rattle.page_model.specs.Steps.{IsFreePlace, Moves, Request, without, zeros_at}
+use Rattle.page_model.specs.Paging.{address_of, bound_of, class_for}
+use Rattle.page_model.specs.Steps.{IsFreePlace, Moves, without, zeros_at}
 use Rattle.page_model.proofs.CallerLemmas.{IsOpen, address_is_slot, between_multiples, class_fits, len-objects, nothing_on, on_page, open_page}
 use Rattle.page_model.proofs.CallerLemmas.{class_holds, length-written, mover_is_other, slot_inside, slots_some, sound_apart, sound_stand, standing}
 use Rattle.page_model.proofs.CallerLemmas.{some_move, sum_plus, used_at_one}

@@ -1,15 +1,13 @@
 -- For the loop of `put_classes`, which writes a task's report: up to each class, the figures are those of the task's objects, and the pages counted are those
 -- that the task uses.
-use Rattle.std.proofs.Common.{◌≡◌, ◌∙◌, ℕ, ◌+◌, ◌≤◌, ◌<◌, ◌++◌, List, [], ◌∷◌, Some, None, ap, arith}
+use Rattle.std.proofs.Common.{◌≡◌, ◌∙◌, ℕ, ◌+◌, ◌≤◌, ◌<◌, ◌++◌, List, [], ◌∷◌, Some, None, ap, arith, sum_by}
 use Rattle.std.proofs.lemmas.List.Sums.{sum_by-cons}
-use Rattle.std.specs.Prelude.{sum_by}
 use Rattle.std.specs.List.{range_with_len}
 use Rattle.cf_base.specs.declared.answers.Figures.{Figures}
 use Rattle.frag_report.proofs.CallerLemmas.{class_past, class_there, one_class_more}
 use Rattle.page_model.specs.Arrangement.{pages_of_class, used_pages}
 use Rattle.page_model.specs.Figures.{figures_of}
-use Rattle.page_model.specs.Held.{Held}
-use Rattle.page_model.specs.Paging.{Paging, classes}
+use Rattle.run_model.specs.Terms.{classes, Held, Paging}
 use Rattle.quota_heap.specs.State.{KeepsTasks, QuotaState, held_by}
 use Rattle.quota_heap.specs.Steps.{figures_by}
 use Rattle.quota_model.specs.Refusals.{task_paging}

@@ -1,15 +1,9 @@
 -- For `each_command_has_its_turn` and `a_run_of_tasks_can_always_go_on`: a run over tasks can begin with any settings in their ranges, and each command then
 -- has a reply and a state after it.
-use Rattle.std.proofs.Common.{◌≡◌, ℕ, ◌<◌, List, Some, None, refl, inl, inr}
-use Rattle.std.specs.Prelude.{Option, codes}
-use Rattle.std.specs.FinMap.{empty}
+use Rattle.std.proofs.Common.{◌≡◌, ℕ, ◌<◌, List, Some, None, refl, inl, inr, Option, codes}
+use Rattle.run_model.specs.Terms.{AreInRange, at_bound_one, Command, empty, need, Profile, region_words, Reply, said}
 use Rattle.std.proofs.lemmas.List.{length-replicate}
 use Rattle.std.proofs.lemmas.Bool.{cases_lt}
-use Rattle.cf_base.specs.Classes.{need}
-use Rattle.cf_base.specs.Settings.{Profile, at_bound_one}
-use Rattle.cf_io.specs.Texts.{Reply, said}
-use Rattle.cf_model.specs.Rules.{AreInRange}
-use Rattle.cf_model.specs.State.{region_words}
 use Rattle.page_model.specs.Image.{slot_for}
 use Rattle.page_model.proofs.CallerLemmas.{held_of_bytes, image_empty}
 use Rattle.quota_heap.specs.State.{KeepsTasks, empty_state, held_by, quota_of}
@@ -23,7 +17,6 @@ use Rattle.quota_model.specs.declared.answers.QuotaFault.{QuotaFault}
 use Rattle.quota_model.proofs.CallerLemmas.{enough_iff, first_quotas, first_shared, granted_quotas, none_iff}
 use Rattle.script_laws.specs.ValidItems.{IsValidCommand}
 use Rattle.script_laws.proofs.CallerLemmas.{HasCalls, object_step_exists, CanGoOn}
-use Rattle.script_reader.specs.declared.command.Command.{Command}
 use Rattle.script_reader.specs.declared.command.Command.TheVariants as command
 use Rattle.quota_session.specs.Playing.{BeginsTasks, BeginsQuotas}
 use Rattle.quota_session.specs.QuotaRun.{IsGoingQuotas, QuotaRun, QuotaStep, StepsPresent, first_session, needs_of}
@@ -31,8 +24,7 @@ use Rattle.quota_session.specs.Transcript.{admission_text, need_text}
 use Rattle.quota_session.specs.QuotaRun.{present_run, quota_fault, with_ids, with_need, with_present}
 use Rattle.quota_session.specs.TaskRun.{task_calls, task_shown}
 use Rattle.quota_session.proofs.CallResults.{PageLaw, free_there, malloc_there, write_there}
-use Rattle.quota_session.proofs.RunInvariant.{below, present_going, still_going}
-use Rattle.quota_session.proofs.OpenLemmas.{begins_going}
+use Rattle.quota_session.proofs.RunInvariant.{below, present_going, still_going, begins_going}
 
 -- each call for a task has a result
 task_there : PageLaw → (task : ℕ) → task < 16 → HasCalls (task_calls task)

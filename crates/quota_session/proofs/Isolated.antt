@@ -1,27 +1,50 @@
--- For `tasks_are_isolated` and `tasks_are_isolated_in_a_script`: without the lines of other tasks and refused quota lines, a task keeps the same quota and
--- objects, line by line, and has the same replies.
-use Rattle.std.proofs.Common.{◌≡◌, ◌≢◌, ℕ, suc, Bool, true, false, cond, ◌<◌, ◌≤◌, List, [], ◌∷◌, Option, Some, None, length, get_or, set}
-use Rattle.std.proofs.Common.{arith, ap, sym, ◌∙◌, refl, inl, inr, subst}
-use Rattle.std.specs.Prelude.{◌&&◌, nat_eq, nat_lt, not, sum}
+-- A task alone: what it is answered, and that other tasks don't change it, in a script and over calls.
+use Rattle.std.proofs.Common.{◌≡◌, ℕ, ap, refl, slice_index, cond, ◌≢◌, suc, Bool, true, false, ◌<◌, ◌≤◌, List, [], ◌∷◌, Option, Some, None, length, get_or, set, arith, sym, ◌∙◌, inl, inr, subst, codes, ◌&&◌, nat_eq, nat_lt, not, sum}
+use Rattle.page_model.specs.Arrangement.{live, pages_needed_with, pages_needed}
+use Rattle.run_model.specs.Terms.{Command, Moving, Objects, Profile, said, asks, bad, Item, Reply, starts}
+use Rattle.page_model.specs.Paging.{class_for}
+use Rattle.script_laws.specs.ById.{ById, begun}
+use Rattle.script_laws.specs.RepliesById.{malloc_fault, objects_after, reply_by_id}
+use Rattle.quota_model.specs.Refusals.{malloc_refusal, task_paging}
+use Rattle.quota_session.specs.Tasks.{Tasks, own_heap, is_for_task, task_leaves, task_reply, after_item, calls, quotas_after, set_refusal, sets, TaskItem, no_tasks}
 use Rattle.std.proofs.lemmas.Bool.{and_parts, cases_eq, cases_lt, not-true, not-false}
 use Rattle.std.proofs.lemmas.List.{get_or-set_same, get_or-set_other, length-set, length-replicate}
 use Rattle.std.proofs.lemmas.List.Sums.{sum_by-cons}
-use Rattle.cf_base.specs.Settings.{Profile}
 use Rattle.cf_lemmas.proofs.Tests.{eq_yes, eq_no, lt_no, lt_yes}
-use Rattle.page_model.specs.Arrangement.{pages_needed}
 use Rattle.quota_model.proofs.CallerLemmas.{zeros}
-use Rattle.quota_model.specs.Refusals.{task_paging}
 use Rattle.quota_model.specs.declared.answers.QuotaFault.{QuotaFault}
 use Rattle.quota_model.specs.declared.answers.QuotaFault.TheVariants.{Sum, Used}
-use Rattle.run_model.specs.Texts.{Reply, said}
-use Rattle.script_reader.specs.Items.{Item, asks, bad, starts}
-use Rattle.script_reader.specs.declared.command.Command.{Command}
-use Rattle.script_reader.specs.declared.command.Command.TheVariants as command
 use Rattle.quota_session.specs.Own.{is_left_out, is_own, own_items, replies_of}
-use Rattle.quota_session.specs.Runs.{is_accepted}
-use Rattle.quota_session.specs.Tasks.{Tasks, after_item, calls, quotas_after, set_refusal, sets, task_leaves, task_reply}
+use Rattle.quota_session.specs.Runs.{is_accepted, own_calls, replies_to}
 use Rattle.quota_session.specs.Transcript.{MeetsTasks, TaskState, admission, admission_text, command_reply, first_state, need_text, one_need_more, present_after, state_after, task_replies}
-use Rattle.quota_session.proofs.Alone.{same_leaves, same_reply}
+use Rattle.script_reader.specs.declared.command.Command.TheVariants as command
+
+-- For `a_reply_follows_from_the_task_alone`: the reply to a command of a task, and its objects after it, follow from the settings, its quota and its objects;
+-- so does the cause of a refused malloc.
+
+-- the heap that a task would have for itself, from its settings, quota and objects
+abbrev heap_from : Profile → ℕ → Objects → ById
+heap_from s quota objects = record (begun Moving (record s { pages = quota; k = 1 })) { objects = objects }
+
+module _ (one other : Tasks) (task : ℕ) (profile : other.profile ≡ one.profile) (quota : slice_index other.quotas task ≡ slice_index one.quotas task)
+    (objects : other.objects task ≡ one.objects task) where
+  pub same_heap : own_heap other task ≡ own_heap one task
+  same_heap = λ i. heap_from (profile i) (quota i) (objects i)
+
+  pub same_reply : (command : Command) → task_reply other task command ≡ task_reply one task command
+  same_reply command = ap (λ h. cond (is_for_task command) (reply_by_id h command) (said (codes "none"))) same_heap
+
+  pub same_leaves : (command : Command) → task_leaves other task command ≡ task_leaves one task command
+  same_leaves command = λ i. cond (is_for_task command) (objects_after (same_heap i) command) (objects i)
+
+-- a heap that the task has for itself refuses a malloc for the cause that `malloc_refusal` has
+pub same_refusal : (one : Tasks) (task bytes : ℕ)
+    → malloc_fault (own_heap one task) bytes ≡ malloc_refusal one.profile (slice_index one.quotas task) (one.objects task) bytes
+unfolding pages_needed_with live class_for
+same_refusal one task bytes = refl
+
+-- For `tasks_are_isolated` and `tasks_are_isolated_in_a_script`: without the lines of other tasks and refused quota lines, a task keeps the same quota and
+-- objects, line by line, and has the same replies.
 
 -- if each entry of a list is at most that of another list, so is the sum
 sum_below : (xs ys : List ℕ) → length xs ≡ length ys → ((i : ℕ) → get_or xs i 0 ≤ get_or ys i 0) → sum xs ≤ sum ys
@@ -352,3 +375,46 @@ module _ (task : ℕ) (lt : task < 16) where
   isolated_alike items others replies shown same meets met =
       sym (isolated_in others shown _ met refl) ∙ ap (λ (l : List Item). replies_of task 0 l (task_replies None l)) same
       ∙ isolated_in items replies _ meets refl
+
+-- For `tasks_are_isolated`: over a list of calls and quota lines, the replies to a task are the same without the others' calls and quota lines and without
+-- refused quota lines.
+
+module _ (task : ℕ) (lt : task < 16) where
+  calls_alike : (items : List TaskItem) (all own : Tasks) → IsOwn task all own → replies_to task own (own_calls task all items) ≡ replies_to task all items
+  calls_alike [] all own o = refl
+  calls_alike (calls u command ∷ rest) all own o = elim (cases_eq u task) [
+    | inl is ↦ (
+        let yes : nat_eq u task ≡ true = eq_yes u task is in
+        let reply = same_reply all own task o.profile o.quota o.objects command in
+        let ih = calls_alike rest (after_item all (calls u command)) (after_item own (calls u command)) (own_call task lt all own u command is o) in
+        rw yes (rw yes (λ i. reply i ∷ ih i)))
+    | inr ne ↦ (
+        let no : nat_eq u task ≡ false = eq_no u task ne in
+        rw no (calls_alike rest (after_item all (calls u command)) own (others_call task lt all own u command ne o)))
+  ]
+  calls_alike (sets u pages ∷ rest) all own o = go (nat_eq u task && is_accepted (set_refusal all u pages)) refl
+      (λ p. calls_alike rest (after_item all (sets u pages)) own p)
+      (λ p. calls_alike rest (after_item all (sets u pages)) (after_item own (sets u pages)) p)
+    where
+      go : (b : Bool) → (nat_eq u task && is_accepted (set_refusal all u pages)) ≡ b
+          → (IsOwn task (after_item all (sets u pages)) own
+          → replies_to task own (own_calls task (after_item all (sets u pages)) rest) ≡ replies_to task (after_item all (sets u pages)) rest)
+          → (IsOwn task (after_item all (sets u pages)) (after_item own (sets u pages))
+          → replies_to task (after_item own (sets u pages)) (own_calls task (after_item all (sets u pages)) rest)
+          ≡ replies_to task (after_item all (sets u pages)) rest)
+          → replies_to task own (cond b (sets u pages ∷ own_calls task (after_item all (sets u pages)) rest)
+          (own_calls task (after_item all (sets u pages)) rest))
+          ≡ replies_to task (after_item all (sets u pages)) rest
+      go false is out kept = out (left_set task lt all own u pages (set_refusal all u pages) is o)
+      go true is out kept = kept (kept_set task lt all own u pages is o)
+
+  pub calls_isolated : (s : Profile) (items : List TaskItem)
+      → replies_to task (no_tasks s) (own_calls task (no_tasks s) items) ≡ replies_to task (no_tasks s) items
+  calls_isolated s items = calls_alike items (no_tasks s) (no_tasks s) (record {
+    profile = refl;
+    objects = refl;
+    quota = refl;
+    others = λ u ne. zeros 16 u;
+    many = length-replicate {A = ℕ} 16 0;
+    as_many = length-replicate {A = ℕ} 16 0;
+  })

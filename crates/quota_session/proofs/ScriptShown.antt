@@ -1,15 +1,11 @@
 -- For the laws of `laws.rt`: the replies of a run over tasks are those of the transcript, a function of the lines alone; so two runs that are alike for a task
 -- give it the same replies.
-use Rattle.std.proofs.Common.{◌≡◌, ℕ, ◌<◌, ◌≤◌, List, [], ◌∷◌, Some, None, true, false, cond, get_or, length, take, arith, sym, ◌∙◌, ap, refl, subst, inl, inr}
+use Rattle.std.proofs.Common.{◌≡◌, ℕ, ◌<◌, ◌≤◌, List, [], ◌∷◌, Some, None, true, false, cond, get_or, length, take, arith, sym, ◌∙◌, ap, refl, subst, inl, inr, get_or-set_same, get_or-set_other}
 use Rattle.std.specs.Prelude.{⊤, Option, nat_eq, nat_le, nat_lt, option_map, slice_set, sum}
 use Rattle.std.proofs.lemmas.Bool.{cases_eq}
-use Rattle.std.proofs.lemmas.List.{get_or-set_same, get_or-set_other}
-use Rattle.std.specs.FinMap.{empty}
-use Rattle.cf_base.specs.Settings.{Profile, at_bound_one}
-use Rattle.cf_io.specs.Texts.{Reply, said}
+use Rattle.run_model.specs.Terms.{asks, at_bound_one, bad, Command, empty, Ids, Item, Profile, Reply, said, starts}
 use Rattle.cf_lemmas.proofs.Renaming.{CountAlike}
 use Rattle.cf_lemmas.proofs.Tests.{eq_no, eq_yes}
-use Rattle.id_table.specs.Ids.{Ids}
 use Rattle.quota_heap.specs.State.{empty_state, objects_by}
 use Rattle.quota_session.proofs.Admitted.{admission_is}
 use Rattle.quota_session.specs.Tasks.{Tasks, after_item, calls, is_for_task, no_tasks, quota_text, quotas_after, set_refusal, sets, task_leaves, task_reply}
@@ -21,12 +17,10 @@ use Rattle.quota_model.specs.declared.answers.QuotaFault.{QuotaFault}
 use Rattle.quota_model.specs.declared.answers.QuotaFault.TheVariants.{Sum, Used}
 use Rattle.script_laws.specs.ValidItems.{AreValidItems, IsValidCommand, IsValidItem}
 use Rattle.script_laws.proofs.CallerLemmas.{all_items_valid, needed_alike}
-use Rattle.run_model.specs.Plays.{PlayStep}
+use Rattle.run_model.specs.Plays.{IsAt, PlayStep}
 use Rattle.script_loop.specs.ScriptOutcome.{MOST_BYTES, items_within}
 use Rattle.script_loop.specs.Semantics.{RunBy}
 use Rattle.id_table.specs.Ties.{AreTiedTo}
-use Rattle.script_reader.specs.Items.{Item, asks, bad, starts}
-use Rattle.script_reader.specs.declared.command.Command.{Command}
 use Rattle.script_reader.specs.declared.command.Command.TheVariants as command
 use Rattle.run_model.specs.ById.{objects_by_id}
 use Rattle.run_model.proofs.CallerLemmas.{by_id_counts, none_by_id}
@@ -35,8 +29,7 @@ use Rattle.quota_session.specs.Playing.{BeginsTasks, BeginsQuotas, RunsQuotas, q
 use Rattle.quota_session.specs.QuotaRun.{IsGoingQuotas, QuotaRun, QuotaStep, SetsQuota, StepsPresent, TaskSession, ids_of, needs_of, present_run}
 use Rattle.quota_session.specs.QuotaRun.{quota_fault, with_ids}
 use Rattle.quota_session.specs.TaskRun.{TaskRun, task_run}
-use Rattle.quota_session.proofs.RunInvariant.{below, ids_here, ids_there, rest_kept, present_going, still_going}
-use Rattle.quota_session.proofs.OpenLemmas.{all_same, begins_going}
+use Rattle.quota_session.proofs.RunInvariant.{below, ids_here, ids_there, rest_kept, present_going, still_going, all_same, begins_going}
 use Rattle.quota_session.proofs.OwnTask.{IsOwnReply, shown}
 
 -- the state of a run as the transcript has it: the present task, the tasks by id, and their needs
@@ -189,41 +182,36 @@ module _ (old : QuotaRun) (going : IsGoingQuotas old) where
       ∙ ap (λ a. said (admission_text a)) (admission_is _ (needs_of old.session task) (step.0).answer (step.0).meets)
   command_shown c reply new can step = call_reply old going c reply new step
 
--- a run that hasn't begun, or is in progress
-abbrev GoesOn : Option QuotaRun → Type 0
-GoesOn None = ⊤
-GoesOn (Some s) = IsGoingQuotas s
-
 -- the reply to an item and the state after it are those of the transcript, and the run goes on
 record IsShownItem (old : Option QuotaRun) (item : Item) (reply : Reply) (new : Option QuotaRun) : Type 0 where
   reply_is : reply ≡ reply_to_item (option_map state_of old) item
   state : option_map state_of new ≡ state_after_item (option_map state_of old) item
-  going : GoesOn new
+  going : IsAt IsGoingQuotas new
 
-item_shown : (old : Option QuotaRun) (item : Item) (reply : Reply) (new : Option QuotaRun) → GoesOn old → IsValidItem item
+item_shown : (old : Option QuotaRun) (item : Item) (reply : Reply) (new : Option QuotaRun) → IsAt IsGoingQuotas old → IsValidItem item
     → PlayStep BeginsTasks QuotaStep old item reply new → IsShownItem old item reply new
 item_shown old (starts p) reply new going can step = record {
   reply_is = step.1.1;
   state = ap (option_map state_of) step.2 ∙ ap (λ t. Some t) (begun_shown p step.0 step.1.0);
-  going = subst GoesOn (sym step.2) (begins_going p step.0 step.1.0);
+  going = subst (IsAt IsGoingQuotas) (sym step.2) (begins_going p step.0 step.1.0);
 }
 item_shown None (asks c) reply new going can step = record {
   reply_is = step.0;
   state = ap (option_map state_of) step.1;
-  going = subst GoesOn (sym step.1) tt;
+  going = subst (IsAt IsGoingQuotas) (sym step.1) tt;
 }
 item_shown (Some old) (asks c) reply new going can step = record {
   reply_is = command_shown old going c reply step.0 can step.1;
   state = ap (option_map state_of) step.2 ∙ ap (λ t. Some t) (state_shown old going c reply step.0 can step.1);
-  going = subst GoesOn (sym step.2) (still_going old going c reply step.0 can.formed step.1);
+  going = subst (IsAt IsGoingQuotas) (sym step.2) (still_going old going c reply step.0 can.formed step.1);
 }
 item_shown old (bad n) reply new going can step = record {
   reply_is = step.0;
   state = ap (option_map state_of) step.1;
-  going = subst GoesOn (sym step.1) going;
+  going = subst (IsAt IsGoingQuotas) (sym step.1) going;
 }
 
-run_shown : (items : List Item) (old : Option QuotaRun) (replies : List Reply) (end : Option QuotaRun) → GoesOn old → AreValidItems items
+run_shown : (items : List Item) (old : Option QuotaRun) (replies : List Reply) (end : Option QuotaRun) → IsAt IsGoingQuotas old → AreValidItems items
     → RunsQuotas old items replies end → replies ≡ task_replies (option_map state_of old) items
 run_shown [] old replies end going can run = run.0
 run_shown (item ∷ rest) old replies end going can run =

@@ -1,25 +1,17 @@
 -- For `reads_give_what_was_written`: in the transcript, the replies that a script's lines determine, each read returns the bytes of the present task's id that
 -- the lines and replies before it determine.
-use Rattle.std.proofs.Common.{◌≡◌, ℕ, Bool, true, false, cond, List, [], ◌∷◌, Option, Some, None, length, replicate, sym, ◌∙◌, ap, refl, subst, inl, inr}
-use Rattle.std.specs.Prelude.{◌&&◌, Err, nat_eq, option_map}
+use Rattle.std.proofs.Common.{◌≡◌, ℕ, Bool, true, false, cond, List, [], ◌∷◌, Option, Some, None, length, replicate, sym, ◌∙◌, ap, refl, subst, inl, inr, ◌&&◌, Err, nat_eq, option_map}
 use Rattle.std.proofs.lemmas.Bool.{cases_eq}
-use Rattle.std.specs.FinMap.{get, insert, remove}
-use Rattle.cf_base.specs.declared.answers.AccessFault.{AccessFault}
+use Rattle.run_model.specs.Terms.{AccessFault, asks, bad, Command, get, insert, Item, Objects, Refusal, remove, Reply, said, starts, written}
 use Rattle.cf_base.specs.declared.answers.AccessFault.TheVariants as access
-use Rattle.cf_base.specs.declared.answers.Refusal.{Refusal}
 use Rattle.cf_base.specs.declared.answers.Refusal.TheVariants as refusal
-use Rattle.cf_io.specs.Texts.{Reply, said}
 use Rattle.cf_lemmas.proofs.Tests.{eq_no, eq_yes}
 use Rattle.cf_lemmas.proofs.Maps.{remove_missing}
-use Rattle.page_model.specs.Bytes.{written}
-use Rattle.page_model.specs.Held.{Objects}
 use Rattle.quota_session.specs.Tasks.{Tasks, own_heap, task_leaves, task_reply}
 use Rattle.quota_session.specs.Transcript.{MeetsTasks, TaskState, command_reply, present_after, reply_to_item, state_after, state_after_item, task_replies}
 use Rattle.script_laws.proofs.CallerLemmas.{changed_is}
 use Rattle.script_laws.specs.IdBytes.{changed, bytes_after, is_ok, read_shown}
 use Rattle.run_model.specs.Replies.{malloc_text, write_text}
-use Rattle.script_reader.specs.Items.{Item, asks, bad, starts}
-use Rattle.script_reader.specs.declared.command.Command.{Command}
 use Rattle.script_reader.specs.declared.command.Command.TheVariants as command
 use Rattle.script_laws.specs.RepliesById.{free_said, malloc_fault, malloc_leaves, malloc_said, ok_or, put_unless, write_fault}
 use Rattle.script_laws.specs.RepliesById.{write_leaves, write_said}

@@ -1,17 +1,11 @@
 -- For `wrong_task_replies_fall_short`: small scripts in mode `quota` with their right replies computed, each with wrong replies that don't meet the claim.
-use Rattle.std.proofs.Common.{◌≡◌, ℕ, true, List, [], ◌∷◌, Some, None, length, get_or, refl, ◌∙◌, ap, arith}
-use Rattle.std.specs.Prelude.{codes, if◌then◌else◌, nat_eq, replicate}
+use Rattle.std.proofs.Common.{◌≡◌, ℕ, true, List, [], ◌∷◌, Some, None, length, get_or, refl, ◌∙◌, ap, arith, codes, if◌then◌else◌, nat_eq, replicate}
 use Rattle.std.specs.Fmt.{digits}
-use Rattle.std.specs.FinMap.{empty, insert}
+use Rattle.run_model.specs.Terms.{Admit, asks, empty, insert, Item, items, Malloc, Need, Objects, Profile, Quota, Read, Reply, said, starts, Task, Write}
 use Rattle.hex.specs.Hex.{decode_pairs}
 use Rattle.cf_base.specs.Classes.{sizes_from}
-use Rattle.cf_base.specs.Settings.{Profile}
 use Rattle.page_model.specs.Arrangement.{live, pages_needed, pages_needed_with}
-use Rattle.page_model.specs.Held.{Objects}
 use Rattle.page_model.specs.Paging.{class_for}
-use Rattle.run_model.specs.Texts.{Reply, said}
-use Rattle.script_reader.specs.Items.{Item, asks, items, starts}
-use Rattle.script_reader.specs.declared.command.Command.TheVariants.{Malloc, Write, Read, Task, Quota, Need, Admit}
 use Rattle.script_laws.proofs.CallerLemmas.{counted, got, got_none, listed, listed_none}
 use Rattle.quota_session.specs.Transcript.{MeetsTasks, TaskState, command_reply, first_state, state_after, task_replies}
 use Rattle.quota_session.proofs.Admitted.{byte_at}

@@ -1,11 +1,8 @@
 -- What the reply `yes` to `admit` promises a task: if its mallocs stay within the needs that it declared, none is refused. `admitted` is the state in which
 -- `admit` was asked, `now` that before a later item.
 use Rattle.std.specs.Prelude.{◌≡◌, ⊤, ◌⊎◌, ℕ, ◌≤◌, List, [], ◌∷◌, Option, Some, None, codes, replicate, slice_index}
-use Rattle.std.specs.FinMap.{get, insert}
+use Rattle.run_model.specs.Terms.{asks, get, insert, Item, Malloc, Reply, said, starts}
 use Rattle.quota_model.specs.Admission.{declared, live_of}
-use Rattle.run_model.specs.Texts.{Reply, said}
-use Rattle.script_reader.specs.Items.{Item, asks, starts}
-use Rattle.script_reader.specs.declared.command.Command.TheVariants.{Malloc}
 use Rattle.quota_session.specs.Own.{present_in}
 use Rattle.quota_session.specs.Transcript.{TaskState, state_after_item}
 

@@ -1,14 +1,10 @@
 -- The most steps that each command of mode `quota` takes on the heap that sixteen tasks share; only `m`, `f`, `w` and `r` take any.
 use Rattle.std.specs.Prelude.{ℕ, Option, Some, None, if◌then◌else◌, is_some, length}
-use Rattle.std.specs.FinMap.{get}
-use Rattle.id_table.specs.Ids.{Ids}
-use Rattle.page_model.specs.Held.{Placed}
+use Rattle.run_model.specs.Terms.{Command, Free, get, Ids, Malloc, Placed, Read, Write}
 use Rattle.page_model.specs.Image.{slot_for}
 use Rattle.quota_heap.specs.Costs.{most_of_access, most_of_free, most_of_malloc}
 use Rattle.quota_heap.specs.State.{QuotaState}
 use Rattle.quota_model.specs.Refusals.{task_paging}
-use Rattle.script_reader.specs.declared.command.Command.{Command}
-use Rattle.script_reader.specs.declared.command.Command.TheVariants.{Malloc, Free, Write, Read}
 use Rattle.quota_session.specs.QuotaRun.{QuotaRun, present_run}
 use Rattle.quota_session.specs.TaskRun.{TaskRun, task_object}
 

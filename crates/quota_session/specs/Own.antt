@@ -1,10 +1,7 @@
 -- For isolation in a script: the lines that concern task number `task`, and the replies to its commands. `present` is the number of the present task, which the
 -- last `t` named, 0 before the first.
 use Rattle.std.specs.Prelude.{ℕ, Bool, false, ◌&&◌, List, [], ◌∷◌, Option, Some, if◌then◌else◌, nat_eq, not}
-use Rattle.run_model.specs.Texts.{Reply}
-use Rattle.script_reader.specs.Items.{Item, asks, bad, starts}
-use Rattle.script_reader.specs.declared.command.Command.{Command}
-use Rattle.script_reader.specs.declared.command.Command.TheVariants.{Task, Quota, Need, Admit}
+use Rattle.run_model.specs.Terms.{Admit, asks, bad, Command, Item, Need, Quota, Reply, starts, Task}
 use Rattle.quota_session.specs.Runs.{is_accepted}
 use Rattle.quota_session.specs.Tasks.{set_refusal}
 use Rattle.quota_session.specs.Transcript.{TaskState, present_after, state_after_item}

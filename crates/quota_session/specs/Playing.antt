@@ -1,11 +1,9 @@
 -- Mode `quota` for the script loop: how a run over a heap that tasks share begins, its runs over a script, and the state after a failed allocation.
 use Rattle.std.specs.Prelude.{◌≡◌, ⊤, List, Option, Some, codes, false}
-use Rattle.cf_base.specs.Settings.{Profile, at_bound_one}
-use Rattle.cf_io.specs.Texts.{Reply, said}
+use Rattle.run_model.specs.Terms.{at_bound_one, Item, Profile, Reply, said}
 use Rattle.quota_heap.specs.State.{KeepsTasks, empty_state}
 use Rattle.run_model.specs.Plays.{PlayRun}
 use Rattle.script_loop.specs.Semantics.{Semantics}
-use Rattle.script_reader.specs.Items.{Item}
 use Rattle.script_loop.specs.Applying.{TurnsInPart}
 use Rattle.quota_session.specs.QuotaRun.{IsGoingQuotas, QuotaRun, QuotaStep, first_session}
 

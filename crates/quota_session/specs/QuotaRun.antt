@@ -1,10 +1,8 @@
 -- A session over a heap that sixteen tasks share: its state, and for each command the reply and the state after it.
 use Rattle.std.specs.Prelude.{◌≡◌, ℕ, ◌<◌, ◌≤◌, IsTrue, List, [], Option, Some, codes, length, replicate, refl, slice_index_or, slice_set}
 use Rattle.std.specs.Coded.{Coded, code_by, coded×, coded_ℕ, coded_list}
-use Rattle.std.specs.FinMap.{empty}
-use Rattle.cf_base.specs.Settings.{Profile}
-use Rattle.cf_io.specs.Texts.{Reply, said}
-use Rattle.id_table.specs.Ids.{Ids, ids_code}
+use Rattle.run_model.specs.Terms.{Command, empty, Ids, Profile, Reply, said}
+use Rattle.id_table.specs.Ids.{ids_code}
 use Rattle.quota_heap.specs.State.{KeepsTasks, QuotaState, objects_by, quota_of}
 use Rattle.quota_session.specs.Tasks.{quota_text, quotas_after}
 use Rattle.quota_session.specs.Transcript.{admission_text, need_text, one_need_more}
@@ -15,7 +13,6 @@ use Rattle.quota_model.specs.declared.answers.Admission.{Admission}
 use Rattle.quota_model.specs.declared.answers.Need.{Need}
 use Rattle.quota_model.specs.declared.answers.QuotaFault.{QuotaFault}
 use Rattle.script_loop.specs.Semantics.{Snapshot, snapshot}
-use Rattle.script_reader.specs.declared.command.Command.{Command}
 use Rattle.script_reader.specs.declared.command.Command.TheVariants as command
 use Rattle.id_table.specs.Ties.{AreTiedTo}
 use Rattle.quota_session.specs.TaskRun.{TaskRun, TaskStep, task_run}

@@ -1,11 +1,7 @@
 -- The bytes last written through each task's ids, computed from the lines of a script and their replies alone; and that each read prints them.
 use Rattle.std.specs.Prelude.{⊤, ℕ, ◌&&◌, List, [], ◌∷◌, Option, Some, None, if◌then◌else◌, nat_eq}
-use Rattle.std.specs.FinMap.{empty}
-use Rattle.page_model.specs.Held.{Objects}
-use Rattle.cf_io.specs.Texts.{Reply}
+use Rattle.run_model.specs.Terms.{asks, bad, Command, empty, Item, Objects, Reply, starts}
 use Rattle.script_laws.specs.IdBytes.{IsReadOf, bytes_after, is_ok}
-use Rattle.script_reader.specs.Items.{Item, asks, bad, starts}
-use Rattle.script_reader.specs.declared.command.Command.{Command}
 use Rattle.quota_session.specs.Transcript.{present_after}
 
 -- the present task, and for each task the bytes of each id

@@ -2,24 +2,16 @@
 -- and reply.
 use Rattle.std.specs.Prelude.{◌≡◌, ℕ, ◌-◌, ◌++◌, List, Option, Some, None, codes, filter, map, nat_eq, not}
 use Rattle.std.specs.List.{range_with_len}
-use Rattle.std.specs.FinMap.{get}
-use Rattle.cf_base.specs.declared.answers.Freed.{Freed}
-use Rattle.cf_base.specs.declared.answers.Refusal.{Refusal}
+use Rattle.run_model.specs.Terms.{classes, Command, Freed, get, Ids, Placed, Refusal, Reply, said, Walk}
 use Rattle.cf_base.specs.declared.answers.Totals.{Totals}
-use Rattle.cf_io.specs.Texts.{Reply, said}
-use Rattle.id_table.specs.Ids.{Ids}
 use Rattle.script_laws.specs.ObjectRun.{Calls, ObjectRun, ObjectStep, object_run}
 use Rattle.page_model.specs.Arrangement.{live, used_pages}
 use Rattle.page_model.specs.Figures.{figures_of, totals_of}
-use Rattle.page_model.specs.Held.{Placed}
-use Rattle.page_model.specs.Paging.{classes}
 use Rattle.quota_heap.specs.State.{KeepsTasks, QuotaState, held_by, objects_by, quota_of}
 use Rattle.quota_heap.specs.Steps.{FreesOfTask, IsMallocStep, IsWriteStep}
 use Rattle.quota_model.specs.Refusals.{task_paging}
 use Rattle.run_model.specs.Replies.{malloc_text}
 use Rattle.run_model.specs.Reports.{class_line, total_line}
-use Rattle.script_reader.specs.declared.command.Command.{Command}
-use Rattle.script_reader.specs.declared.command.Command.TheVariants.{Walk}
 
 -- the live ids of a task with the handles that they name, and the heap of all tasks
 abbrev pub TaskRun : Type 0

@@ -1,16 +1,10 @@
 -- The tasks of a script in mode `quota`, each with a quota of pages and its objects by id; and for a call of a task and a quota line the reply and the state
 -- after it.
 use Rattle.std.specs.Prelude.{ℕ, Bool, true, false, List, Option, Some, None, codes, if◌then◌else◌, nat_eq, replicate, slice_index, slice_set}
-use Rattle.std.specs.FinMap.{empty}
-use Rattle.cf_base.specs.Settings.{Profile}
-use Rattle.cf_base.specs.declared.kind.Kind.TheVariants.{Moving}
-use Rattle.page_model.specs.Held.{Objects}
+use Rattle.run_model.specs.Terms.{Command, empty, Free, Malloc, Moving, Objects, Profile, Read, Reply, said, Walk, Write}
 use Rattle.quota_model.specs.Refusals.{quota_refusal}
 use Rattle.quota_model.specs.declared.answers.QuotaFault.{QuotaFault}
 use Rattle.quota_model.specs.declared.answers.QuotaFault.TheVariants.{Sum, Used}
-use Rattle.run_model.specs.Texts.{Reply, said}
-use Rattle.script_reader.specs.declared.command.Command.{Command}
-use Rattle.script_reader.specs.declared.command.Command.TheVariants.{Malloc, Free, Write, Read, Walk}
 use Rattle.script_laws.specs.ById.{ById, begun}
 use Rattle.script_laws.specs.RepliesById.{objects_after, reply_by_id}
 

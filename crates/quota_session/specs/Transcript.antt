@@ -1,15 +1,11 @@
 -- The claim of every script in mode `quota` (`MeetsTasks`): each reply is a function of its line and the lines before it. The definitions compute the reply to
 -- each line and the state after it.
 use Rattle.std.specs.Prelude.{◌≡◌, ℕ, ◌++◌, Bool, true, false, List, [], ◌∷◌, Option, Some, None, codes, if◌then◌else◌, length, nat_eq, nat_lt, slice_index}
-use Rattle.std.specs.FinMap.{empty}
-use Rattle.cf_base.specs.Settings.{Profile, at_bound_one}
+use Rattle.run_model.specs.Terms.{asks, at_bound_one, bad, bad_line, Command, empty, Item, Profile, Reply, said, starts, with_number}
 use Rattle.quota_model.specs.Admission.{Share, declared_in_all, first_large, first_refused_for_space, in_order}
 use Rattle.quota_model.specs.declared.answers.Admission.{Admission}
 use Rattle.quota_model.specs.declared.answers.Admission.TheVariants.{Yes, No, Size, Proxies}
 use Rattle.quota_model.specs.declared.answers.Need.{Need}
-use Rattle.run_model.specs.Texts.{Reply, bad_line, said, with_number}
-use Rattle.script_reader.specs.Items.{Item, asks, bad, starts}
-use Rattle.script_reader.specs.declared.command.Command.{Command}
 use Rattle.script_reader.specs.declared.command.Command.TheVariants as command
 use Rattle.quota_session.specs.Tasks.{TaskItem, Tasks, after_item, calls, no_tasks, quota_text, set_refusal, sets, task_reply}
 

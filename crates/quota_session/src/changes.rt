@@ -3,13 +3,12 @@
 ghost use Rattle.std.specs.Prelude.{◌≡◌, ◌^◌, ◌<◌, ◌≤◌, [], IsTrue, length};
 ghost use Rattle.step_ledger.specs.Counting.{RoseAtMost};
 ghost use Rattle.cf_io.specs.Lines.{line_capacity};
-ghost use Rattle.cf_io.specs.Texts.{said};
+ghost use Rattle.run_model.specs.Terms.{Free, Malloc, said, Write};
 ghost use Rattle.cf_session.specs.Apply.{outcome_in};
 ghost use Rattle.cf_session.specs.Short.{short_text};
 ghost use Rattle.quota_heap.specs.State.{objects_by};
 ghost use Rattle.script_laws.specs.ObjectRun.{object_bytes};
 ghost use Rattle.script_laws.specs.IdBytes.{read_shown};
-ghost use Rattle.script_reader.specs.declared.command.Command.TheVariants.{Malloc, Free, Write};
 ghost use Rattle.id_table.specs.Ties.{AreTiedTo};
 ghost use Rattle.quota_session.specs.Costs.{id_access_steps, id_malloc_steps, object_free_steps};
 ghost use Rattle.quota_session.specs.TaskRun.{TaskStep, task_calls, task_object, task_run};

@@ -3,25 +3,17 @@
 //! on, cut output is a prefix, and wrong replies violate the claim. The functions do nothing: their clauses are
 //! the laws.
 ghost use Rattle.std.specs.Prelude.{◌≡◌, ℕ, ◌++◌, Bool, List, [], None, Option, true, ◌+◌, ◌<◌, codes, drop, length, ◌∷◌, Some, slice_index, slice_index_or};
-ghost use Rattle.cf_base.specs.Settings.{Profile};
-ghost use Rattle.cf_io.specs.Texts.{Reply, said, text_of};
-ghost use Rattle.cf_model.specs.Rules.{AreInRange};
+ghost use Rattle.run_model.specs.Terms.{Admit, AreInRange, asks, Command, IsWellFormed, Item, items, Moving, Objects, Profile, Reply, said, text_of};
 ghost use Rattle.quota_session.specs.Tasks.{is_for_task, task_reply, TaskItem, Tasks, no_tasks, own_heap, task_leaves};
 ghost use Rattle.quota_session.specs.Transcript.{MeetsTasks, TaskState, after_if, item_of};
 ghost use Rattle.script_laws.specs.ValidItems.{AreValidItems, IsValidCommand};
 ghost use Rattle.script_loop.specs.Consequences.{IsPrefixBy};
 ghost use Rattle.script_loop.specs.ScriptOutcome.{Effects, WroteInPart, items_within};
-ghost use Rattle.script_reader.specs.Commands.{IsWellFormed};
-ghost use Rattle.script_reader.specs.Items.{Item, items, asks};
-ghost use Rattle.script_reader.specs.declared.command.Command.{Command};
 ghost use Rattle.quota_session.specs.Alone.{AreAlikeFor, tasks_of};
 ghost use Rattle.quota_session.specs.Playing.{BeginsQuotas, RunsQuotas, quota_tasks};
 ghost use Rattle.quota_session.specs.QuotaRun.{IsGoingQuotas, QuotaRun, QuotaStep};
 ghost use Rattle.quota_session.specs.TaskBytes.{AreReadsOfTasks};
-ghost use Rattle.cf_base.specs.declared.kind.Kind.TheVariants.{Moving};
-ghost use Rattle.page_model.specs.Held.{Objects};
 ghost use Rattle.quota_model.specs.Refusals.{malloc_refusal};
-ghost use Rattle.script_reader.specs.declared.command.Command.TheVariants.{Admit};
 ghost use Rattle.script_laws.specs.RepliesById.{malloc_fault};
 ghost use Rattle.script_laws.specs.Transcripts.{replies_from};
 ghost use Rattle.quota_session.specs.Admitted.{AreServed, StayWithin, states_in};

@@ -1,7 +1,6 @@
 //! `walk` for one task: a line for each class with live objects of the task, and a line with its totals.
 ghost use Rattle.std.specs.Prelude.{◌≡◌, ◌<◌, [], IfOk, IsTrue};
-ghost use Rattle.cf_io.specs.Feeds.{Writes};
-ghost use Rattle.cf_io.specs.Texts.{led};
+ghost use Rattle.run_model.specs.Terms.{led, Writes};
 ghost use Rattle.page_model.specs.Arrangement.{used_pages};
 ghost use Rattle.quota_heap.specs.State.{held_by, objects_by};
 ghost use Rattle.quota_model.specs.Refusals.{task_paging};

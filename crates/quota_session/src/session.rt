@@ -2,14 +2,10 @@
 //! that the command names, and writes its reply.
 ghost use Rattle.std.specs.Prelude.{◌≡◌, ◌<◌, ◌^◌, ◌≤◌, [], IfOk, IsTrue, Option, Some, length};
 ghost use Rattle.step_ledger.specs.Counting.{RoseAtMost};
-ghost use Rattle.cf_base.specs.Settings.{Profile, profile_of};
-ghost use Rattle.cf_io.specs.Feeds.{SinkFailsIf};
+ghost use Rattle.run_model.specs.Terms.{IsWellFormed, owned_command, Profile, profile_of, said, SinkFailsIf};
 ghost use Rattle.cf_io.specs.Lines.{line_capacity};
-ghost use Rattle.cf_io.specs.Texts.{said};
 ghost use Rattle.cf_session.specs.Apply.{outcome_in};
 ghost use Rattle.quota_heap.specs.State.{KeepsTasks, objects_by};
-ghost use Rattle.script_reader.specs.Commands.{IsWellFormed};
-ghost use Rattle.script_reader.specs.Owned.{owned_command};
 ghost use Rattle.script_loop.specs.Applying.{Applies, BuildsReply};
 ghost use Rattle.id_table.specs.Ties.{AreTiedTo};
 ghost use Rattle.quota_session.specs.Costs.{most_tasks_steps, task_steps};

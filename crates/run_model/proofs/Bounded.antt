@@ -1,32 +1,18 @@
 -- Every step of a run with pages meets `MeetsBounds`: a class with n objects, m to a page, has at most ⌊n/m⌋ + k pages; if every bound is 1, exactly when a
 -- malloc is refused. So each `Step` is an `IsCommandStep`.
-use Rattle.std.proofs.Common.{◌≡◌, ℕ, ◌≤◌, Option, Some, None, Result, Ok, Err, ap, sym, ◌∙◌, subst, inl, inr, refl}
-use Rattle.std.specs.Prelude.{◌↔◌, codes}
-use Rattle.std.specs.FinMap.{get}
-use Rattle.cf_base.specs.Classes.{need}
-use Rattle.cf_base.specs.declared.answers.Handle.{Handle}
-use Rattle.cf_base.specs.declared.answers.Refusal.{Refusal}
+use Rattle.std.proofs.Common.{◌≡◌, ℕ, ◌≤◌, Option, Some, None, Result, Ok, Err, ap, sym, ◌∙◌, subst, inl, inr, refl, ◌↔◌, codes}
+use Rattle.run_model.specs.Terms.{Command, EveryBoundIsOne, family_of, get, Handle, HeapState, IsGoing, IsPaged, KeepsRules, Kind, Malloc, need, paging_in, Refusal, Reply, Request, RunState, said}
 use Rattle.cf_base.specs.declared.answers.Refusal.TheVariants as refusal
-use Rattle.cf_base.specs.declared.kind.Kind.{Kind}
 use Rattle.id_table.proofs.CallerLemmas.{LacksByNeed, refused_by_need}
-use Rattle.page_model.specs.Paging.{EveryBoundIsOne}
-use Rattle.page_model.specs.Steps.{Request}
 use Rattle.page_model.proofs.CallerLemmas.{sound_few}
 use Rattle.cf_model.specs.Families as family
-use Rattle.cf_model.specs.Families.{Family, family_of}
-use Rattle.cf_model.specs.Rules.{IsPaged, KeepsRules}
-use Rattle.cf_model.specs.State.{HeapState, paging_in}
+use Rattle.cf_model.specs.Families.{Family}
 use Rattle.cf_model.specs.Steps.{IsMallocStep}
 use Rattle.cf_model.proofs.CallerLemmas.{pages_kept}
-use Rattle.script_reader.specs.declared.command.Command.{Command}
-use Rattle.script_reader.specs.declared.command.Command.TheVariants.{Malloc}
 use Rattle.run_model.specs.Bounds.{HasFewPages, LacksProxyOrPages, MeetsBounds, Refuses, RefusesByNeed, RefusesForProxyOrSpace}
 use Rattle.run_model.specs.Replies.{malloc_text}
-use Rattle.run_model.specs.Sessions.{IsGoing, RunState}
 use Rattle.run_model.specs.Steps.{Step}
-use Rattle.run_model.proofs.NamedIds.{MallocsAt}
-use Rattle.run_model.specs.Texts.{Reply, said}
-use Rattle.run_model.proofs.RunInvariant.{step_rules, step_same}
+use Rattle.run_model.proofs.RunInvariant.{MallocsAt, step_rules, step_same}
 
 -- a heap with pages that keeps its rules has at most the pages of the bound
 pub few_pages : (s : HeapState) → IsPaged s.kind → KeepsRules s → HasFewPages s

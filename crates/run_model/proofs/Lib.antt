@@ -1,5 +1,3 @@
-pub mod NamedIds
-pub mod Tied
 pub mod RunInvariant
 pub mod Bounded
 pub mod CallerLemmas

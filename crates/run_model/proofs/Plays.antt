@@ -1,12 +1,8 @@
 -- Runs over the items of a script by the rules of any mode (`PlayRun`): two consecutive runs joined to one, a run over one item, and a run whose states are
 -- mapped by a function.
-use Rattle.std.proofs.Common.{◌≡◌, ◌++◌, ◌∙◌, ℕ, List, [], ◌∷◌, Option, Some, None, refl, sym, ap, subst, append_assoc}
-use Rattle.std.specs.Prelude.{option_map}
-use Rattle.cf_base.specs.Settings.{Profile}
-use Rattle.script_reader.specs.Items.{Item, asks, bad, starts}
-use Rattle.script_reader.specs.declared.command.Command.{Command}
-use Rattle.run_model.specs.Plays.{PlayPart, PlayRun, PlayStep}
-use Rattle.run_model.specs.Texts.{Reply, led, text_of}
+use Rattle.std.proofs.Common.{◌≡◌, ◌++◌, ◌∙◌, ℕ, List, [], ◌∷◌, Option, Some, None, refl, sym, ap, subst, append_assoc, option_map}
+use Rattle.run_model.specs.Terms.{asks, bad, Command, Item, led, Profile, Reply, starts, text_of}
+use Rattle.run_model.specs.Plays.{IsAt, PlayPart, PlayRun, PlayStep}
 
 -- two consecutive runs are one run over all their items
 pub run_joined : {S : Type 0} (begins : Profile → Reply → S → Type 0) (turns : S → Command → Reply → S → Type 0) (old : Option S) (done after : List Item)
@@ -55,3 +51,25 @@ module _ {S T : Type 0} (f : S → T) (begins : Profile → Reply → T → Type
   part_seen None (asks c) out new part = part
   part_seen (Some old) (asks c) out new (s, part, is) = (f s, part, ap (λ o. option_map f o) is)
   part_seen old (bad n) out new (lost, cut, is) = (lost, cut, ap (λ o. option_map f o) is)
+
+-- A run is also one under other rules, over the states `f s`, if each of its steps is a step under them; `Is` holds of each of its states.
+module _ {S T : Type 0} (f : S → T) (Is : S → Type 0) (begins : Profile → Reply → S → Type 0) (turns : S → Command → Reply → S → Type 0)
+    (begins' : Profile → Reply → T → Type 0) (turns' : T → Command → Reply → T → Type 0)
+    (begun : (p : Profile) (reply : Reply) (s : S) → begins p reply s → begins' p reply (f s) × Is s)
+    (turned : (old : S) (c : Command) (reply : Reply) (new : S) → Is old → turns old c reply new → turns' (f old) c reply (f new) × Is new) where
+  step_through : (old : Option S) (item : Item) (reply : Reply) (new : Option S) → IsAt Is old → PlayStep begins turns old item reply new
+      → PlayStep begins' turns' (option_map f old) item reply (option_map f new) × IsAt Is new
+  step_through old (starts p) reply new on (s, start, is) =
+      let b = begun p reply s start in ((f s, b.0, ap (λ o. option_map f o) is), subst (IsAt Is) (sym is) b.1)
+  step_through None (asks c) reply new on (none, is) = ((none, ap (λ o. option_map f o) is), subst (IsAt Is) (sym is) tt)
+  step_through (Some old) (asks c) reply new on (s, turn, is) =
+      let t = turned old c reply s on turn in ((f s, t.0, ap (λ o. option_map f o) is), subst (IsAt Is) (sym is) t.1)
+  step_through old (bad n) reply new on (named, is) = ((named, ap (λ o. option_map f o) is), subst (IsAt Is) (sym is) on)
+
+  pub run_through : (old : Option S) (items : List Item) (replies : List Reply) (new : Option S) → IsAt Is old → PlayRun begins turns old items replies new
+      → PlayRun begins' turns' (option_map f old) items replies (option_map f new) × IsAt Is new
+  run_through old [] replies new on (none, is) = ((none, ap (λ o. option_map f o) is), subst (IsAt Is) (sym is) on)
+  run_through old (item ∷ items) replies new on (mid, reply, more, step, are, run) =
+      let one = step_through old item reply mid on step in
+      let rest = run_through mid items more new one.1 run in
+      ((option_map f mid, reply, more, one.0, are, rest.0), rest.1)

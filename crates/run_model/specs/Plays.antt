@@ -1,6 +1,6 @@
 -- A run over the items of a script, for any type `S` of states and two rules. `begins p reply s`: a `heap` line with settings `p` may get this reply and lead
 -- to state `s`. `turns old command reply s`: in state `old` the command may get this reply and lead to `s`. `None` is the state before the `heap` line.
-use Rattle.std.specs.Prelude.{◌≡◌, ◌++◌, List, [], ◌∷◌, ℕ, Option, Some, None}
+use Rattle.std.specs.Prelude.{◌≡◌, ◌++◌, List, [], ◌∷◌, ℕ, Option, Some, None, ⊤}
 use Rattle.cf_base.specs.Settings.{Profile}
 use Rattle.script_reader.specs.Items.{Item, asks, bad, starts}
 use Rattle.script_reader.specs.declared.command.Command.{Command}
@@ -29,3 +29,8 @@ PlayPart {S} begins in_part old (starts p) out new = (s : S) × (reply : Reply) 
 PlayPart begins in_part None (asks command) out new = ⊥
 PlayPart {S} begins in_part (Some old) (asks command) out new = (s : S) × in_part old command out s × (new ≡ Some s)
 PlayPart begins in_part old (bad n) out new = (lost : List ℕ) × (led [] (said (bad_line n)) ≡ out ++ lost) × (new ≡ old)
+
+-- `Is` holds of the state of a run, if the run has begun
+abbrev pub IsAt : {S : Type 0} → (S → Type 0) → Option S → Type 0
+IsAt Is None = ⊤
+IsAt Is (Some s) = Is s

@@ -17,7 +17,7 @@ use Rattle.cf_model.specs.Answers.{block_of_object}
 use Rattle.cf_model.specs.Families.{paged, tiled, family_of}
 use Rattle.cf_model.specs.State.{HeapState}
 use Rattle.script_reader.specs.declared.command.Command.{Command}
-use Rattle.script_reader.specs.declared.command.Command.TheVariants.{Read, Place, Block, Peek, Walk, Frag, Steps, Slice, Task, Quota, Need, Admit}
+use Rattle.script_reader.specs.declared.command.Command.TheVariants.{Read, Place, Block, Peek, Walk, Frag, Steps}
 use Rattle.run_model.specs.Reports.{frag_of, walk_of}
 use Rattle.run_model.specs.Sessions.{RunState, SessionState}
 pub use Rattle.id_table.specs.ById.{object_of}
@@ -95,9 +95,4 @@ shown s (Peek word) = said (peek_text (slice_get s.heap.words word))
 shown s Walk = walk_of s.heap.kind s.heap
 shown s Frag = frag_of s.heap
 shown s Steps = said (steps_text s.heap.kind s.session s.heap.cost)
-shown s Slice = said (codes "none")
-shown s (Task task) = said (codes "none")
-shown s (Quota task pages) = said (codes "none")
-shown s (Need task bytes count) = said (codes "none")
-shown s (Admit task) = said (codes "none")
 shown s command = said (codes "none")

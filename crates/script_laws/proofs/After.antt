@@ -1,31 +1,18 @@
 -- For `the_output_shows_the_replies` and the laws at bound 1: the settings, bounds and bytes of each id (`view`) after a command follow from those before it
 -- and from its reply.
-use Rattle.std.proofs.Common.{◌≡◌, ℕ, Bool, true, false, cond, ◌+◌, List, Option, Some, None, Err, length, sym, ◌∙◌, ap, refl, inl, inr}
-use Rattle.std.specs.Prelude.{◌⊎◌, codes, nat_eq, nat_le, position}
-use Rattle.std.specs.FinMap.{get, insert, len, remove}
-use Rattle.cf_base.specs.declared.answers.Refusal.{Refusal}
+use Rattle.std.proofs.Common.{◌≡◌, ℕ, Bool, true, false, cond, ◌+◌, List, Option, Some, None, Err, length, sym, ◌∙◌, ap, refl, inl, inr, ◌⊎◌, codes, nat_eq, nat_le, position}
+use Rattle.run_model.specs.Terms.{Admit, Block, Bound, Command, family_of, Frag, Free, get, insert, IsPaged, IsPaging, IsSound, len, Malloc, Need, Objects, objects, paged, paging_in, Peek, Place, Placed, Quota, Read, Refusal, remove, Reply, Resize, ResizeFault, said, Slice, Steps, Task, tiled, Walk, with_bound, Write, written}
 use Rattle.cf_base.specs.declared.answers.Refusal.TheVariants as refusal
-use Rattle.cf_base.specs.declared.answers.ResizeFault.{ResizeFault}
 use Rattle.cf_base.specs.declared.answers.ResizeFault.TheVariants as resize
 use Rattle.cf_lemmas.proofs.MapValues.{map_values-insert, map_values-remove}
 use Rattle.cf_lemmas.proofs.Sums.{insert_again}
-use Rattle.page_model.specs.Arrangement.{IsSound}
-use Rattle.page_model.specs.Bytes.{written}
-use Rattle.page_model.specs.Held.{Objects, Placed, objects}
-use Rattle.page_model.specs.Paging.{IsPaging}
 use Rattle.page_model.specs.Steps.{resized, resized_at, without}
 use Rattle.page_model.proofs.CallerLemmas.{free_objects, len-objects, malloc_objects, bytes_held}
-use Rattle.cf_model.specs.Answers.{with_bound, class_with}
-use Rattle.cf_model.specs.Families.{Family, paged, tiled, family_of}
-use Rattle.cf_model.specs.Rules.{IsPaged}
-use Rattle.cf_model.specs.State.{paging_in}
+use Rattle.cf_model.specs.Answers.{class_with}
+use Rattle.cf_model.specs.Families.{Family}
 use Rattle.cf_model.specs.Steps.{MovesIn}
-use Rattle.script_reader.specs.declared.command.Command.{Command}
-use Rattle.script_reader.specs.declared.command.Command.TheVariants.{Malloc, Free, Write, Read, Place, Block, Peek, Walk, Frag, Steps, Bound, Resize, Slice}
-use Rattle.script_reader.specs.declared.command.Command.TheVariants.{Task, Quota, Need, Admit}
 use Rattle.run_model.specs.Replies.{malloc_text, resize_text}
 use Rattle.run_model.specs.Steps.{class_to_bound}
-use Rattle.run_model.specs.Texts.{Reply, said}
 use Rattle.run_model.proofs.CallerLemmas.{unmoved_changes_cost}
 use Rattle.script_laws.specs.IdBytes.{changed, bytes_after, is_ok}
 use Rattle.script_laws.specs.ById.{ById}
@@ -60,9 +47,7 @@ malloc_refused refusal.Space = refl
 
 unresized_not_ok : (e : ResizeFault) → is_ok (said (resize_text (Err e))) ≡ false
 unresized_not_ok resize.Unknown = refl
-unresized_not_ok resize.Kind = refl
-unresized_not_ok resize.Size = refl
-unresized_not_ok resize.Space = refl
+unresized_not_ok _ = refl
 
 -- if an id has the bytes v, `changed` gives it f v
 pub changed_there : (m : Objects) (id : ℕ) (f : List ℕ → List ℕ) (v : List ℕ) → get m id ≡ Some v → insert m id (f v) ≡ changed m id f

@@ -1,27 +1,15 @@
 -- The claims that a malloc, free, write or resize of a heap always has a result, and a state after it that keeps the heap's rules (`HasMalloc` and so on).
 -- The files `Page…` and `BlockAnswers` prove them.
-use Rattle.std.proofs.Common.{◌≡◌, ℕ, ◌+◌, ◌*◌, ◌<◌, ◌≤◌, List, Option, Some, None, Result, Ok, arith, sym, ◌∙◌, refl, subst, inl, inr}
-use Rattle.std.specs.Prelude.{option_map}
-use Rattle.std.specs.FinMap.{get, insert, len, remove}
-use Rattle.cf_base.specs.declared.answers.AccessFault.{AccessFault}
-use Rattle.cf_base.specs.declared.answers.Freed.{Freed}
-use Rattle.cf_base.specs.declared.answers.Handle.{Handle}
-use Rattle.cf_base.specs.declared.answers.Refusal.{Refusal}
-use Rattle.cf_base.specs.declared.answers.Resized.{Resized}
-use Rattle.cf_base.specs.declared.answers.ResizeFault.{ResizeFault}
+use Rattle.std.proofs.Common.{◌≡◌, ℕ, ◌+◌, ◌*◌, ◌<◌, ◌≤◌, List, Option, Some, None, Result, Ok, arith, sym, ◌∙◌, refl, subst, inl, inr, option_map}
+use Rattle.run_model.specs.Terms.{AccessFault, AreBytes, CostsAtMost, CostsByKind, Freed, get, Handle, HeapState, insert, KeepsRules, len, Objects, objects, Placed, Position, Refusal, remove, Request, Resized, ResizeFault}
 use Rattle.cf_lemmas.proofs.Maps.{len_fresh, len_rebound, some_inserted, some_removed}
 use Rattle.cf_lemmas.proofs.MapValues.{get-map_values}
-use Rattle.page_model.specs.Bytes.{AreBytes}
-use Rattle.page_model.specs.Held.{Objects, Placed, objects}
 use Rattle.page_model.specs.Order.{Order}
-use Rattle.page_model.specs.Steps.{Request}
 use Rattle.page_model.proofs.CallerLemmas.{len-objects, bytes_held}
 use Rattle.cf_model.specs.Costs.{resize_bound}
 use Rattle.cf_model.specs.Ordered.{Follows, IsOrderedFree, IsOrderedMalloc, IsOrderedResize}
-use Rattle.cf_model.specs.Rules.{AreObjects, KeepsRules}
-use Rattle.cf_model.specs.State.{HeapState}
-use Rattle.cf_model.specs.Steps.{FreesObject, IsMallocStep, IsResizeStep, IsWriteStep, Position}
-use Rattle.run_model.specs.Sessions.{CostsAtMost, CostsByKind}
+use Rattle.cf_model.specs.Rules.{AreObjects}
+use Rattle.cf_model.specs.Steps.{FreesObject, IsMallocStep, IsResizeStep, IsWriteStep}
 use Rattle.cf_lemmas.proofs.Searches.{len_without}
 
 -- at most n objects, with numbers below n

@@ -1,28 +1,18 @@
 -- For the law that every command gets a reply: each call of a heap with blocks (TLSF, Half-Fit), with or without an order, has a result, and a state after
 -- it that keeps the heap's rules.
-use Rattle.std.proofs.Common.{◌≡◌, ◌≢◌, ℕ, ◌+◌, ◌*◌, ◌<◌, ◌≤◌, List, [], ◌∷◌, Option, Some, None, Ok, Err, length, replicate, arith, sym, ◌∙◌, ap}
-use Rattle.std.proofs.Common.{refl, subst, inl, inr}
-use Rattle.std.specs.Prelude.{IfSome, nat_eq, option_map, slice_index}
+use Rattle.std.proofs.Common.{◌≡◌, ◌≢◌, ℕ, ◌+◌, ◌*◌, ◌<◌, ◌≤◌, List, [], ◌∷◌, Option, Some, None, Ok, Err, length, replicate, arith, sym, ◌∙◌, ap, refl, subst, inl, inr, IfSome, nat_eq, option_map, slice_index}
 use Rattle.std.specs.List.{Contains, IsDistinct}
 use Rattle.std.proofs.lemmas.Bool.{cases_eq, cases_lt}
-use Rattle.std.specs.FinMap.{get, insert, len, remove}
+use Rattle.run_model.specs.Terms.{AreBytes, CostsAtMost, CostsByKind, Freed, get, HalfFit, Handle, HeapState, Held, insert, KeepsRules, Kind, len, Moving, need, NonMoving, objects, Placed, Position, Refusal, region_words, remove, Request, Tlsf, with_bound, written}
 use Rattle.cf_lemmas.proofs.Members.{contains_cases, contains_head, contains_tail, distinct_cons, distinct_head, distinct_tail}
-use Rattle.cf_base.specs.Classes.{need}
-use Rattle.cf_base.specs.declared.kind.Kind.{Kind}
-use Rattle.cf_base.specs.declared.kind.Kind.TheVariants.{Moving, NonMoving, Tlsf, HalfFit}
 use Rattle.cf_base.specs.declared.answers.AccessFault.TheVariants as access
-use Rattle.cf_base.specs.declared.answers.Freed.{Freed}
-use Rattle.cf_base.specs.declared.answers.Handle.{Handle}
-use Rattle.cf_base.specs.declared.answers.Refusal.{Refusal}
 use Rattle.cf_base.specs.declared.answers.Refusal.TheVariants as refusal
 use Rattle.cf_base.specs.declared.answers.ResizeFault.TheVariants as resize
 use Rattle.cf_lemmas.proofs.Maps.{get_insert_other, get_inserted, get_remove_other, get_removed, len_fresh, len_rebound}
 use Rattle.cf_lemmas.proofs.MapValues.{map_values-insert, map_values-remove}
-use Rattle.page_model.specs.Bytes.{AreBytes, written}
-use Rattle.page_model.specs.Held.{Held, Placed, objects}
 use Rattle.page_model.specs.Image.{IsOutside}
 use Rattle.page_model.specs.Order.{Order}
-use Rattle.page_model.specs.Steps.{CallResult, Request, zeros_at}
+use Rattle.page_model.specs.Steps.{CallResult, zeros_at}
 use Rattle.page_model.proofs.CallerLemmas.{len-objects, malloc_objects, length-written, written_are_bytes, zeros_are_bytes, bytes_held, bytes_missing}
 use Rattle.cf_lemmas.proofs.Tests.{eq_no}
 use Rattle.block_model.specs.Buckets.{AreLawful, FreeLists}
@@ -33,16 +23,14 @@ use Rattle.block_model.specs.Words.{AreTilingWords}
 use Rattle.block_model.proofs.CallerLemmas.{carve_at_most, carve_follows, carve_is_malloc, carve_keeps_lists, free_keeps_tiling, malloc_gives}
 use Rattle.block_model.proofs.CallerLemmas.{none_at_most, refilled, refilled_long, refilled_outside, refilled_words, carved_or_lacking, release_at_most}
 use Rattle.block_model.proofs.CallerLemmas.{malloc_keeps_tiling, release_keeps_lists}
-use Rattle.cf_model.specs.Answers.{with_bound, class_with, place_of}
+use Rattle.cf_model.specs.Answers.{class_with, place_of}
 use Rattle.cf_model.specs.ExactCosts.{block_malloc_cost}
 use Rattle.cf_model.specs.Families as family
 use Rattle.cf_model.specs.Families.{IsTiled, free_lists_of, list_count_of}
 use Rattle.cf_model.specs.Ordered.{CarvesInOrder, FreeByOrder, IsOrderedFree, IsOrderedMalloc, MallocByOrder, ResizeByOrder}
-use Rattle.cf_model.specs.Rules.{AreOwned, IsBlockOrder, KeepsRules, KeepsRulesOf, KeepsTiling, content_word, listed_by}
-use Rattle.cf_model.specs.State.{HeapState, region_words}
-use Rattle.cf_model.specs.Steps.{IsPlacedBy, IsRefusedBy, IsLeftByRefusal, LacksRoomIn, MovesIn, Position, StaysOutside, frames_left, call_result, slot_in, tiling_left}
+use Rattle.cf_model.specs.Rules.{AreOwned, IsBlockOrder, KeepsRulesOf, KeepsTiling, content_word, listed_by}
+use Rattle.cf_model.specs.Steps.{IsPlacedBy, IsRefusedBy, IsLeftByRefusal, LacksRoomIn, MovesIn, StaysOutside, frames_left, call_result, slot_in, tiling_left}
 use Rattle.cf_model.proofs.CallerLemmas.{lawful, link_outside, links_stay, need_is_small, owned_free, owned_malloc, owned_replaced}
-use Rattle.run_model.specs.Sessions.{CostsAtMost, CostsByKind}
 use Rattle.run_model.specs.Steps.{class_to_bound}
 use Rattle.script_laws.proofs.Answered.{AreFew, HasFree, HasMalloc, HasResize, HasWrite, few_added, few_changed, few_in, few_left, follows_none, follows_same, follows_some}
 use Rattle.script_laws.proofs.Answered.{objects_in}

@@ -3,16 +3,10 @@ use Rattle.std.proofs.Common.{◌≡◌, ℕ, List, [], ◌∷◌, Option, Some,
 use Rattle.std.specs.Prelude.{⊤}
 use Rattle.std.proofs.lemmas.Bool.{cases_eq, cases_lt}
 use Rattle.std.proofs.lemmas.List.{get_or-set_same, get_or-set_other, set_past}
-use Rattle.cf_base.specs.Settings.{Profile}
-use Rattle.cf_base.specs.declared.kind.Kind.{Kind}
-use Rattle.page_model.specs.Paging.{EveryBoundIsOne}
+use Rattle.run_model.specs.Terms.{asks, bad, Bound, Command, EveryBoundIsOne, IsPaged, Item, Kind, Profile, starts}
 use Rattle.page_model.proofs.CallerLemmas.{first_ones}
-use Rattle.cf_model.specs.Rules.{IsPaged}
 use Rattle.cf_model.specs.State.{layout_of}
 use Rattle.cf_model.specs.Steps.{opening_bounds}
-use Rattle.script_reader.specs.Items.{Item, asks, bad, starts}
-use Rattle.script_reader.specs.declared.command.Command.{Command}
-use Rattle.script_reader.specs.declared.command.Command.TheVariants.{Bound}
 use Rattle.script_laws.specs.ById.{ById, begun, paging_by_id}
 use Rattle.script_laws.specs.RepliesById.{after_by_id, bounds_with, class_bounded}
 use Rattle.script_laws.specs.Transcripts.{AskForOne, AsksForOne, IsItemAtOne, StaysAtOne, after_at}

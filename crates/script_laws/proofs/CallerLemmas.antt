@@ -3,7 +3,7 @@
 -- the ids and their objects, and prints for a read, and that it has a reply.
 pub use Rattle.script_laws.proofs.CommandAnswers.{begin_exists, step_exists}
 pub use Rattle.script_laws.proofs.GoingOn.{kind_goes_on, run_keeps}
-pub use Rattle.script_laws.proofs.Images.{is_rewritten, length-rewritten, rewritten}
+pub use Rattle.script_laws.proofs.PageRules.{is_rewritten, length-rewritten, rewritten}
 pub use Rattle.script_laws.proofs.Items.{all_items_valid, within_range}
 pub use Rattle.script_laws.proofs.RunsExist.{CanGoOn, IsOn, run_on, run_there, runs_on, runs_exist, valid_before, sayable_behind, step_on}
 pub use Rattle.script_laws.proofs.NamedTurns.{any_reads_are_shown, changed_is}
@@ -18,6 +18,6 @@ pub use Rattle.script_laws.proofs.Exact.{IsInOrder, item_is}
 pub use Rattle.script_laws.proofs.Shown.{shown}
 pub use Rattle.script_laws.proofs.OneOutput.{begins_once, begun_alike, step_keeps}
 pub use Rattle.script_laws.proofs.ObjectTurns.{FreesOn, IsAccessFault, KeepsObjects, MallocsOn, WritesOn, going_before, names_objects, still_going, turn}
-pub use Rattle.script_laws.proofs.ObjectSteps.{HasCalls, can_go_on, object_step_exists}
-pub use Rattle.script_laws.proofs.ObjectsById.{always_taken, by_id, bytes_by_id, free_by_id, malloc_by_id, malloc_text_by, refused, taken_unless, write_by_id}
-pub use Rattle.script_laws.proofs.ObjectReads.{read_fault, read_said, read_unknown}
+pub use Rattle.script_laws.proofs.ObjectTurns.{HasCalls, can_go_on, object_step_exists}
+pub use Rattle.script_laws.proofs.ObjectTurns.{always_taken, by_id, bytes_by_id, free_by_id, malloc_by_id, malloc_text_by, refused, taken_unless, write_by_id}
+pub use Rattle.script_laws.proofs.ObjectTurns.{read_fault, read_said, read_unknown}

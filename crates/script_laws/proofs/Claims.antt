@@ -4,21 +4,13 @@ use Rattle.std.proofs.Common.{◌≡◌, List, [], ◌∷◌, Option, Some, None
 use Rattle.std.specs.Prelude.{⊤, option_map}
 use Rattle.std.specs.FinMap.{empty, get, get-empty}
 use Rattle.std.specs.Ordering.{nat_cmp}
-use Rattle.cf_base.specs.Settings.{Profile}
-use Rattle.cf_base.specs.declared.kind.Kind.{Kind}
+use Rattle.run_model.specs.Terms.{Admit, asks, bad, Block, Bound, Command, Frag, Free, Held, IsGoing, Item, Kind, Malloc, Need, Peek, Place, Profile, Quota, Read, Reply, Resize, RunState, said, Slice, starts, Steps, Task, Walk, Write}
 use Rattle.cf_lemmas.proofs.Maps.{equal_maps}
-use Rattle.page_model.specs.Held.{Held}
-use Rattle.script_reader.specs.Items.{Item, asks, bad, starts}
-use Rattle.script_reader.specs.declared.command.Command.{Command}
-use Rattle.script_reader.specs.declared.command.Command.TheVariants.{Malloc, Free, Write, Read, Place, Block, Peek, Walk, Frag, Steps, Bound, Resize, Slice}
-use Rattle.script_reader.specs.declared.command.Command.TheVariants.{Task, Quota, Need, Admit}
-use Rattle.run_model.specs.Plays.{PlayRun, PlayStep}
+use Rattle.run_model.specs.Plays.{IsAt, PlayRun}
 use Rattle.run_model.specs.Replies.{block_text_at, place_text, read_text}
-use Rattle.run_model.specs.Runs.{Begins, ItemStep, Run}
-use Rattle.run_model.specs.Sessions.{IsGoing, RunState}
+use Rattle.run_model.specs.Runs.{Begins, BeginsOne, IsCommandStep, Run}
 use Rattle.run_model.specs.Steps.{Step}
-use Rattle.run_model.specs.Texts.{Reply, said}
-use Rattle.run_model.proofs.CallerLemmas.{begins_going, step_going, step_same, gone_renamed}
+use Rattle.run_model.proofs.CallerLemmas.{begins_going, gone_renamed, run_through, step_going, step_same}
 use Rattle.script_laws.specs.Headline.{MayReply, IsAnswer, MeetsHeadline, OpensEmpty}
 use Rattle.script_laws.specs.ShownHeap.{ShownHeap, heap_opened}
 use Rattle.script_laws.proofs.Shown.{heap_of, held_by_id, nothing, object_is, shown}
@@ -42,11 +34,7 @@ module _ (s new : RunState) (going : IsGoing s) (after : IsGoing new) (same : ne
   answered Steps reply step = (step.0, ap shown step.1)
   answered (Bound words k) reply step = bound_shown s going new after same words k reply step
   answered (Resize id n) reply step = resize_shown s going new after same (get s.session.ids id) id n reply refl step
-  answered Slice reply step = (step.0, ap shown step.1)
-  answered (Task task) reply step = (step.0, ap shown step.1)
-  answered (Quota task n) reply step = (step.0, ap shown step.1)
-  answered (Need task bytes count) reply step = (step.0, ap shown step.1)
-  answered (Admit task) reply step = (step.0, ap shown step.1)
+  answered _ reply step = (step.0, ap shown step.1)
 
 none_held : (m : Held) → held_by_id empty m ≡ empty
 none_held m = equal_maps _ _ (λ q. gone_renamed nothing empty m q (get-empty nat_cmp q) ∙ sym (get-empty nat_cmp q))
@@ -54,10 +42,6 @@ none_held m = equal_maps _ _ (λ q. gone_renamed nothing empty m q (get-empty na
 -- the heap that a run shows, if it has begun
 abbrev pub shown_at : Option RunState → Option ShownHeap
 shown_at s = option_map shown s
-
-abbrev pub GoesOn : Option RunState → Type 0
-GoesOn None = ⊤
-GoesOn (Some s) = IsGoing s
 
 module _ (kind : Kind) where
   opened : (p : Profile) (s : RunState) → Begins kind p s → shown s ≡ heap_opened kind p
@@ -72,28 +56,14 @@ module _ (kind : Kind) where
         moved_words = (b i).words;
       }
 
-  item_met : (old : Option RunState) (item : Item) (reply : Reply) (new : Option RunState) → GoesOn old → ItemStep kind old item reply new
-      → PlayStep (OpensEmpty kind) MayReply (shown_at old) item reply (shown_at new) × GoesOn new
-  item_met old (starts p) reply new goes step =
-      let on = begins_going kind p step.0 step.1.0 in (
-        (shown step.0, (step.1.1, opened p step.0 step.1.0, arranged step.0 on), ap shown_at step.2),
-        subst GoesOn (sym step.2) on,
-      )
-  item_met None (asks c) reply new goes step = ((step.0, ap shown_at step.1), subst GoesOn (sym step.1) tt)
-  item_met (Some s) (asks c) reply new goes step =
-      let same = step_same s step.0 c reply goes.rules step.1.step in
-      let on = step_going s step.0 c reply goes step.1.step in (
-        (shown step.0, (answered s step.0 goes on same.kind c reply step.1.step, arranged step.0 on), ap shown_at step.2),
-        subst GoesOn (sym step.2) on,
-      )
-  item_met old (bad n) reply new goes step = ((step.0, ap shown_at step.1), subst GoesOn (sym step.1) goes)
-
-  pub run_met : (items : List Item) (old : Option RunState) (replies : List Reply) (new : Option RunState) → GoesOn old → Run kind old items replies new
+  pub run_met : (items : List Item) (old : Option RunState) (replies : List Reply) (new : Option RunState) → IsAt IsGoing old → Run kind old items replies new
       → PlayRun (OpensEmpty kind) MayReply (shown_at old) items replies (shown_at new)
-  run_met [] old replies new goes run = (run.0, ap shown_at run.1)
-  run_met (item ∷ rest) old replies new goes run =
-      let one = item_met old item run.1 run.0 goes run.3 in
-      (shown_at run.0, run.1, run.2, one.0, run.4, run_met rest run.0 run.2 new one.1 run.5)
+  run_met items old replies new goes run = (run_through shown IsGoing (BeginsOne kind) IsCommandStep (OpensEmpty kind) MayReply
+      (λ p reply s b. (let on = begins_going kind p s b.0 in ((b.1, opened p s b.0, arranged s on), on)))
+      (λ old c reply new on turn.
+      let after = step_going old new c reply on turn.step in
+      ((answered old new on after (step_same old new c reply on.rules turn.step).kind c reply turn.step, arranged new after), after))
+      old items replies new goes run).0
 
 -- over a run the replies meet the headline
 pub headline_met : (kind : Kind) (items : List Item) (replies : List Reply) (last : Option RunState) → Run kind None items replies last

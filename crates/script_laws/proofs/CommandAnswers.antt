@@ -1,25 +1,14 @@
 -- For the law `a_command_is_always_answered`: in a run in progress each valid command has a step, from the results of the heap's calls; and a run begins
 -- with any settings in range.
-use Rattle.std.proofs.Common.{◌≡◌, ℕ, ◌+◌, ◌*◌, List, Option, Some, None, refl}
-use Rattle.std.specs.Prelude.{codes}
-use Rattle.std.specs.FinMap.{get, remove}
-use Rattle.cf_base.specs.Settings.{Profile}
-use Rattle.cf_base.specs.declared.kind.Kind.{Kind}
-use Rattle.page_model.specs.Bytes.{AreBytes}
-use Rattle.page_model.specs.Steps.{Request}
-use Rattle.cf_model.specs.Answers.{with_bound}
+use Rattle.std.proofs.Common.{◌≡◌, ℕ, ◌+◌, ◌*◌, List, Option, Some, None, refl, codes}
+use Rattle.run_model.specs.Terms.{AreBytes, AreInRange, Bound, Command, counted, Free, fresh_session, get, IsGoing, Kind, Malloc, Profile, remove, Reply, Request, Resize, RunState, said, with_bound, Write}
 use Rattle.cf_model.specs.Costs.{resize_bound}
-use Rattle.cf_model.specs.Rules.{AreInRange}
 use Rattle.cf_model.specs.Steps.{empty_heap}
 use Rattle.cf_model.proofs.CallerLemmas.{empty_there}
-use Rattle.script_reader.specs.declared.command.Command.{Command}
-use Rattle.script_reader.specs.declared.command.Command.TheVariants.{Malloc, Free, Write, Bound, Resize}
 use Rattle.run_model.specs.Replies.{malloc_text, resize_text, shown, write_text}
 use Rattle.run_model.specs.Runs.{Begins, IsCommandStep}
-use Rattle.run_model.specs.Sessions.{IsGoing, RunState, counted, fresh_session}
 use Rattle.run_model.specs.Steps.{Step, bound_text, class_to_bound, ids_given, session_resized}
 use Rattle.run_model.proofs.CallerLemmas.{FreesAt, MallocsAt, ResizesAt, WritesAt}
-use Rattle.run_model.specs.Texts.{Reply, said}
 use Rattle.run_model.proofs.CallerLemmas.{step_meets_bounds}
 use Rattle.script_laws.specs.ValidItems.{IsValidCommand}
 use Rattle.script_laws.proofs.HeapAnswers.{HasAnswers, answers}

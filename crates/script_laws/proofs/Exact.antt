@@ -3,46 +3,32 @@ use Rattle.std.proofs.Common.{◌≡◌, ◌≢◌, ℕ, Bool, true, false, cond
 use Rattle.std.specs.Prelude.{⊤, ◌⊎◌, ◌↔◌, codes, filter, nat_eq, nat_le, not, option_map, replicate}
 use Rattle.std.proofs.lemmas.Bool.{cases_lt}
 use Rattle.std.specs.List.{range_with_len}
-use Rattle.std.specs.FinMap.{get, insert, len, remove}
-use Rattle.cf_base.specs.Classes.{need}
-use Rattle.cf_base.specs.Settings.{Profile}
+use Rattle.run_model.specs.Terms.{Admit, asks, bad, Block, Bound, class_at, classes, Command, EveryBoundIsOne, Frag, Free, get, insert, IsPaged, IsPaging, IsSound, Item, Kind, len, Malloc, Need, need, Objects, Paging, paging_in, Peek, Place, Placed, Profile, Quota, Read, Refusal, remove, Reply, Resize, ResizeFault, said, Slice, starts, Steps, Task, totals_in, Walk, Write, written}
 use Rattle.cf_base.specs.declared.answers.AccessFault.TheVariants as access
-use Rattle.cf_base.specs.declared.answers.Refusal.{Refusal}
 use Rattle.cf_base.specs.declared.answers.Refusal.TheVariants as refusal
-use Rattle.cf_base.specs.declared.answers.ResizeFault.{ResizeFault}
 use Rattle.cf_base.specs.declared.answers.ResizeFault.TheVariants as resize
-use Rattle.cf_base.specs.declared.kind.Kind.{Kind}
 use Rattle.cf_lemmas.proofs.Values.{map_values-empty}
 use Rattle.cf_lemmas.proofs.Tests.{eq_no, eq_yes, lt_no, lt_yes}
 use Rattle.cf_lemmas.proofs.Maps.{remove_missing}
-use Rattle.page_model.specs.Arrangement.{IsSound, LacksRoom, class_at, live, pages_needed_with}
+use Rattle.page_model.specs.Arrangement.{LacksRoom, live, pages_needed_with}
 use Rattle.page_model.specs.Figures.{figures_of, totals_of}
-use Rattle.page_model.specs.Bytes.{written}
-use Rattle.page_model.specs.Held.{Objects, Placed}
-use Rattle.page_model.specs.Paging.{EveryBoundIsOne, IsPaging, Paging, class_for, classes}
+use Rattle.page_model.specs.Paging.{class_for}
 use Rattle.page_model.specs.Steps.{IsFreePlace, CallResult, resized}
 use Rattle.page_model.proofs.CallerLemmas.{class_fits, lacks_room_at_one, len-objects, bytes_held, bytes_missing}
-use Rattle.cf_model.specs.Answers.{classes_in, totals_in}
-use Rattle.cf_model.specs.Families.{IsPaged}
-use Rattle.cf_model.specs.State.{paging_in}
+use Rattle.cf_model.specs.Answers.{classes_in}
 use Rattle.cf_model.specs.Steps.{IsPlacedBy, IsRefusedBy, IsResizeFault, LacksRoomIn, opening_bounds}
 use Rattle.cf_model.proofs.CallerLemmas.{both_kinds, not_none_found}
-use Rattle.script_reader.specs.Items.{Item, asks, bad, starts}
-use Rattle.script_reader.specs.declared.command.Command.{Command}
-use Rattle.script_reader.specs.declared.command.Command.TheVariants.{Malloc, Free, Write, Read, Place, Block, Peek, Walk, Frag, Steps, Bound, Resize, Slice}
-use Rattle.script_reader.specs.declared.command.Command.TheVariants.{Task, Quota, Need, Admit}
 use Rattle.run_model.specs.Plays.{PlayRun, PlayStep}
 use Rattle.run_model.specs.Replies.{malloc_text, read_text, resize_text, write_text}
 use Rattle.run_model.specs.Reports.{class_line, frag_line, frag_of, live_classes, pages_report, total_line, walk_of}
 use Rattle.run_model.specs.Steps.{bound_text}
-use Rattle.run_model.specs.Texts.{Reply, said}
 use Rattle.script_laws.specs.IdBytes.{changed, is_ok, read_shown}
 use Rattle.script_laws.specs.AtOne.{classes_in_use, figures_at_one, totals_at_one, walk_at_one}
 use Rattle.script_laws.specs.ById.{ById, begun}
 use Rattle.script_laws.specs.RepliesById.{after_by_id, bounds_with, class_bounded, free_said, malloc_fault, malloc_leaves, malloc_said, ok_or, passes_pages}
 use Rattle.script_laws.specs.RepliesById.{put_unless, reply_by_id, resize_fault, resize_leaves, resize_said, write_leaves, write_said}
 use Rattle.script_laws.specs.Transcripts.{ArePlaceless, IsAtOne, AsksForNoAddress, StaysAtOne, ShowsNoPlace, IsItemAtOne, after_at, replies_from, reply_at, transcript}
-use Rattle.script_laws.proofs.Room.{has_room}
+use Rattle.script_laws.proofs.PageRules.{has_room}
 use Rattle.script_laws.proofs.PagesAtOne.{figures_are, totals_are, said_alike}
 use Rattle.script_laws.specs.Headline.{MayReply, ShowsFree, IsAnswer, ShowsMalloc, MeetsHeadline, OpensEmpty, RefitsElsewhere, RefitsInPlace, ShowsResize, ShowsWrite}
 use Rattle.script_laws.specs.ShownHeap.{IsArranged, ShownHeap, heap_opened}
@@ -74,9 +60,7 @@ resize_put : (f : Option ResizeFault) (m : Objects) (id n : ℕ) (v : List ℕ) 
     ≡ cond (is_ok (said (ok_or (λ e. resize_text (Err e)) f))) (changed m id (λ v. resized v n)) m
 resize_put None m id n v is = changed_there m id (λ v. resized v n) v is
 resize_put (Some resize.Unknown) m id n v is = refl
-resize_put (Some resize.Kind) m id n v is = refl
-resize_put (Some resize.Size) m id n v is = refl
-resize_put (Some resize.Space) m id n v is = refl
+resize_put _ m id n v is = refl
 
 -- What is known after the transcript's reply is what the transcript leaves.
 module _ (h : ById) (is_paged : IsPaged h.kind) where
@@ -269,11 +253,7 @@ reply_is t is arranged Frag reply new ones none r = r.0 ∙ frag_is t is arrange
 reply_is t is arranged Steps reply new ones none r = absurd none
 reply_is t is arranged (Bound words k) reply new ones none r = r.0 ∙ ap (λ c. said (bound_text c)) (class_is t t words ∙ class_at_one (view t) is words)
 reply_is t is arranged (Resize id n) reply new ones none r = resize_is t is arranged ones (get t.heap.held id) id n reply new refl r
-reply_is t is arranged Slice reply new ones none r = r.0
-reply_is t is arranged (Task task) reply new ones none r = r.0
-reply_is t is arranged (Quota task n) reply new ones none r = r.0
-reply_is t is arranged (Need task bytes count) reply new ones none r = r.0
-reply_is t is arranged (Admit task) reply new ones none r = r.0
+reply_is t is arranged _ reply new ones none r = r.0
 
 module _ (kind : Kind) (is_paged : IsPaged kind) where
   abbrev pub IsInOrder : Option ShownHeap → Type 0

@@ -1,12 +1,7 @@
 -- For the laws of `runs.rt`: a run on one manager stays in progress and can be continued.
-use Rattle.std.proofs.Common.{◌≡◌, List, [], ◌∷◌, Option, Some, None, sym, ◌∙◌, ap, refl, subst}
-use Rattle.std.specs.Prelude.{codes}
-use Rattle.cf_base.specs.declared.kind.Kind.{Kind}
-use Rattle.cf_model.specs.State.{HeapState}
-use Rattle.script_reader.specs.Items.{Item, asks, bad, starts}
+use Rattle.std.proofs.Common.{◌≡◌, List, [], ◌∷◌, Option, Some, None, sym, ◌∙◌, ap, refl, subst, codes}
+use Rattle.run_model.specs.Terms.{asks, bad, HeapState, IsGoing, Item, Kind, Reply, RunState, said, starts}
 use Rattle.run_model.specs.Runs.{BeginsOne, ItemStep, Run, IsCommandStep}
-use Rattle.run_model.specs.Sessions.{IsGoing, RunState}
-use Rattle.run_model.specs.Texts.{Reply, said}
 use Rattle.run_model.proofs.CallerLemmas.{begins_going, step_going, step_same}
 use Rattle.script_laws.specs.ValidItems.{IsRunOf}
 use Rattle.script_laws.proofs.CommandAnswers.{begin_exists, step_exists}

@@ -1,21 +1,13 @@
 -- Every call of a heap of any kind has a result, and a state after it that keeps the heap's rules: the answers for pages and for blocks, put together.
 use Rattle.std.proofs.Common.{◌≡◌, ℕ, ◌≤◌, List, Some, refl}
-use Rattle.std.specs.FinMap.{get}
-use Rattle.page_model.specs.Bytes.{AreBytes}
-use Rattle.page_model.specs.Held.{Placed}
-use Rattle.page_model.specs.Steps.{Request}
-use Rattle.cf_model.specs.Answers.{with_bound}
+use Rattle.run_model.specs.Terms.{AreBytes, family_of, get, HeapState, KeepsRules, Placed, Position, Request, with_bound}
 use Rattle.cf_model.specs.Families as family
-use Rattle.cf_model.specs.Families.{Family, family_of}
-use Rattle.cf_model.specs.Rules.{KeepsRules}
-use Rattle.cf_model.specs.State.{HeapState}
-use Rattle.cf_model.specs.Steps.{Position}
+use Rattle.cf_model.specs.Families.{Family}
 use Rattle.run_model.specs.Steps.{class_to_bound}
 use Rattle.script_laws.proofs.Answered.{HasFree, HasMalloc, HasResize, HasWrite}
 use Rattle.script_laws.proofs.BlockAnswers as blocks
-use Rattle.script_laws.proofs.PageAnswers as pages
+use Rattle.script_laws.proofs.PageRules as pages
 use Rattle.script_laws.proofs.PageFree as page_free
-use Rattle.script_laws.proofs.PageMalloc as page_malloc
 use Rattle.script_laws.proofs.PageResize as page_resize
 
 -- a heap for which each call has a result
@@ -31,7 +23,7 @@ answers s rules = by_family (family_of s.kind) refl
   where
     by_family : (f : Family) → family_of s.kind ≡ f → HasAnswers s
     by_family family.paged is = record {
-      malloc = page_malloc.malloc_done s rules is;
+      malloc = pages.malloc_done s rules is;
       free = page_free.free_done s rules is;
       write = pages.write_done s rules is;
       resize = page_resize.resize_done s rules is;

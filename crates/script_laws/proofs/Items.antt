@@ -1,7 +1,6 @@
 -- For the law `items_are_valid`: every item that the grammar finds in a script, command by command, is valid: numbers in range, 1 to 4,096 bytes in a write,
 -- settings without a fault.
-use Rattle.std.proofs.Common.{◌≡◌, ℕ, Bool, true, false, cond, ◌+◌, ◌*◌, ◌/◌, ◌%◌, ◌≤◌, List, [], ◌∷◌, Option, Some, None, Result, Ok, Err, length, arith, sym}
-use Rattle.std.proofs.Common.{ap, refl, subst}
+use Rattle.std.proofs.Common.{◌≡◌, ℕ, Bool, true, false, cond, ◌+◌, ◌*◌, ◌/◌, ◌%◌, ◌≤◌, List, [], ◌∷◌, Option, Some, None, Result, Ok, Err, length, arith, sym, ap, refl, subst}
 use Rattle.std.specs.Prelude.{⊤, ◌==◌, codes, nat_le, option_map}
 use Rattle.std.specs.Result.{result_ok}
 use Rattle.std.specs.Str.{bytes_eq, byte}
@@ -10,24 +9,20 @@ use Rattle.std.proofs.lemmas.Bool.Decides.{nat_tests}
 use Rattle.hex.specs.Hex.{decode_of}
 use Rattle.hex.specs.declared.error.FromHexError.{FromHexError}
 use Rattle.hex.proofs.HexLemmas.{decode_of-ok}
-use Rattle.page_model.specs.Bytes.{AreBytes}
+use Rattle.run_model.specs.Terms.{Admit, AreBytes, AreInRange, asks, Block, Bound, Command, Frag, Free, IsWellFormed, Item, items, Malloc, Need, Peek, Place, Quota, Read, Resize, Slice, starts, Steps, Task, Walk, Write}
 use Rattle.cf_base.specs.Limits.{is_page_bytes, is_page_size, is_within}
 use Rattle.cf_base.specs.Settings.{profile_from, setting_fault}
 use Rattle.cf_base.specs.declared.settings.SettingFault.{SettingFault}
 use Rattle.cf_base.specs.declared.settings.SettingFault.TheVariants.{Pages, PageBytes, Bound as BoundFault, Proxies, Region}
 use Rattle.cf_io.specs.Numbers.{number_in}
-use Rattle.cf_model.specs.Rules.{AreInRange}
-use Rattle.script_reader.specs.Commands.{IsWellFormed, admit_in, alone_in, block_command_in, bound_command_in, bound_in, bytes_in, command_of, four_of, free_in}
+use Rattle.script_reader.specs.Commands.{admit_in, alone_in, block_command_in, bound_command_in, bound_in, bytes_in, command_of, four_of, free_in}
 use Rattle.script_reader.specs.Commands.{id_and_number, id_in, id_number_and_length, id_number_and_text, length_in, letter_command, malloc_in, need_in, none_of}
 use Rattle.script_reader.specs.Commands.{number_and_bound, number_from, one_id, one_number, one_of, one_task, peek_in, place_command_in, quota_in, read_in}
 use Rattle.script_reader.specs.Commands.{resize_in, settings_if, settings_in, task_and_number, task_and_numbers, task_command_in, task_in, three_of, two_of}
 use Rattle.script_reader.specs.Commands.{word_command, write_in, ◌>>=◌}
-use Rattle.script_reader.specs.Items.{Item, LineMeaning, asks, gives_or_breaks, is_comment, item, item_in, item_or_wrong, items, items_at, items_by, line_says}
-use Rattle.script_reader.specs.Items.{nothing, stage_after, starts, tokens_say, verdict, wrong}
+use Rattle.script_reader.specs.Items.{LineMeaning, gives_or_breaks, is_comment, item, item_in, item_or_wrong, items_at, items_by, line_says}
+use Rattle.script_reader.specs.Items.{nothing, stage_after, tokens_say, verdict, wrong}
 use Rattle.script_reader.specs.Lines.{is_too_long, lines, tokens, without_return}
-use Rattle.script_reader.specs.declared.command.Command.{Command}
-use Rattle.script_reader.specs.declared.command.Command.TheVariants.{Malloc, Free, Write, Read, Place, Block, Peek, Walk, Frag, Steps, Bound, Resize, Slice}
-use Rattle.script_reader.specs.declared.command.Command.TheVariants.{Task, Quota, Need, Admit}
 use Rattle.script_reader.specs.declared.stage.Stage.{Stage}
 use Rattle.script_reader.specs.declared.stage.Stage.TheVariants.{Opening}
 use Rattle.script_laws.specs.ValidItems.{AreValidItems, HasBytes, IsValidCommand, IsValidItem}

@@ -1,13 +1,8 @@
-pub mod Images
-pub mod Room
-pub mod ByKind
+pub mod PageRules
 pub mod Answered
 pub mod OrderCosts
-pub mod PageRules
-pub mod PageMalloc
 pub mod PageFree
 pub mod PageResize
-pub mod PageAnswers
 pub mod LinkedWords
 pub mod BlockAnswers
 pub mod HeapAnswers
@@ -21,9 +16,7 @@ pub mod CallerLemmas
 pub mod SmallMaps
 pub mod PagesAtOne
 pub mod BoundsAtOne
-pub mod Alike
 pub mod Shown
-pub mod Words
 pub mod Steps
 pub mod Claims
 pub mod After
@@ -34,6 +27,3 @@ pub mod OneTranscript
 pub mod WrongReplies
 pub mod OneOutput
 pub mod ObjectTurns
-pub mod ObjectSteps
-pub mod ObjectsById
-pub mod ObjectReads

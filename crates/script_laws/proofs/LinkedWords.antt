@@ -1,8 +1,6 @@
 -- For the calls of a heap with blocks: however blocks divide the region, and whatever the free lists, there are words in which word 1 of each free block
 -- links it to its neighbours in its list.
-use Rattle.std.proofs.Common.{◌≡◌, ℕ, zero, suc, ◌+◌, ◌<◌, List, [], ◌∷◌, Option, Some, None, length, get_or, map, cond, arith, refl, sym, ◌∙◌, ap, subst}
-use Rattle.std.proofs.Common.{inl, inr}
-use Rattle.std.specs.Prelude.{if◌then◌else◌, is_none, nat_eq}
+use Rattle.std.proofs.Common.{◌≡◌, ℕ, zero, suc, ◌+◌, ◌<◌, List, [], ◌∷◌, Option, Some, None, length, get_or, map, cond, arith, refl, sym, ◌∙◌, ap, subst, inl, inr, if◌then◌else◌, is_none, nat_eq}
 use Rattle.std.specs.List.{Contains, IsDistinct, range_with_len}
 use Rattle.std.proofs.lemmas.Bool.{cases_eq}
 use Rattle.std.proofs.lemmas.List.FromFn.{length-map-range_with_len, get_or-map-range_with_len}

@@ -4,20 +4,13 @@ use Rattle.std.proofs.Common.{◌≡◌, ◌⊎◌, ℕ, Bool, true, false, cond
 use Rattle.std.proofs.lemmas.Bool.{cases_eq}
 use Rattle.std.specs.Ordering.{nat_cmp}
 use Rattle.std.specs.FinMap.{empty, get, get-empty, insert, remove}
-use Rattle.cf_base.specs.Settings.{Profile}
+use Rattle.run_model.specs.Terms.{asks, bad, Command, Free, Ids, Item, Malloc, Objects, Profile, Read, Reply, Resize, said, starts, Write, written}
 use Rattle.cf_lemmas.proofs.Maps.{get_inserted, get_insert_other, get_removed, get_remove_other}
 use Rattle.id_table.proofs.CallerLemmas.{tied_less, tied_more, tied_same}
-use Rattle.id_table.specs.Ids.{Ids}
 use Rattle.id_table.specs.Ties.{AreTiedTo}
-use Rattle.page_model.specs.Bytes.{written}
-use Rattle.page_model.specs.Held.{Objects}
 use Rattle.page_model.specs.Steps.{resized}
 use Rattle.script_laws.specs.IdBytes.{AreReadsOf, IsReadOf, changed, bytes_after, is_ok, read_shown, shown_after}
 use Rattle.run_model.specs.Plays.{PlayRun, PlayStep}
-use Rattle.run_model.specs.Texts.{Reply, said}
-use Rattle.script_reader.specs.Items.{Item, asks, bad, starts}
-use Rattle.script_reader.specs.declared.command.Command.{Command}
-use Rattle.script_reader.specs.declared.command.Command.TheVariants.{Malloc, Free, Write, Read, Resize}
 
 -- the bytes of the object under a number, if there is a number
 abbrev pub through : Objects → Option ℕ → Option (List ℕ)

@@ -2,32 +2,20 @@
 -- has such a run.
 use Rattle.std.proofs.Common.{◌≡◌, ℕ, ◌+◌, ◌*◌, Bool, true, false, List, [], ◌∷◌, Option, Some, None, Result, Ok, Err, refl, sym, ◌∙◌, ap, subst}
 use Rattle.std.specs.Prelude.{IsSome, ⊤, codes, is_some}
-use Rattle.std.specs.FinMap.{get, remove}
-use Rattle.cf_base.specs.Settings.{Profile}
-use Rattle.cf_base.specs.declared.answers.AccessFault.{AccessFault}
-use Rattle.cf_base.specs.declared.answers.Freed.{Freed}
-use Rattle.cf_base.specs.declared.kind.Kind.{Kind}
+use Rattle.run_model.specs.Terms.{AccessFault, AreInRange, asks, bad, Bound, Command, counted, Free, Freed, fresh_session, get, HeapState, IsGoing, Item, items, KeepsRules, Kind, Malloc, Position, Profile, remove, Reply, Request, Resize, RunState, said, SessionState, starts, with_bound, Write}
 use Rattle.page_model.specs.Order.{Order}
-use Rattle.page_model.specs.Steps.{Request}
 use Rattle.block_model.proofs.CallerLemmas.{opening_lists}
-use Rattle.cf_model.specs.Answers.{with_bound}
 use Rattle.cf_model.specs.Costs.{resize_bound}
 use Rattle.cf_model.specs.Ordered.{FreeByOrder, MallocByOrder, ResizeByOrder}
-use Rattle.cf_model.specs.Rules.{AreInRange, KeepsRules}
-use Rattle.cf_model.specs.State.{HeapState}
-use Rattle.cf_model.specs.Steps.{IsOpeningOrder, IsWriteStep, Position, opening_order, ordered_heap}
+use Rattle.cf_model.specs.Steps.{IsOpeningOrder, IsWriteStep, opening_order, ordered_heap}
 use Rattle.cf_model.proofs.CallerLemmas.{free_same, one_malloc, one_resize, one_write, order_stays, ordered_there, same_words}
-use Rattle.script_reader.specs.Items.{Item, LineMeaning, asks, bad, gives_or_breaks, is_bound, item, items, items_at, items_by, line_says, nothing, stage_after_command, starts, verdict, wrong}
+use Rattle.script_reader.specs.Items.{LineMeaning, gives_or_breaks, is_bound, item, items_at, items_by, line_says, nothing, stage_after_command, verdict, wrong}
 use Rattle.script_reader.specs.Lines.{lines}
-use Rattle.script_reader.specs.declared.command.Command.{Command}
-use Rattle.script_reader.specs.declared.command.Command.TheVariants.{Malloc, Free, Write, Bound, Resize}
 use Rattle.script_reader.specs.declared.stage.Stage.{Stage}
 use Rattle.script_reader.specs.declared.stage.Stage.TheVariants.{Opening, Bounding, Running}
 use Rattle.run_model.specs.Replies.{malloc_text, resize_text, write_text}
 use Rattle.run_model.specs.Runs.{Begins, BeginsOne, ItemStep, Run, IsCommandStep}
-use Rattle.run_model.specs.Sessions.{IsGoing, RunState, SessionState, counted, fresh_session}
 use Rattle.run_model.specs.Steps.{Step, class_to_bound, ids_given, session_resized}
-use Rattle.run_model.specs.Texts.{Reply, said}
 use Rattle.run_model.proofs.CallerLemmas.{FreesAt, MallocsAt, ResizesAt, WritesAt, begins_going, step_going}
 use Rattle.script_laws.specs.ValidItems.{AreValidItems}
 use Rattle.script_laws.proofs.GoingOn.{kind_goes_on}

@@ -1,23 +1,13 @@
 -- For `one_transcript` and `equal_objects_get_equal_replies`: at bound 1 runs over the same items, from the start or from equal objects, have the same replies.
-use Rattle.std.proofs.Common.{◌≡◌, ℕ, ◌<◌, List, [], ◌∷◌, Option, Some, None, length, sym, ◌∙◌, ap, subst}
-use Rattle.std.specs.Prelude.{option_map}
+use Rattle.std.proofs.Common.{◌≡◌, ℕ, ◌<◌, List, [], ◌∷◌, Option, Some, None, length, sym, ◌∙◌, ap, subst, option_map}
 use Rattle.std.proofs.lemmas.Grind.{same_number_lists}
-use Rattle.std.specs.FinMap.{get}
+use Rattle.run_model.specs.Terms.{asks, bad, Block, Bound, Command, EveryBoundIsOne, get, IsGoing, IsPaged, Item, Kind, paging_in, Peek, Place, Placed, Reply, RunState, starts, Steps}
 use Rattle.cf_base.specs.Classes.{sizes}
-use Rattle.cf_base.specs.declared.kind.Kind.{Kind}
 use Rattle.cf_lemmas.proofs.Maps.{equal_maps}
 use Rattle.cf_lemmas.proofs.MapValues.{get-map_values}
-use Rattle.page_model.specs.Held.{Placed}
-use Rattle.page_model.specs.Paging.{EveryBoundIsOne}
-use Rattle.cf_model.specs.Rules.{IsPaged}
-use Rattle.cf_model.specs.State.{layout_of, paging_in}
+use Rattle.cf_model.specs.State.{layout_of}
 use Rattle.cf_model.proofs.CallerLemmas.{pages_kept}
-use Rattle.script_reader.specs.Items.{Item, asks, bad, starts}
-use Rattle.script_reader.specs.declared.command.Command.{Command}
-use Rattle.script_reader.specs.declared.command.Command.TheVariants.{Place, Block, Peek, Steps, Bound}
 use Rattle.run_model.specs.Runs.{Run}
-use Rattle.run_model.specs.Sessions.{IsGoing, RunState}
-use Rattle.run_model.specs.Texts.{Reply}
 use Rattle.script_laws.specs.Histories.{AreAlike, AreFurther, IsFurther}
 use Rattle.run_model.specs.ById.{bytes_of}
 use Rattle.script_laws.specs.Transcripts.{ArePlaceless, AskForOne, AsksForOne, AsksForNoAddress, StaysAtOne, replies_from, transcript}

@@ -1,23 +1,15 @@
 -- The exact steps of a malloc, free or resize of a heap with pages (`malloc_cost` and so on) are within 64, 96 + 2s and 160 + 3s; s counts the words of the
 -- slot, in a resize of the larger one.
-use Rattle.std.proofs.Common.{◌≡◌, ℕ, ◌+◌, ◌-◌, ◌*◌, ◌/◌, ◌≤◌, Option, Some, None, Ok, length, arith, refl, sym, ap, subst}
-use Rattle.std.specs.Prelude.{max, min, nat_eq, nat_lt}
-use Rattle.std.specs.FinMap.{get}
-use Rattle.cf_base.specs.Classes.{need}
-use Rattle.cf_base.specs.declared.answers.Freed.{Freed}
-use Rattle.cf_base.specs.declared.answers.Handle.{Handle}
-use Rattle.cf_base.specs.declared.answers.Resized.{Resized}
-use Rattle.page_model.specs.Arrangement.{class_at, objects_on}
-use Rattle.page_model.specs.Held.{Placed}
+use Rattle.std.proofs.Common.{◌≡◌, ℕ, ◌+◌, ◌-◌, ◌*◌, ◌/◌, ◌≤◌, Option, Some, None, Ok, length, arith, refl, sym, ap, subst, max, min, nat_eq, nat_lt}
+use Rattle.run_model.specs.Terms.{class_at, Freed, get, Handle, HeapState, need, page_of, paging_in, Placed, Request, Resized, slots_of}
+use Rattle.page_model.specs.Arrangement.{objects_on}
 use Rattle.page_model.specs.Image.{slot_for}
 use Rattle.page_model.specs.Order.{Order, steps_to_take, word_steps}
-use Rattle.page_model.specs.Paging.{class_for, page_of, slots_of}
-use Rattle.page_model.specs.Steps.{Request}
+use Rattle.page_model.specs.Paging.{class_for}
 use Rattle.page_model.specs.WordSteps.{copy_steps, run_steps, slot_steps, wipe_steps}
 use Rattle.page_model.proofs.CallerLemmas.{copy_few, drop_few, either_few, fill_few, run_few, slot_few, take_few, wipe_few, word_few}
 use Rattle.cf_model.specs.Costs.{resize_bound}
 use Rattle.cf_model.specs.ExactCosts.{carrying_cost, free_cost, leaving_cost, malloc_cost, resize_cost, resized_cost, tail_steps}
-use Rattle.cf_model.specs.State.{HeapState, paging_in}
 
 pub space_few : (s : HeapState) → 4 + word_steps s.kind ≤ 160
 space_few s = (let w = word_few s.kind in omega arith)

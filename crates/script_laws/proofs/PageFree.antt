@@ -1,24 +1,17 @@
 -- For the law `a_command_is_always_answered`: every free of a live object of a heap with pages succeeds, and the state after it keeps the heap's rules.
-use Rattle.std.proofs.Common.{◌≡◌, ℕ, ◌+◌, ◌*◌, ◌≤◌, List, Option, Some, None, Ok, length, arith, sym, refl, subst}
-use Rattle.std.specs.Prelude.{IfSome}
-use Rattle.std.specs.FinMap.{get}
-use Rattle.cf_base.specs.declared.answers.Freed.{Freed}
-use Rattle.cf_base.specs.declared.answers.Handle.{Handle}
-use Rattle.page_model.specs.Held.{Held, Placed, objects}
+use Rattle.std.proofs.Common.{◌≡◌, ℕ, ◌+◌, ◌*◌, ◌≤◌, List, Option, Some, None, Ok, length, arith, sym, refl, subst, IfSome}
+use Rattle.run_model.specs.Terms.{Freed, get, Handle, HeapState, Held, IsPaged, KeepsRules, objects, Paging, paging_in, Placed}
 use Rattle.page_model.specs.Image.{slot_for}
 use Rattle.page_model.specs.Order.{FreeFollows, IsOrderOf, Order}
-use Rattle.page_model.specs.Paging.{Paging}
 use Rattle.page_model.specs.Steps.{CallResult, Moves, RemovesObject, without}
 use Rattle.page_model.proofs.CallerLemmas.{can_free, free_frames, free_objects, some_move, sound_free, bytes_held}
 use Rattle.cf_model.specs.ExactCosts.{free_cost}
 use Rattle.cf_model.specs.Ordered.{FreeByOrder, IsOrderedFree}
-use Rattle.cf_model.specs.Rules.{IsPaged, KeepsRules, KeepsTable}
-use Rattle.cf_model.specs.State.{HeapState, paging_in}
+use Rattle.cf_model.specs.Rules.{KeepsTable}
 use Rattle.cf_model.specs.Steps.{MovesIn, frames_left, call_result, number_of, slot_in, tiling_left}
 use Rattle.script_laws.proofs.Answered.{AreFew, HasFree, few_left, follows_none, follows_some}
-use Rattle.script_laws.proofs.ByKind.{handle_of, number_of_handle, table_stepped}
+use Rattle.script_laws.proofs.PageRules.{handle_of, number_of_handle, table_stepped, becomes, costs_by_kind, few_old, order_old, pages, table_old}
 use Rattle.script_laws.proofs.OrderCosts.{free_few}
-use Rattle.script_laws.proofs.PageRules.{becomes, costs_by_kind, few_old, order_old, pages, table_old}
 
 module _ (old : HeapState) (rules : KeepsRules old) (paged : IsPaged old.kind) (h : ℕ) (x : Placed) (there : get old.held h ≡ Some x) where
   abbrev p : Paging

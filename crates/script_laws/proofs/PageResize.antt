@@ -1,36 +1,26 @@
 -- For the law `a_command_is_always_answered`: every resize of a live object of a heap with pages has a result, and a state after it that keeps the heap's
 -- rules, with or without an order.
-use Rattle.std.proofs.Common.{◌≡◌, ◌≢◌, ℕ, ◌+◌, ◌≤◌, List, Option, Some, None, Ok, Err, length, arith, sym, ◌∙◌, ap, refl, subst, inl, inr}
-use Rattle.std.specs.Prelude.{IfSome}
+use Rattle.std.proofs.Common.{◌≡◌, ◌≢◌, ℕ, ◌+◌, ◌≤◌, List, Option, Some, None, Ok, Err, length, arith, sym, ◌∙◌, ap, refl, subst, inl, inr, IfSome}
 use Rattle.std.proofs.lemmas.Bool.{cases_eq, cases_lt}
-use Rattle.std.specs.FinMap.{get, insert}
-use Rattle.cf_base.specs.Classes.{need}
-use Rattle.cf_base.specs.declared.answers.Handle.{Handle}
-use Rattle.cf_base.specs.declared.answers.Resized.{Resized}
-use Rattle.cf_base.specs.declared.answers.ResizeFault.{ResizeFault}
+use Rattle.run_model.specs.Terms.{class_at, get, Handle, HeapState, Held, insert, IsPaged, IsPaging, IsSound, KeepsRules, need, objects, Paging, paging_in, Placed, Request, Resized, ResizeFault}
 use Rattle.cf_base.specs.declared.answers.ResizeFault.TheVariants as resize
 use Rattle.cf_lemmas.proofs.MapValues.{map_values-insert}
 use Rattle.cf_lemmas.proofs.Searches.{there_or_not}
 use Rattle.cf_lemmas.proofs.Sums.{insert_again}
-use Rattle.page_model.specs.Arrangement.{IsSound, class_at}
-use Rattle.page_model.specs.Held.{Held, Placed, objects}
 use Rattle.page_model.specs.Image.{slot_for}
 use Rattle.page_model.specs.Order.{IsOrderOf, Order, ResizeFollows, word_steps}
-use Rattle.page_model.specs.Paging.{IsPaging, Paging, class_for}
-use Rattle.page_model.specs.Steps.{IsFreePlace, CallResult, Moves, RefitsObject, Request, resized, resized_at, without}
+use Rattle.page_model.specs.Paging.{class_for}
+use Rattle.page_model.specs.Steps.{IsFreePlace, CallResult, Moves, RefitsObject, resized, resized_at, without}
 use Rattle.page_model.proofs.CallerLemmas.{can_resize, change_is, changes_class, class_fits, class_holds, free_objects, resize_frames, resized_are_bytes}
 use Rattle.page_model.proofs.CallerLemmas.{some_move, sound_resize, bytes_held}
 use Rattle.cf_model.specs.Costs.{resize_bound}
 use Rattle.cf_model.specs.ExactCosts.{resize_cost}
 use Rattle.cf_model.specs.Ordered.{IsOrderedResize, ResizeByOrder}
-use Rattle.cf_model.specs.Rules.{IsPaged, KeepsRules, KeepsTable}
-use Rattle.cf_model.specs.State.{HeapState, paging_in}
+use Rattle.cf_model.specs.Rules.{KeepsTable}
 use Rattle.cf_model.specs.Steps.{IsResizeFault, IsLeftByRefusal, frames_left, number_of}
 use Rattle.script_laws.proofs.Answered.{AreFew, HasResize, few_changed, follows_none, follows_same, follows_some}
-use Rattle.script_laws.proofs.ByKind.{handle_of, number_of_handle, table_stepped}
+use Rattle.script_laws.proofs.PageRules.{handle_of, number_of_handle, table_stepped, becomes, costs, few_old, order_old, pages, rules_still, table_old, has_room, room_or_not}
 use Rattle.script_laws.proofs.OrderCosts.{resize_few, space_few}
-use Rattle.script_laws.proofs.PageRules.{becomes, costs, few_old, order_old, pages, rules_still, table_old}
-use Rattle.script_laws.proofs.Room.{has_room, room_or_not}
 
 -- a resize changes the bytes of its object alone
 objects_refitted : (p : Paging) → IsPaging p → (m : Held) → IsSound p m → (asked : Request) (x : Placed) → get m asked.number ≡ Some x

@@ -1,7 +1,6 @@
 -- If every bound is 1, the figures of a sound arrangement (objects and pages of each class, and totals) are those of `AtOne`, computed from the objects
 -- without addresses.
-use Rattle.std.proofs.Common.{◌≡◌, ℕ, zero, suc, ◌+◌, ◌-◌, ◌*◌, ◌%◌, ◌<◌, ◌≤◌, Bool, true, false, ◌∷◌, length, map, arith, sym, ◌∙◌, ap, refl, subst, cond}
-use Rattle.std.specs.Prelude.{filter, nat_eq}
+use Rattle.std.proofs.Common.{◌≡◌, ℕ, zero, suc, ◌+◌, ◌-◌, ◌*◌, ◌%◌, ◌<◌, ◌≤◌, Bool, true, false, ◌∷◌, length, map, arith, sym, ◌∙◌, ap, refl, subst, cond, filter, nat_eq}
 use Rattle.std.specs.List.{range_with_len}
 use Rattle.std.proofs.lemmas.Nat.{mod-mul-add}
 use Rattle.std.proofs.Math.Nat.{mul-mod_left}

@@ -2,12 +2,8 @@
 use Rattle.std.proofs.Common.{◌≡◌, ℕ, zero, suc, true, false, ◌++◌, List, [], ◌∷◌, Option, Some, None, sym, ◌∙◌, ap, refl, subst, append_assoc}
 use Rattle.std.specs.Prelude.{⊤, codes, nat_eq, not, option_map}
 use Rattle.std.proofs.lemmas.Bool.{and_parts}
-use Rattle.cf_base.specs.Settings.{Profile}
-use Rattle.cf_base.specs.declared.kind.Kind.{Kind}
-use Rattle.script_reader.specs.Items.{Item, asks, bad, starts}
+use Rattle.run_model.specs.Terms.{asks, bad, bad_line, Command, Item, Kind, led, Profile, Reply, starts, text_of}
 use Rattle.run_model.specs.Plays.{PlayRun, PlayStep}
-use Rattle.run_model.specs.Texts.{Reply, bad_line, led, text_of}
-use Rattle.script_reader.specs.declared.command.Command.{Command}
 use Rattle.script_laws.specs.Headline.{MayReply, MeetsHeadline, OpensEmpty}
 use Rattle.script_laws.specs.ShownHeap.{IsArranged, heap_opened}
 use Rattle.script_laws.proofs.After.{view, view_after, view_is}

@@ -1,31 +1,16 @@
 -- For `reads_give_what_was_written`: over a run on one manager, reads print the bytes that follow from the lines before them and their replies.
-use Rattle.std.proofs.Common.{◌≡◌, ◌⊎◌, ℕ, false, List, Option, Some, None, Result, Ok, Err, sym, ◌∙◌, ap, refl, inl, inr}
-use Rattle.std.specs.Prelude.{codes, option_map}
-use Rattle.std.specs.FinMap.{get}
-use Rattle.cf_base.specs.declared.answers.AccessFault.{AccessFault}
+use Rattle.std.proofs.Common.{◌≡◌, ◌⊎◌, ℕ, false, List, Option, Some, None, Result, Ok, Err, sym, ◌∙◌, ap, refl, inl, inr, codes, option_map}
+use Rattle.run_model.specs.Terms.{AccessFault, Bound, Command, Free, get, Handle, HeapState, IsGoing, Item, Kind, Malloc, objects, Placed, Read, Refusal, Reply, Resize, Resized, ResizeFault, RunState, said, SessionState, with_bound, Write}
 use Rattle.cf_base.specs.declared.answers.AccessFault.TheVariants as access
-use Rattle.cf_base.specs.declared.answers.Handle.{Handle}
-use Rattle.cf_base.specs.declared.answers.Refusal.{Refusal}
 use Rattle.cf_base.specs.declared.answers.Refusal.TheVariants as refusal
-use Rattle.cf_base.specs.declared.answers.Resized.{Resized}
-use Rattle.cf_base.specs.declared.answers.ResizeFault.{ResizeFault}
 use Rattle.cf_base.specs.declared.answers.ResizeFault.TheVariants as resize
-use Rattle.cf_base.specs.declared.kind.Kind.{Kind}
 use Rattle.cf_lemmas.proofs.MapValues.{get-map_values, map_values-insert}
-use Rattle.page_model.specs.Held.{Placed, objects}
 use Rattle.page_model.proofs.CallerLemmas.{malloc_objects, bytes_held, bytes_missing}
-use Rattle.cf_model.specs.Answers.{with_bound}
-use Rattle.cf_model.specs.State.{HeapState}
 use Rattle.cf_model.specs.Steps.{IsMallocStep, IsResizeStep, IsWriteStep}
-use Rattle.script_reader.specs.Items.{Item}
-use Rattle.script_reader.specs.declared.command.Command.{Command}
-use Rattle.script_reader.specs.declared.command.Command.TheVariants.{Malloc, Free, Write, Read, Bound, Resize}
 use Rattle.run_model.specs.Replies.{malloc_text, object_of, read_text, resize_text, write_text}
 use Rattle.run_model.specs.Runs.{BeginsOne, Run, IsCommandStep}
-use Rattle.run_model.specs.Sessions.{IsGoing, RunState, SessionState}
 use Rattle.run_model.specs.Steps.{Step, class_to_bound, ids_given}
 use Rattle.run_model.proofs.CallerLemmas.{FreesAt, MallocsAt, ResizesAt, WritesAt, begins_going, step_going}
-use Rattle.run_model.specs.Texts.{Reply, said}
 use Rattle.run_model.proofs.CallerLemmas.{counted_ids, names_of_objects, resized_ids, unmoved_held}
 use Rattle.script_laws.specs.IdBytes.{AreReadsOf, is_ok, read_shown}
 use Rattle.script_laws.proofs.NamedTurns.{Adds, Named, NamedTurn, NamesObjects, Refuses, bytes_named, any_reads_are_shown, same_named, through}

@@ -1,15 +1,11 @@
 -- For any rules of a mode: if a run begins with any settings in range and each valid command has a step, then there is a run over the items of any script.
 use Rattle.std.proofs.Common.{◌≡◌, ◌++◌, ℕ, List, [], ◌∷◌, Option, Some, None, refl, sym, subst}
 use Rattle.std.specs.Prelude.{⊤, Bool}
-use Rattle.cf_base.specs.Settings.{Profile}
-use Rattle.cf_model.specs.Rules.{AreInRange}
+use Rattle.run_model.specs.Terms.{AreInRange, asks, bad, bad_line, Command, Item, items, Profile, Reply, said, starts}
 use Rattle.script_laws.proofs.Items.{all_items_valid}
 use Rattle.script_laws.specs.ValidItems.{AreValidItems, IsValidCommand, IsValidItem}
 use Rattle.run_model.proofs.CallerLemmas.{run_joined}
 use Rattle.run_model.specs.Plays.{PlayRun, PlayStep}
-use Rattle.run_model.specs.Texts.{Reply, bad_line, said}
-use Rattle.script_reader.specs.Items.{Item, asks, bad, items, starts}
-use Rattle.script_reader.specs.declared.command.Command.{Command}
 
 -- A run can always go on: it begins with any settings in range, each valid command has a step, and the run is in progress afterwards.
 pub record CanGoOn {S : Type 0} (begins : Profile → Reply → S → Type 0) (turns : S → Command → Reply → S → Type 0) : Type 1 where

@@ -3,31 +3,21 @@ use Rattle.std.proofs.Common.{◌≡◌, inl, inr, ℕ, zero, suc, Bool, true, f
 use Rattle.std.specs.Prelude.{⊤, codes, decimal, drop, filter, take, nat_eq, nat_le, nat_lt, not, slice_index}
 use Rattle.std.specs.Fmt.{digit_glyph, digits, digits_onto}
 use Rattle.std.specs.List.{range_with_len}
-use Rattle.std.specs.FinMap.{get}
+use Rattle.run_model.specs.Terms.{Admit, Block, Bound, Command, family_of, Frag, Free, get, HalfFit, HeapState, Kind, Malloc, Moving, Need, NonMoving, paged, paging_in, Peek, Place, Placed, Quota, Read, Refusal, Reply, Resize, ResizeFault, said, Slice, Steps, Task, tiled, Tlsf, totals_in, Walk, with_number, Write}
 use Rattle.std.proofs.lemmas.Bool.{and_parts}
 use Rattle.hex.specs.Hex.{encode_lower, encode_with, lower_digits}
 use Rattle.cf_base.specs.declared.answers.Figures.{Figures}
-use Rattle.cf_base.specs.declared.answers.Refusal.{Refusal}
 use Rattle.cf_base.specs.declared.answers.Refusal.TheVariants as refusal
-use Rattle.cf_base.specs.declared.answers.ResizeFault.{ResizeFault}
 use Rattle.cf_base.specs.declared.answers.ResizeFault.TheVariants as resize
 use Rattle.cf_base.specs.declared.answers.Totals.{Totals}
-use Rattle.cf_base.specs.declared.kind.Kind.{Kind}
-use Rattle.cf_base.specs.declared.kind.Kind.TheVariants.{Moving, NonMoving, Tlsf, HalfFit}
 use Rattle.cf_lemmas.proofs.Tests.{eq_no}
 use Rattle.page_model.specs.Arrangement.{live}
 use Rattle.page_model.specs.Figures.{figures_of}
-use Rattle.page_model.specs.Held.{Placed}
-use Rattle.cf_model.specs.Answers.{block_of_object, classes_in, totals_in}
-use Rattle.cf_model.specs.Families.{Family, paged, tiled, family_of}
-use Rattle.cf_model.specs.State.{HeapState, paging_in}
-use Rattle.script_reader.specs.declared.command.Command.{Command}
-use Rattle.script_reader.specs.declared.command.Command.TheVariants.{Malloc, Free, Write, Read, Place, Block, Peek, Walk, Frag, Steps, Bound, Resize, Slice}
-use Rattle.script_reader.specs.declared.command.Command.TheVariants.{Task, Quota, Need, Admit}
+use Rattle.cf_model.specs.Answers.{block_of_object, classes_in}
+use Rattle.cf_model.specs.Families.{Family}
 use Rattle.run_model.specs.Replies.{block_text, block_text_at, frame_text, malloc_text, peek_text, place_text, read_text, resize_text}
 use Rattle.run_model.specs.Reports.{blocks_line, class_line, frag_line, pages_report, total_line, walk_of}
 use Rattle.run_model.specs.Steps.{bound_text, class_to_bound}
-use Rattle.run_model.specs.Texts.{Reply, said, with_number}
 use Rattle.script_laws.specs.AtOne.{classes_in_use}
 use Rattle.script_laws.specs.ById.{ById, paging_by_id}
 use Rattle.script_laws.specs.Headline.{ShowsFree, IsAnswer, ShowsMalloc, ShowsResize, ShowsWrite, steps_line, steps_shown}
@@ -99,9 +89,7 @@ malloc_line refusal.Space = refl
 
 resize_line : (e : ResizeFault) → is_line (resize_text (Err e)) ≡ true
 resize_line resize.Unknown = refl
-resize_line resize.Kind = refl
-resize_line resize.Size = refl
-resize_line resize.Space = refl
+resize_line _ = refl
 
 read_line : (o : Option Placed) (at count : ℕ) → is_line (read_text o at count) ≡ true
 read_line None at count = refl
@@ -218,8 +206,4 @@ shape t Frag reply new r = one_line _ reply r.0 (frag_is_line (totals_in t.heap.
 shape t Steps reply new r = one_line _ reply r.0 (steps_text_line t.heap.kind t)
 shape t (Bound words n) reply new r = one_line _ reply r.0 (bound_line (class_to_bound t.heap words))
 shape t (Resize id n) reply new r = resize_shape (get t.heap.held id) t id n reply new r
-shape t Slice reply new r = one_line _ reply r.0 refl
-shape t (Task task) reply new r = one_line _ reply r.0 refl
-shape t (Quota task n) reply new r = one_line _ reply r.0 refl
-shape t (Need task bytes count) reply new r = one_line _ reply r.0 refl
-shape t (Admit task) reply new r = one_line _ reply r.0 refl
+shape t _ reply new r = one_line _ reply r.0 refl

@@ -1,52 +1,35 @@
 -- For the law `the_headline`, command by command: a step of a run (`Step`) is an answer that the headline allows (`IsAnswer`) between the heaps that lines
 -- and replies show before and after it.
-use Rattle.std.proofs.Common.{◌≡◌, ℕ, ◌+◌, ◌*◌, ◌<◌, ◌++◌, List, [], Option, Some, None, Result, Ok, Err, max, map, cond, length, arith, sym, ◌∙◌, ap, refl, subst, inl, inr}
-use Rattle.std.specs.Prelude.{◌⊎◌, codes, filter, nat_eq, nat_lt, not, slice_get, slice_index}
+use Rattle.std.proofs.Common.{◌≡◌, ℕ, ◌+◌, ◌*◌, ◌<◌, ◌++◌, List, [], Option, Some, None, Result, Ok, Err, max, map, cond, length, arith, sym, ◌∙◌, ap, refl, subst, inl, inr, ◌⊎◌, codes, filter, nat_eq, nat_lt, not, slice_get, slice_index}
 use Rattle.std.specs.List.{range_with_len}
 use Rattle.std.proofs.lemmas.Bool.{cases_lt}
 use Rattle.std.proofs.lemmas.Option.{slice_get-get_or, slice_get_past}
-use Rattle.std.specs.FinMap.{get, insert, remove}
-use Rattle.cf_base.specs.declared.answers.AccessFault.{AccessFault}
+use Rattle.run_model.specs.Terms.{AccessFault, class_at, CostsAtMost, CostsByKind, counted, family_of, get, HalfFit, Handle, HeapState, Held, Ids, insert, IsGoing, IsPaged, Kind, Moving, NonMoving, paged, Paging, paging_in, Placed, Refusal, region_words, remove, Reply, Request, Resized, ResizeFault, RunState, said, SessionState, tiled, Tlsf, totals_in, with_bound, written}
 use Rattle.cf_base.specs.declared.answers.AccessFault.TheVariants as access
-use Rattle.cf_base.specs.declared.answers.Handle.{Handle}
-use Rattle.cf_base.specs.declared.answers.Refusal.{Refusal}
 use Rattle.cf_base.specs.declared.answers.Refusal.TheVariants as refusal
-use Rattle.cf_base.specs.declared.answers.Resized.{Resized}
-use Rattle.cf_base.specs.declared.answers.ResizeFault.{ResizeFault}
 use Rattle.cf_base.specs.declared.answers.ResizeFault.TheVariants as resize
 use Rattle.cf_base.specs.declared.answers.Totals.{Totals}
-use Rattle.cf_base.specs.declared.kind.Kind.{Kind}
-use Rattle.cf_base.specs.declared.kind.Kind.TheVariants.{Moving, NonMoving, Tlsf, HalfFit}
 use Rattle.cf_lemmas.proofs.Tests.{le_no, le_yes, lt_no, lt_yes}
-use Rattle.page_model.specs.Bytes.{written}
-use Rattle.page_model.specs.Held.{Held, Placed}
 use Rattle.page_model.specs.Image.{slot_for}
-use Rattle.page_model.specs.Paging.{Paging, class_for}
-use Rattle.page_model.specs.Arrangement.{class_at}
-use Rattle.page_model.specs.Steps.{CallResult, Moves, RefitsObject, Request, resized_at, without, zeros_at}
+use Rattle.page_model.specs.Paging.{class_for}
+use Rattle.page_model.specs.Steps.{CallResult, Moves, RefitsObject, resized_at, without, zeros_at}
 use Rattle.page_model.proofs.CallerLemmas.{change_is}
-use Rattle.cf_model.specs.Answers.{block_totals, with_bound, class_with, classes_in, totals_in}
+use Rattle.cf_model.specs.Answers.{block_totals, class_with, classes_in}
 use Rattle.cf_model.specs.Costs.{resize_bound}
-use Rattle.cf_model.specs.Families.{Family, paged, tiled, family_of}
-use Rattle.cf_model.specs.Rules.{IsPaged, IsTiled, KeepsPages, KeepsRulesOf, KeepsTiling}
-use Rattle.cf_model.specs.State.{HeapState, paging_in, region_words}
+use Rattle.cf_model.specs.Families.{Family}
+use Rattle.cf_model.specs.Rules.{IsTiled, KeepsPages, KeepsRulesOf, KeepsTiling}
 use Rattle.cf_model.specs.Steps.{IsMallocStep, IsPlacedBy, IsRefusedBy, IsResizeFault, IsResizeStep, IsLeftByRefusal, IsWriteStep, LacksRoomIn, MovesIn, frames_left, number_of, slot_in}
 use Rattle.cf_model.specs.Steps.{tiling_left}
 use Rattle.cf_model.proofs.CallerLemmas.{not_none_found, pages_kept}
 use Rattle.run_model.specs.Replies.{block_text, block_text_at, malloc_text, peek_text, resize_text, write_text}
 use Rattle.run_model.specs.Reports.{blocks_line, class_line, frag_line, frag_of, pages_report, total_line, walk_of}
-use Rattle.run_model.specs.Sessions.{CostsAtMost, CostsByKind, Ids, IsGoing, RunState, SessionState, counted}
 use Rattle.run_model.specs.Steps.{Bounds as GetsBound, Frees as FreesStep, bound_text, class_to_bound, ids_given, session_resized}
-use Rattle.run_model.specs.Texts.{Reply, said}
 use Rattle.run_model.proofs.CallerLemmas.{FreesAt, MallocsAt, ResizesAt, WritesAt, counted_bound, counted_ids, resized_ids}
 use Rattle.run_model.proofs.CallerLemmas.{changed_renamed, given_renamed, gone_with, live_renamed}
 use Rattle.script_laws.specs.Headline.{ShowsBound, ShowsFree, FreeSucceeds, MallocSucceeds, IsRefusedMalloc, ShowsMalloc, Peeks, RefitsElsewhere, RefitsInPlace, ShowsResize, ShowsWrite}
 use Rattle.script_laws.specs.Headline.{resize_bound_for, heap_with}
 use Rattle.script_laws.specs.ShownHeap.{IsArranged, ShownHeap, move_counted}
-use Rattle.script_laws.proofs.Alike.{asked_alike, figures_same, lacks_same, live_alike, place_same, sound_same, totals_same}
-use Rattle.script_laws.proofs.Shown.{IsNamed, apart, counts, frames_by_id, heap_of, held_by_id, missing, moves_by_id, nothing, numbered, object}
-use Rattle.script_laws.proofs.Shown.{refitted_by_id, shown, still_named, without_by_id}
-use Rattle.script_laws.proofs.Words.{word_shown}
+use Rattle.script_laws.proofs.Shown.{asked_alike, figures_same, lacks_same, live_alike, place_same, sound_same, totals_same, IsNamed, apart, counts, frames_by_id, heap_of, held_by_id, missing, moves_by_id, nothing, numbered, object, refitted_by_id, shown, still_named, without_by_id, word_shown}
 
 -- two states of a run with equal sessions and heaps are equal
 pub run_is : (s new : RunState) → new.session ≡ s.session → new.heap ≡ s.heap → new ≡ s
@@ -125,9 +108,7 @@ module _ (s : RunState) (going : IsGoing s) where
 
   block_in : (k : Kind) (x : Placed) (i : ℕ) → block_text k s.heap x i ≡ block_text k (heap_of s) x i
   block_in Moving x i = refl
-  block_in NonMoving x i = refl
-  block_in Tlsf x i = refl
-  block_in HalfFit x i = refl
+  block_in _ x i = refl
 
   pub block_here : (o : Option Placed) (i : ℕ) → block_text_at s.heap o i ≡ block_text_at (heap_of s) o i
   block_here None i = refl

@@ -1,7 +1,6 @@
 -- For the law `wrong_replies_fall_short`: small scripts with wrong replies (a malloc that fits refused, a line missing, an address shared or changed, and
 -- others) don't meet the headline.
-use Rattle.std.proofs.Common.{◌≡◌, ◌≢◌, ℕ, true, false, cond, ◌-◌, ◌/◌, ◌≤◌, ◌<◌, Err, List, [], ◌∷◌, ◌++◌, drop, get_or, map, Option, Some, None, length, replicate, arith, sym}
-use Rattle.std.proofs.Common.{◌∙◌, ap, refl, subst, lit≤, inl, inr}
+use Rattle.std.proofs.Common.{◌≡◌, ◌≢◌, ℕ, true, false, cond, ◌-◌, ◌/◌, ◌≤◌, ◌<◌, Err, List, [], ◌∷◌, ◌++◌, drop, get_or, map, Option, Some, None, length, replicate, arith, sym, ◌∙◌, ap, refl, subst, lit≤, inl, inr}
 use Rattle.std.specs.Prelude.{⊤, codes}
 use Rattle.std.proofs.lemmas.Bool.{and_parts}
 use Rattle.std.specs.List.{list_all}
@@ -10,29 +9,19 @@ use Rattle.std.specs.Ordering.{nat_cmp}
 use Rattle.std.specs.FinMap.{empty, get, get-empty, insert, len}
 use Rattle.hex.specs.Hex.{decode_pairs, encode_with}
 use Rattle.cf_base.specs.Classes.{sizes_from}
-use Rattle.cf_base.specs.Settings.{Profile}
-use Rattle.cf_base.specs.declared.answers.Refusal.{Refusal}
+use Rattle.run_model.specs.Terms.{asks, Command, family_of, Free, HeapState, IsPaging, IsSound, Item, items, Kind, Malloc, Moving, Objects, paged, Paging, paging_in, Peek, Place, Placed, Profile, Refusal, Reply, said, slot_words, slots_of, starts, Steps, Tlsf, Walk, with_number}
 use Rattle.cf_base.specs.declared.answers.Refusal.TheVariants as refusal
-use Rattle.cf_base.specs.declared.kind.Kind.{Kind}
-use Rattle.cf_base.specs.declared.kind.Kind.TheVariants.{Moving, Tlsf}
 use Rattle.cf_io.specs.Numbers.{is_digit, number_in}
 use Rattle.cf_io.proofs.CallerLemmas.{number_of_decimal, spells}
 use Rattle.cf_lemmas.proofs.Maps.{get_inserted, get_insert_other}
-use Rattle.page_model.specs.Arrangement.{IsSlotAt, IsSound, live, pages_needed, pages_needed_with}
+use Rattle.page_model.specs.Arrangement.{IsSlotAt, live, pages_needed, pages_needed_with}
 use Rattle.page_model.specs.Figures.{asked_bytes, taken_bytes}
-use Rattle.page_model.specs.Held.{Objects, Placed}
 use Rattle.page_model.specs.Counts.{ceil_div}
-use Rattle.page_model.specs.Paging.{IsPaging, Paging, class_for, slot_words, slots_of}
+use Rattle.page_model.specs.Paging.{class_for}
 use Rattle.page_model.specs.Steps.{zeros_at}
-use Rattle.cf_model.specs.Families.{paged, family_of}
-use Rattle.cf_model.specs.State.{HeapState, paging_in}
-use Rattle.script_reader.specs.Items.{Item, asks, items, starts}
-use Rattle.script_reader.specs.declared.command.Command.{Command}
-use Rattle.script_reader.specs.declared.command.Command.TheVariants.{Free, Malloc, Peek, Place, Steps, Walk}
 use Rattle.run_model.specs.Plays.{PlayRun, PlayStep}
 use Rattle.run_model.specs.Replies.{malloc_text, peek_text, place_text}
 use Rattle.run_model.specs.Reports.{class_line, total_line}
-use Rattle.run_model.specs.Texts.{Reply, said, with_number}
 use Rattle.script_laws.specs.AtOne.{classes_in_use, figures_at_one, part_pages, totals_at_one}
 use Rattle.script_laws.specs.ById.{ById, begun, paging_by_id}
 use Rattle.script_laws.specs.RepliesById.{after_by_id, reply_by_id}

@@ -2,16 +2,13 @@
 -- so they are computed from the objects without their addresses. `p` is the pages and classes, `objects` the bytes of each object.
 use Rattle.std.specs.Prelude.{ℕ, ◌-◌, ◌*◌, ◌%◌, List, ◌++◌, filter, map, if◌then◌else◌, nat_eq, not}
 use Rattle.std.specs.List.{range_with_len}
-use Rattle.std.specs.FinMap.{len}
+use Rattle.run_model.specs.Terms.{classes, len, Objects, Paging, Reply, said, slot_words, slots_of}
 use Rattle.cf_base.specs.declared.answers.Figures.{Figures}
 use Rattle.cf_base.specs.declared.answers.Totals.{Totals}
 use Rattle.page_model.specs.Arrangement.{live, pages_needed}
 use Rattle.page_model.specs.Counts.{ceil_div}
 use Rattle.page_model.specs.Figures.{asked_bytes, taken_bytes}
-use Rattle.page_model.specs.Held.{Objects}
-use Rattle.page_model.specs.Paging.{Paging, classes, slot_words, slots_of}
 use Rattle.run_model.specs.Reports.{class_line, total_line}
-use Rattle.run_model.specs.Texts.{Reply, said}
 
 -- how many pages are partly full if `n` objects use the fewest pages, `m` to a page: none if `m` divides `n`, else one
 abbrev pub part_pages : ℕ → ℕ → ℕ

@@ -1,10 +1,7 @@
 -- The state from which the transcript is computed: objects by the ids of the script, without addresses.
 use Rattle.std.specs.Prelude.{ℕ, List}
-use Rattle.std.specs.FinMap.{empty}
-use Rattle.cf_base.specs.Settings.{Profile}
-use Rattle.cf_base.specs.declared.kind.Kind.{Kind}
-use Rattle.page_model.specs.Held.{Objects}
-use Rattle.page_model.specs.Paging.{Paging, paging_of}
+use Rattle.run_model.specs.Terms.{empty, Kind, Objects, Paging, Profile}
+use Rattle.page_model.specs.Paging.{paging_of}
 use Rattle.cf_model.specs.State.{layout_of}
 use Rattle.cf_model.specs.Steps.{opening_bounds}
 

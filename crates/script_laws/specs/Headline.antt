@@ -6,31 +6,15 @@
 -- class; which object moves; how many steps a call takes within its bound; which unused number an object gets (only its header shows the number); and with blocks
 -- word 1 of a free block.
 use Rattle.std.specs.Prelude.{◌≡◌, ◌≢◌, ℕ, ◌⊎◌, ◌+◌, ◌*◌, ◌≤◌, ◌<◌, List, ◌++◌, Option, Some, None, Err, codes, if◌then◌else◌, length, max, nat_le, nat_lt}
-use Rattle.std.specs.FinMap.{get, insert, len, remove}
-use Rattle.cf_base.specs.Classes.{need}
-use Rattle.cf_base.specs.Settings.{Profile}
-use Rattle.cf_base.specs.declared.answers.Refusal.{Refusal}
-use Rattle.cf_base.specs.declared.answers.ResizeFault.{ResizeFault}
-use Rattle.cf_base.specs.declared.kind.Kind.{Kind}
-use Rattle.page_model.specs.Arrangement.{class_at}
-use Rattle.page_model.specs.Bytes.{written}
-use Rattle.page_model.specs.Held.{Placed}
+use Rattle.run_model.specs.Terms.{Block, Bound, class_at, Command, CostsAtMost, CostsByKind, family_of, Frag, Free, get, insert, IsPaged, Item, Kind, len, Malloc, need, paged, paging_in, Peek, Place, Placed, Profile, Read, Refusal, region_words, remove, Reply, Resize, ResizeFault, said, Steps, tiled, Walk, with_bound, with_number, Write, written}
 use Rattle.page_model.specs.Image.{slot_for}
 use Rattle.page_model.specs.Paging.{class_for}
 use Rattle.page_model.specs.Steps.{IsFreePlace, CallResult, Moves, resized_at, without, zeros_at}
-use Rattle.cf_model.specs.Families.{IsPaged, paged, tiled, family_of}
-use Rattle.cf_model.specs.Answers.{with_bound}
-use Rattle.cf_model.specs.State.{paging_in, region_words}
 use Rattle.cf_model.specs.Steps.{IsPlacedBy, IsRefusedBy, IsResizeFault, IsLeftByRefusal, MovesIn, frames_left, slot_in, tiling_left}
-use Rattle.script_reader.specs.Items.{Item}
-use Rattle.script_reader.specs.declared.command.Command.{Command}
-use Rattle.script_reader.specs.declared.command.Command.TheVariants.{Malloc, Free, Write, Read, Place, Block, Peek, Walk, Frag, Steps, Bound, Resize}
 use Rattle.run_model.specs.Plays.{PlayRun}
 use Rattle.run_model.specs.Replies.{block_text_at, malloc_text, peek_text, place_text, read_text, resize_text}
 use Rattle.run_model.specs.Reports.{frag_of, walk_of}
-use Rattle.run_model.specs.Sessions.{CostsAtMost, CostsByKind}
 use Rattle.run_model.specs.Steps.{Stays, bound_text, class_to_bound}
-use Rattle.run_model.specs.Texts.{Reply, said, with_number}
 use Rattle.script_laws.specs.ShownHeap.{IsArranged, ShownHeap, heap_opened, move_counted}
 use Rattle.script_laws.specs.ShownWords.{ShowsWord}
 

@@ -1,10 +1,8 @@
 -- For `equal_objects_get_equal_replies`: two states of runs with the same objects by id, and the further items that get the same replies from
 -- both.
 use Rattle.std.specs.Prelude.{◌≡◌, ⊤, ℕ, List, [], ◌∷◌}
-use Rattle.script_reader.specs.Items.{Item, asks, starts}
-use Rattle.script_reader.specs.declared.command.Command.TheVariants.{Bound}
+use Rattle.run_model.specs.Terms.{asks, Bound, Item, RunState, starts}
 use Rattle.run_model.specs.ById.{bytes_of}
-use Rattle.run_model.specs.Sessions.{RunState}
 use Rattle.script_laws.specs.Transcripts.{AsksForNoAddress}
 
 -- two states of runs have the same kind and settings, and each id names the same bytes in both

@@ -1,15 +1,9 @@
 -- The bytes of each id, computed from the lines of a script and their replies alone; and the claim that every read prints them.
 use Rattle.std.specs.Prelude.{◌≡◌, ℕ, ⊤, Bool, false, ◌+◌, List, [], ◌∷◌, ◌++◌, Option, Some, None, codes, drop, if◌then◌else◌, length, nat_le, replicate, take}
-use Rattle.std.specs.FinMap.{empty, get, insert, remove}
+use Rattle.run_model.specs.Terms.{asks, bad, Command, empty, Free, get, insert, Item, Malloc, Objects, Read, remove, Reply, Resize, said, starts, Write, written}
 use Rattle.std.specs.Str.{bytes_eq}
 use Rattle.hex.specs.Hex.{encode_lower}
-use Rattle.page_model.specs.Bytes.{written}
 use Rattle.page_model.specs.Steps.{resized}
-use Rattle.page_model.specs.Held.{Objects}
-use Rattle.script_reader.specs.Items.{Item, asks, bad, starts}
-use Rattle.script_reader.specs.declared.command.Command.{Command}
-use Rattle.script_reader.specs.declared.command.Command.TheVariants.{Malloc, Free, Write, Read, Resize}
-use Rattle.run_model.specs.Texts.{Reply, said}
 
 -- whether the first line of the reply is `ok`
 abbrev pub is_ok : Reply → Bool

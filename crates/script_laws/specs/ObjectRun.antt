@@ -1,19 +1,11 @@
 -- A session over any heap of objects: its state, and for each command the reply and the state after it, by what the calls of the heap do (`Calls`).
 use Rattle.std.specs.Prelude.{◌≡◌, ℕ, List, Option, Some, None, Result, codes}
 use Rattle.std.specs.Option.{MatchOption}
-use Rattle.std.specs.FinMap.{get, remove}
-use Rattle.cf_base.specs.declared.answers.AccessFault.{AccessFault}
-use Rattle.cf_base.specs.declared.answers.Handle.{Handle}
-use Rattle.cf_model.specs.Steps.{Position}
-use Rattle.id_table.specs.Ids.{Ids}
+use Rattle.run_model.specs.Terms.{AccessFault, Command, Free, get, Handle, Ids, Malloc, Objects, Position, Read, remove, Reply, Resize, said, Write}
 use Rattle.id_table.specs.Ties.{AreTiedTo}
-use Rattle.page_model.specs.Held.{Objects}
 use Rattle.run_model.specs.Replies.{write_text}
 use Rattle.run_model.specs.Steps.{Stays, ids_given}
-use Rattle.run_model.specs.Texts.{Reply, said}
 use Rattle.script_laws.specs.IdBytes.{read_shown}
-use Rattle.script_reader.specs.declared.command.Command.{Command}
-use Rattle.script_reader.specs.declared.command.Command.TheVariants.{Malloc, Free, Write, Read, Resize}
 
 -- the live ids with the handles that they name, and the heap, of whatever type S
 pub record ObjectRun (S : Type 0) : Type 0 where

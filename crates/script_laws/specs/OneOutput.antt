@@ -1,7 +1,6 @@
 -- The conditions of `one_output`: a list of items that a script can have, and a manager that promises an order.
 use Rattle.std.specs.Prelude.{⊤, List, [], ◌∷◌, Option, Some, None, IsSome}
-use Rattle.script_reader.specs.Items.{Item, asks, bad, starts}
-use Rattle.run_model.specs.Sessions.{RunState}
+use Rattle.run_model.specs.Terms.{asks, bad, Item, RunState, starts}
 
 -- the item isn't a `heap` line
 abbrev pub BeginsNone : Item → Type 0

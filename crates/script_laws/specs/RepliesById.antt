@@ -1,25 +1,16 @@
 -- The reply to each command and the state after it, if every bound is 1, computed from `t`, the state before it. `v` is the bytes of an object.
 use Rattle.std.specs.Prelude.{ℕ, ◌+◌, Bool, ◌&&◌, List, Option, Some, None, Err, codes, if◌then◌else◌, length, nat_eq, nat_le, nat_lt, not}
 use Rattle.std.specs.Prelude.{position, replicate, slice_set}
-use Rattle.std.specs.FinMap.{get, insert, len, remove}
-use Rattle.cf_base.specs.Classes.{need}
-use Rattle.cf_base.specs.declared.answers.AccessFault.{AccessFault}
+use Rattle.run_model.specs.Terms.{AccessFault, Bound, Command, Frag, Free, get, insert, len, Malloc, need, Objects, Read, Refusal, remove, Reply, Request, Resize, ResizeFault, said, Walk, Write, written}
 use Rattle.cf_base.specs.declared.answers.AccessFault.TheVariants as access
-use Rattle.cf_base.specs.declared.answers.Refusal.{Refusal}
 use Rattle.cf_base.specs.declared.answers.Refusal.TheVariants as refusal
-use Rattle.cf_base.specs.declared.answers.ResizeFault.{ResizeFault}
 use Rattle.cf_base.specs.declared.answers.ResizeFault.TheVariants as resize
 use Rattle.page_model.specs.Arrangement.{pages_needed_with}
-use Rattle.page_model.specs.Bytes.{written}
-use Rattle.page_model.specs.Held.{Objects}
 use Rattle.page_model.specs.Paging.{class_for}
-use Rattle.page_model.specs.Steps.{Request, resized}
-use Rattle.script_reader.specs.declared.command.Command.{Command}
-use Rattle.script_reader.specs.declared.command.Command.TheVariants.{Malloc, Free, Write, Read, Walk, Frag, Bound, Resize}
+use Rattle.page_model.specs.Steps.{resized}
 use Rattle.run_model.specs.Replies.{malloc_text, resize_text, write_text}
 use Rattle.run_model.specs.Reports.{frag_line}
 use Rattle.run_model.specs.Steps.{bound_text}
-use Rattle.run_model.specs.Texts.{Reply, said}
 use Rattle.script_laws.specs.AtOne.{totals_at_one, walk_at_one}
 use Rattle.script_laws.specs.IdBytes.{read_shown}
 use Rattle.script_laws.specs.ById.{ById, paging_by_id}

@@ -1,15 +1,8 @@
 -- The heap as the headline sees it: what the lines of a script and their replies show.
 use Rattle.std.specs.Prelude.{ℕ, [], Option, Some, None}
-use Rattle.std.specs.FinMap.{empty}
-use Rattle.cf_base.specs.Settings.{Profile}
-use Rattle.cf_base.specs.declared.kind.Kind.{Kind}
-use Rattle.page_model.specs.Arrangement.{IsSound}
-use Rattle.page_model.specs.Paging.{IsPaging}
+use Rattle.run_model.specs.Terms.{empty, family_of, HeapState, Ids, IsPaging, IsSound, Kind, more_by, paged, paging_in, Profile, region_words, tiled}
 use Rattle.block_model.specs.Tiling.{IsTiling}
-use Rattle.cf_model.specs.Families.{paged, tiled, family_of}
-use Rattle.cf_model.specs.State.{HeapState, paging_in, region_words}
 use Rattle.cf_model.specs.Steps.{empty_heap}
-use Rattle.run_model.specs.Sessions.{Ids, more_by}
 
 -- `heap` is the state of a manager, with objects under the ids of the script instead of handles. Its words are always the empty list, since the objects and
 -- blocks determine them (`ShowsWord`), and its order is none: the headline claims nothing of it. `numbers` has the manager's own number of each id's object,

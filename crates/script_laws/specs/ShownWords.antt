@@ -1,12 +1,9 @@
 -- The value that each word of the region must have, by the objects, their numbers and the blocks of a heap `s`. Command `p` prints it.
 use Rattle.std.specs.Prelude.{◌≡◌, ℕ, ◌+◌, ◌≤◌, ◌<◌, Some, None, length}
-use Rattle.std.specs.FinMap.{get}
-use Rattle.page_model.specs.Held.{Placed}
+use Rattle.run_model.specs.Terms.{family_of, get, paged, paging_in, Placed, tiled}
 use Rattle.page_model.specs.Image.{IsOutsideOf, object_word, slot_for}
 use Rattle.block_model.specs.Tiling.{Block, block_at}
 use Rattle.block_model.specs.Words.{block_header}
-use Rattle.cf_model.specs.Families.{paged, tiled, family_of}
-use Rattle.cf_model.specs.State.{paging_in}
 use Rattle.script_laws.specs.ShownHeap.{ShownHeap}
 
 -- `value` is word `i` of the object `x` of an id, from its first word on: its header, with its number and its length, then its bytes, eight to a word, and 0

@@ -1,12 +1,7 @@
 -- The transcript: the replies to the items of a script, as a function of the kind and the items; and the conditions under which runs print it. `None` is the
 -- state before the `heap` line.
 use Rattle.std.specs.Prelude.{◌≡◌, ⊤, List, [], ◌∷◌, Option, Some, None, codes}
-use Rattle.cf_base.specs.declared.kind.Kind.{Kind}
-use Rattle.page_model.specs.Paging.{EveryBoundIsOne}
-use Rattle.script_reader.specs.Items.{Item, asks, bad, starts}
-use Rattle.script_reader.specs.declared.command.Command.{Command}
-use Rattle.script_reader.specs.declared.command.Command.TheVariants.{Place, Block, Peek, Steps, Bound}
-use Rattle.run_model.specs.Texts.{Reply, bad_line, said}
+use Rattle.run_model.specs.Terms.{asks, bad, bad_line, Block, Bound, Command, EveryBoundIsOne, Item, Kind, Peek, Place, Reply, said, starts, Steps}
 use Rattle.script_laws.specs.ById.{ById, begun, paging_by_id}
 use Rattle.script_laws.specs.RepliesById.{after_by_id, reply_by_id}
 

@@ -1,13 +1,6 @@
 -- Valid items: all that the grammar of scripts (`items`) returns are valid. And `IsRunOf`: a run that is in progress, or hasn't begun.
 use Rattle.std.specs.Prelude.{◌≡◌, ⊤, List, [], ◌∷◌, Option, Some, None}
-use Rattle.page_model.specs.Bytes.{AreBytes}
-use Rattle.cf_base.specs.declared.kind.Kind.{Kind}
-use Rattle.cf_model.specs.Rules.{AreInRange}
-use Rattle.script_reader.specs.Commands.{IsWellFormed}
-use Rattle.script_reader.specs.Items.{Item, asks, bad, starts}
-use Rattle.script_reader.specs.declared.command.Command.{Command}
-use Rattle.script_reader.specs.declared.command.Command.TheVariants.{Write}
-use Rattle.run_model.specs.Sessions.{IsGoing, RunState}
+use Rattle.run_model.specs.Terms.{AreBytes, AreInRange, asks, bad, Command, IsGoing, IsWellFormed, Item, Kind, RunState, starts, Write}
 
 -- if the command is a write, each of its numbers is a byte: below 256
 abbrev pub HasBytes : Command → Type 0

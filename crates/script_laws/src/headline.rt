@@ -1,14 +1,7 @@
 //! Theorems on the headline, on the transcript, and on runs of managers that promise an order.
 ghost use Rattle.std.specs.Prelude.{◌≡◌, Bool, codes, IsSome, ℕ, List, [], ◌∷◌, None, Option, Some, true};
-ghost use Rattle.cf_base.specs.declared.kind.Kind.{Kind};
-ghost use Rattle.cf_base.specs.declared.kind.Kind.TheVariants.{Moving, Tlsf};
-ghost use Rattle.cf_model.specs.Rules.{IsPaged};
-ghost use Rattle.cf_model.specs.State.{paging_in};
-ghost use Rattle.page_model.specs.Paging.{EveryBoundIsOne};
-ghost use Rattle.script_reader.specs.Items.{Item, items};
+ghost use Rattle.run_model.specs.Terms.{EveryBoundIsOne, IsGoing, IsPaged, Item, items, Kind, Moving, paging_in, Reply, RunState, said, text_of, Tlsf};
 ghost use Rattle.run_model.specs.Runs.{Run};
-ghost use Rattle.run_model.specs.Sessions.{IsGoing, RunState};
-ghost use Rattle.run_model.specs.Texts.{Reply, said, text_of};
 ghost use Rattle.script_laws.specs.Histories.{AreAlike, AreFurther};
 ghost use Rattle.script_laws.specs.Transcripts.{ArePlaceless, StaysAtOne, transcript};
 ghost use Rattle.script_laws.specs.Headline.{MeetsHeadline};

@@ -1,10 +1,7 @@
 //! Theorems on every run over a script: its reads print what was written, and it can be continued to the end.
 ghost use Rattle.std.specs.Prelude.{ℕ, ◌≡◌, Bool, List, ◌++◌, Option, None, ◌+◌};
-ghost use Rattle.cf_base.specs.declared.kind.Kind.{Kind};
-ghost use Rattle.script_reader.specs.Items.{Item, items};
+ghost use Rattle.run_model.specs.Terms.{Item, items, Kind, Reply, RunState};
 ghost use Rattle.run_model.specs.Runs.{Run};
-ghost use Rattle.run_model.specs.Sessions.{RunState};
-ghost use Rattle.run_model.specs.Texts.{Reply};
 ghost use Rattle.script_laws.specs.IdBytes.{AreReadsOf};
 
 /// Over a run of any kind, each read of an id prints the bytes last written through it. A byte that

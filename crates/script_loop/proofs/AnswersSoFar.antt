@@ -1,27 +1,21 @@
 -- For `answer_pending_items` and `answer_chunk`, the inner loops of the script loop: the items answered so far, all whole (`Answered`) or the last with a
 -- cut reply (`CutOff`), continued by one more item or by more bytes.
-use Rattle.std.proofs.Common.{◌≡◌, ◌++◌, ◌∙◌, ◌+◌, Bool, true, false, List, [], ◌∷◌, ℕ, Option, Some, None, refl, ap, ap₂, sym, subst}
-use Rattle.std.proofs.Common.{append_assoc, append-nil, take, drop, take-append-drop}
+use Rattle.std.proofs.Common.{◌≡◌, ◌++◌, ◌∙◌, ◌+◌, Bool, true, false, List, [], ◌∷◌, ℕ, Option, Some, None, refl, ap, ap₂, sym, subst, append_assoc, append-nil, take, drop, take-append-drop, true≢false}
 use Rattle.std.proofs.Math.Seq.{take-add}
-use Rattle.std.proofs.lemmas.Bool.{true≢false}
-use Rattle.cf_base.specs.Settings.{profile_of}
+use Rattle.run_model.specs.Terms.{appended, asks, bad, bad_line, Command, Item, led, profile_of, Reply, said, starts, Status, text_of}
 use Rattle.cf_base.specs.declared.settings.Settings.{Settings}
-use Rattle.cf_io.specs.Feeds.{appended}
 use Rattle.script_reader.proofs.CallerLemmas.{bad_now, fed_left}
-use Rattle.script_reader.specs.Items.{Item, asks, bad, is_bound, stage_after_command, starts}
+use Rattle.script_reader.specs.Items.{is_bound, stage_after_command}
 use Rattle.script_reader.specs.Reading.{Answers, PassesOver, Reading, fed_with, items_left}
-use Rattle.script_reader.specs.declared.command.Command.{Command}
 use Rattle.script_reader.specs.declared.next.Next.TheVariants as next
 use Rattle.script_reader.specs.declared.stage.Stage.{Stage}
 use Rattle.script_reader.specs.declared.stage.Stage.TheVariants.{Opening, Bounding}
 use Rattle.run_model.proofs.CallerLemmas.{one_run, run_joined, text_joined}
 use Rattle.run_model.specs.Plays.{PlayRun, PlayPart}
-use Rattle.run_model.specs.Texts.{Reply, bad_line, led, said, text_of}
 use Rattle.script_loop.specs.AnswersSoFar.{Answered, CutOff, IsWaiting, PrintsBadLine, StopsAt}
 use Rattle.script_loop.specs.Progress.{IsReadyAt, Playing, Progress, progress, run_in, run_of}
 use Rattle.script_loop.specs.ScriptOutcome.{has_bad}
 use Rattle.script_loop.specs.Semantics.{IsOpened, IsOpenedInPart, PartBy, RunBy, Semantics, StepBy}
-use Rattle.cf_base.specs.declared.status.Status.{Status}
 use Rattle.cf_base.specs.declared.status.Status.TheVariants.{Done, Words, BadScript, ReadFault, WriteFault, OutOfMemory, TooLong, BadImage}
 use Rattle.cf_io.proofs.CallerLemmas.{appended_after, appended_none}
 use Rattle.script_loop.proofs.Stages.{going_after, never_opening, run_before, run_after}
@@ -275,11 +269,7 @@ module _ {S P : Type 0} (m : Semantics S P) where
     wrote = appended_after _ _ _ _ _ wrote names.3;
   }
   named old r r' s w w' line text Done a wrote h names = absurd names
-  named old r r' s w w' line text Words a wrote h names = absurd names
-  named old r r' s w w' line text ReadFault a wrote h names = absurd names
-  named old r r' s w w' line text OutOfMemory a wrote h names = absurd names
-  named old r r' s w w' line text TooLong a wrote h names = absurd names
-  named old r r' s w w' line text BadImage a wrote h names = absurd names
+  named old r r' s w w' line text _ a wrote h names = absurd names
 
   -- ---- bytes that are fed
 
@@ -364,7 +354,4 @@ module _ {S P : Type 0} (m : Semantics S P) where
     wrote = went.wrote ∙ wrote ∙ ap (appended old.written) (a.silent refl went.stage) ∙ sym (appended_none old.written);
   }
   stops_over old chunk i r s w t Done new a wrote went = absurd went
-  stops_over old chunk i r s w t Words new a wrote went = absurd went
-  stops_over old chunk i r s w t ReadFault new a wrote went = absurd went
-  stops_over old chunk i r s w t TooLong new a wrote went = absurd went
-  stops_over old chunk i r s w t BadImage new a wrote went = absurd went
+  stops_over old chunk i r s w t _ new a wrote went = absurd went

@@ -1,19 +1,13 @@
 -- For `play_script`, the loop over a script: from the items answered in its turns, one chunk each, and at the end of the input to its outcome
 -- (`MeetsOutcome`), for each status.
-use Rattle.std.proofs.Common.{◌≡◌, ◌≤◌, ◌<◌, ◌+◌, ◌-◌, ◌++◌, ◌∙◌, Bool, true, false, List, [], ◌∷◌, ℕ, Option, Some, None, refl, ap, ap₂, sym, subst, length}
-use Rattle.std.proofs.Common.{take, append_assoc, append-nil, length-append, arith}
+use Rattle.std.proofs.Common.{◌≡◌, ◌≤◌, ◌<◌, ◌+◌, ◌-◌, ◌++◌, ◌∙◌, Bool, true, false, List, [], ◌∷◌, ℕ, Option, Some, None, refl, ap, ap₂, sym, subst, length, take, append_assoc, append-nil, length-append, arith, le-leb, take_all, take_at, nat_le}
 use Rattle.std.proofs.Math.Seq.{take-append-add}
-use Rattle.std.proofs.lemmas.Bool.{le-leb}
-use Rattle.std.proofs.lemmas.List.{take_all, take_at}
-use Rattle.std.specs.Prelude.{nat_le}
-use Rattle.cf_io.specs.Feeds.{appended}
+use Rattle.run_model.specs.Terms.{appended, Item, items, text_of}
 use Rattle.cf_lemmas.proofs.Tests.{le_no}
-use Rattle.script_reader.specs.Items.{Item, items}
 use Rattle.script_reader.specs.Reading.{Reading, fresh, items_left}
 use Rattle.script_reader.proofs.CallerLemmas.{finished_left}
 use Rattle.run_model.proofs.CallerLemmas.{run_joined, text_joined}
 use Rattle.run_model.specs.Plays.{PlayPart, PlayRun}
-use Rattle.run_model.specs.Texts.{text_of}
 use Rattle.script_loop.specs.AnswersSoFar.{Answered, CutOff, IsWaiting, LackedMemory}
 use Rattle.script_loop.specs.Progress.{Playing, progress, run_of}
 use Rattle.script_loop.specs.ScriptOutcome.{Effects, RanOutOfMemory, MOST_BYTES, MOST_CHUNK, TakesAtMostAChunk, Wrote, WroteInPart, has_bad, items_within}

@@ -3,9 +3,7 @@ pub mod AnswersSoFar
 pub mod Stages
 pub mod Consequences
 pub mod OneManager
-pub mod Prefix
 pub mod Settling
 pub mod CallerLemmas
 pub mod LoopTurn
-pub mod Rows
 pub mod Reporting

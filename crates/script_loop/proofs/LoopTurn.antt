@@ -1,12 +1,9 @@
 -- For `play_script` and `Script::turn`, one turn of its loop: what a turn takes (a chunk) and answers, what all turns so far did, and the loop's contract
 -- (`Plays`) once a turn ends the script.
-use Rattle.std.proofs.Common.{◌≡◌, ◌≤◌, ◌<◌, ◌+◌, ◌⊎◌, ◌++◌, ◌∙◌, false, true, List, [], ℕ, Option, Result, Ok, Err, refl, ap, sym, subst, length, inl, inr, arith}
-use Rattle.std.proofs.Common.{take, drop, append_assoc, append-nil, length-append, length-drop, take-append-drop, min}
-use Rattle.std.proofs.lemmas.List.{length-take-le, take-take}
-use Rattle.cf_base.specs.declared.status.Status.{Status}
+use Rattle.std.proofs.Common.{◌≡◌, ◌≤◌, ◌<◌, ◌+◌, ◌⊎◌, ◌++◌, ◌∙◌, false, true, List, [], ℕ, Option, Result, Ok, Err, refl, ap, sym, subst, length, inl, inr, arith, take, drop, append_assoc, append-nil, length-append, length-drop, take-append-drop, min, length-take-le, take-take}
+use Rattle.run_model.specs.Terms.{appended, items, SinkFailsIf, SinkState, SourceFailsIf, SourceState, Status}
 use Rattle.cf_base.specs.declared.status.Status.TheVariants.{Done, Words, BadScript, ReadFault, WriteFault, OutOfMemory, TooLong, BadImage}
-use Rattle.cf_io.specs.Feeds.{HasGiven, IsSpent, SinkFailsIf, SinkState, SourceFailsIf, SourceState, appended, last_count, preceded}
-use Rattle.script_reader.specs.Items.{items}
+use Rattle.cf_io.specs.Feeds.{HasGiven, IsSpent, last_count, preceded}
 use Rattle.script_reader.specs.Reading.{Reading, fresh}
 use Rattle.script_loop.specs.AnswersSoFar.{Answered, AnswersItems, HasStopped, LackedMemory, StopsAt, WasCut, WentOn}
 use Rattle.script_loop.specs.Progress.{Progress, playing, progress}
@@ -83,25 +80,14 @@ status_by (Err status) = status
 -- a turn took a chunk, and its items ended the script
 pub stops_by : {S P : Type 0} (m : Semantics S P) (old new : BetweenTurns S) (c : Chunk old new) (st : Status)
     → StopsAt m old.progress c.within st new.progress → StopsBy m st old new
-stops_by m old new c Done went = (c, went)
-stops_by m old new c Words went = (c, went)
-stops_by m old new c BadScript went = (c, went)
-stops_by m old new c WriteFault went = (c, went)
-stops_by m old new c OutOfMemory went = (c, went)
-stops_by m old new c BadImage went = (c, went)
 stops_by m old new c ReadFault went = absurd went
 stops_by m old new c TooLong went = absurd went
+stops_by m old new c _ went = (c, went)
 
 -- items never end the script by a fault of the source
 pub never_read : {S P : Type 0} (m : Semantics S P) (old new : Progress S) (chunk : List ℕ) (st : Status) → StopsAt m old chunk st new → is_read_fault st ≡ false
 never_read m old new chunk ReadFault went = absurd went
-never_read m old new chunk Done went = refl
-never_read m old new chunk Words went = refl
-never_read m old new chunk BadScript went = refl
-never_read m old new chunk WriteFault went = refl
-never_read m old new chunk OutOfMemory went = refl
-never_read m old new chunk TooLong went = refl
-never_read m old new chunk BadImage went = refl
+never_read m old new chunk _ went = refl
 
 -- ---- from the start of a script
 
@@ -377,10 +363,7 @@ module _ {S P : Type 0} (m : Semantics S P) {from : S} {had before : Option (Lis
       too_long = λ is. absurd (let e : OutOfMemory ≡ TooLong = is in cc);
     }
     has_ended (Err Done) went = absurd went
-    has_ended (Err Words) went = absurd went
-    has_ended (Err ReadFault) went = absurd went
-    has_ended (Err TooLong) went = absurd went
-    has_ended (Err BadImage) went = absurd went
+    has_ended _ went = absurd went
 
 -- a turn ended the script with the status `st`
 pub has_stopped : {S P : Type 0} (m : Semantics S P) {from : S} {had before : Option (List ℕ)} {given : ℕ} {b : BetweenTurns S}
@@ -392,9 +375,7 @@ has_stopped m f b' BadScript (c, went) = stopped m f c went
 has_stopped m f b' WriteFault (c, went) = was_cut m f c went
 has_stopped m f b' OutOfMemory (c, went) = was_wanting m f c went
 has_stopped m f b' TooLong passes = passed m f passes.chunk passes.some passes.full passes.went
-has_stopped m f b' Done (c, never) = absurd never
-has_stopped m f b' Words (c, never) = absurd never
-has_stopped m f b' BadImage (c, never) = absurd never
+has_stopped m f b' _ (c, never) = absurd never
 
 -- the source ended, and the items that its end completes were answered
 pub at_end : {S P : Type 0} (m : Semantics S P) {from : S} {had before : Option (List ℕ)} {given : ℕ} {b : BetweenTurns S}

@@ -1,19 +1,14 @@
 -- For the mode handler of mode `run` (`Session`): the `heap` line begins a run, and no command changes its plan: the manager's kind, and whether it promises
 -- an order.
 use Rattle.std.proofs.Common.{◌≡◌}
-use Rattle.cf_base.specs.Settings.{profile_of}
+use Rattle.run_model.specs.Terms.{Command, fresh_session, HeapState, IsGoing, KeepsRules, profile_of, Reply, RunState, SessionState}
 use Rattle.cf_base.specs.declared.settings.Settings.{Settings}
-use Rattle.cf_model.specs.Rules.{KeepsRules}
-use Rattle.cf_model.specs.State.{HeapState}
 use Rattle.cf_model.specs.Steps.{IsEmptyHeap}
 use Rattle.cf_session.specs.Apply.{run_at}
 use Rattle.script_laws.proofs.CallerLemmas.{step_keeps}
 use Rattle.run_model.proofs.CallerLemmas.{begins_going, step_same}
-use Rattle.run_model.specs.Sessions.{IsGoing, RunState, SessionState, fresh_session}
 use Rattle.run_model.specs.Steps.{Step}
-use Rattle.run_model.specs.Texts.{Reply}
 use Rattle.script_loop.specs.OneManager.{one_manager}
-use Rattle.script_reader.specs.declared.command.Command.{Command}
 
 pub opens_going : (settings : Settings) (session : SessionState) (old new : HeapState) → session ≡ fresh_session → IsEmptyHeap old.kind settings new
     → KeepsRules new → IsGoing (run_at session new)

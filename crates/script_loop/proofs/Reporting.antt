@@ -1,13 +1,10 @@
 -- For the session of any mode: if a command took effect and its reply was written whole or in part, the session's contract (`Applies`) holds.
 use Rattle.std.proofs.Common.{◌≡◌, ℕ, ◌++◌, List, [], ◌∷◌, Result, Ok, Err, refl, sym, subst}
-use Rattle.cf_base.specs.declared.answers.Failed.{Failed}
-use Rattle.cf_io.specs.Feeds.{SinkState, Writes}
-use Rattle.cf_io.specs.Texts.{Reply, led, said}
+use Rattle.run_model.specs.Terms.{Command, Failed, led, Reply, said, SinkState, Writes}
 use Rattle.cf_io.proofs.CallerLemmas.{puts_line}
 use Rattle.cf_session.specs.Apply.{IsEnded, outcome_in, outcome_of}
 use Rattle.cf_session.specs.declared.outcome.Outcome.{Outcome}
 use Rattle.script_loop.specs.Semantics.{Semantics, snapshot}
-use Rattle.script_reader.specs.declared.command.Command.{Command}
 use Rattle.script_loop.specs.Applying.{Applies, BuildsReply, TurnsInPart}
 
 -- for a semantics in which each turn with a cut reply is a turn in part

@@ -1,22 +1,15 @@
 -- For the law `settings_are_kept`, on the mode handler `WithSettings` around another one: a run by it is a run by the inner handler, and the settings that
 -- it keeps are those of the manager.
-use Rattle.std.proofs.Common.{◌∙◌, ℕ, List, [], ◌∷◌, Option, Some, None, Result, Ok, Err, refl, sym, ap, subst}
-use Rattle.std.specs.Prelude.{option_map}
-use Rattle.cf_base.specs.Settings.{profile_of}
+use Rattle.std.proofs.Common.{◌∙◌, ℕ, List, [], ◌∷◌, Option, Some, None, Result, Ok, Err, refl, sym, ap, subst, option_map}
+use Rattle.run_model.specs.Terms.{asks, bad, Command, Failed, HeapState, Item, profile_of, Reply, RunState, starts}
 use Rattle.cf_base.specs.declared.settings.Settings.{Settings}
-use Rattle.cf_model.specs.State.{HeapState}
 use Rattle.run_model.proofs.CallerLemmas.{begins_going, step_going, step_same}
-use Rattle.run_model.specs.Sessions.{RunState}
-use Rattle.run_model.specs.Texts.{Reply}
 use Rattle.script_loop.specs.OneManager.{one_manager}
 use Rattle.script_loop.specs.ScriptOutcome.{Effects, EndsAt, Wrote}
 use Rattle.script_loop.specs.Semantics.{AnswersBy, OpensBy, RunBy, Semantics, StepBy, snapshot}
 use Rattle.script_loop.specs.WithSettings.{GoesWith, Settled, settled, with_settings}
 use Rattle.script_loop.specs.declared.mode_handler.OpenFault.{OpenFault}
 use Rattle.script_loop.specs.declared.mode_handler.OpenFault.TheVariants as fault
-use Rattle.cf_base.specs.declared.answers.Failed.{Failed}
-use Rattle.script_reader.specs.declared.command.Command.{Command}
-use Rattle.script_reader.specs.Items.{Item, asks, bad, starts}
 
 -- what an inner handler did with one item, it does in `WithSettings` too, where the `heap` line sets the settings
 module _ {S P T : Type 0} (m : Semantics S P) (old new : S) (before : Option Settings) (w w' : Option (List ℕ)) where

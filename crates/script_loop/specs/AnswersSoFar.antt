@@ -1,14 +1,12 @@
 -- The contracts of the inner loops of the script loop: bytes were fed to the reader, and the items that they complete were answered; four ways in which that
 -- may end (`AnswersItems`). `m` is the semantics of the mode handler.
 use Rattle.std.specs.Prelude.{◌≡◌, ◌≤◌, ◌+◌, ◌++◌, ℕ, Bool, true, false, List, [], ◌∷◌, length, Option, Some, None, Result, Ok, Err}
-use Rattle.cf_base.specs.declared.status.Status.{Status}
+use Rattle.run_model.specs.Terms.{appended, bad_line, Item, led, Reply, said, Status, text_of}
 use Rattle.cf_base.specs.declared.status.Status.TheVariants.{BadScript, WriteFault, OutOfMemory}
-use Rattle.cf_io.specs.Feeds.{WritesPrefix, appended}
-use Rattle.script_reader.specs.Items.{Item}
+use Rattle.cf_io.specs.Feeds.{WritesPrefix}
 use Rattle.script_reader.specs.Lines.{LONGEST}
 use Rattle.script_reader.specs.Reading.{Reading, items_left}
 use Rattle.script_reader.specs.declared.stage.Stage.TheVariants.{Opening}
-use Rattle.run_model.specs.Texts.{Reply, bad_line, led, said, text_of}
 use Rattle.script_loop.specs.Progress.{IsReady, Playing, Progress, run_of}
 use Rattle.script_loop.specs.ScriptOutcome.{has_bad}
 use Rattle.script_loop.specs.Semantics.{PartBy, RunBy, Semantics}

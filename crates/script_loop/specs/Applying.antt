@@ -1,13 +1,11 @@
 -- What applying a command does, in the session of any mode. `m` is the handler's `Semantics`, S its type of states, P that of what no item changes; a
 -- `Snapshot` is a state with the bytes written, a *turn* a command with its reply and next state.
 use Rattle.std.specs.Prelude.{◌≡◌, ◌<◌, ◌++◌, ℕ, List, [], Result, Ok, Err, length}
-use Rattle.cf_base.specs.declared.answers.Failed.{Failed}
+use Rattle.run_model.specs.Terms.{Command, Failed, led, Reply, said}
 use Rattle.cf_io.specs.Lines.{line_capacity}
-use Rattle.cf_io.specs.Texts.{Reply, led, said}
 use Rattle.cf_session.specs.Apply.{outcome_of}
 use Rattle.cf_session.specs.declared.outcome.Outcome.{Outcome}
 use Rattle.script_loop.specs.Semantics.{HasTurn, HasTurnInPart, Semantics, Snapshot}
-use Rattle.script_reader.specs.declared.command.Command.{Command}
 
 -- the type of a rule for commands: `turns old command reply new` means that in state `old` the command may get this reply and lead to state `new`
 abbrev pub Turns : Type 0 → Type 1

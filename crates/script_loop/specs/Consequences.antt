@@ -1,17 +1,11 @@
 -- What the laws of this crate claim of a script's output: its reads; that it is a prefix of a run's output, or the transcript. `call` has the bytes in
 -- source and sink, before and after, and the status.
-use Rattle.std.specs.Prelude.{◌≡◌, ◌++◌, ⊤, ℕ, List, [], Option, Some, None}
-use Rattle.cf_base.specs.declared.kind.Kind.{Kind}
-use Rattle.cf_base.specs.declared.status.Status.{Status}
+use Rattle.std.specs.Prelude.{◌≡◌, ◌++◌, ⊤, ℕ, List, [], Option, Some, None, if◌then◌else◌, length, nat_le}
+use Rattle.run_model.specs.Terms.{appended, IsPaged, Item, Kind, Reply, RunState, Status, text_of}
 use Rattle.cf_base.specs.declared.status.Status.TheVariants.{Done, BadScript, TooLong}
-use Rattle.cf_io.specs.Feeds.{appended}
-use Rattle.cf_model.specs.Rules.{IsPaged}
-use Rattle.script_reader.specs.Items.{Item}
 use Rattle.script_laws.specs.IdBytes.{AreReadsOf}
 use Rattle.run_model.specs.Runs.{Run}
-use Rattle.run_model.specs.Sessions.{RunState}
-use Rattle.run_model.specs.Texts.{Reply, text_of}
-use Rattle.script_loop.specs.ScriptOutcome.{Effects, items_within}
+use Rattle.script_loop.specs.ScriptOutcome.{Effects, MOST_BYTES, has_bad, items_within}
 use Rattle.script_loop.specs.Semantics.{RunBy, Semantics}
 use Rattle.script_laws.specs.Transcripts.{ArePlaceless, StaysAtOne, transcript}
 
@@ -21,6 +15,10 @@ AnswersAll Done = ⊤
 AnswersAll BadScript = ⊤
 AnswersAll TooLong = ⊤
 AnswersAll status = ⊥
+
+-- the status of a call that answered each item of these bytes
+abbrev pub status_of : List ℕ → Status
+status_of all = if has_bad (items_within all) then BadScript else (if nat_le (length all) MOST_BYTES then Done else TooLong)
 
 -- a reply to each of the items `wanted` was printed, and the reply to each read is the bytes last written through its id
 pub record PrintsReads (wanted : List Item) (call : Effects) : Type 0 where

@@ -1,9 +1,8 @@
 -- The semantics of mode `run`: which replies the session over one manager may write, and to which states they lead.
 use Rattle.std.specs.Prelude.{◌≡◌, Bool, is_some}
-use Rattle.cf_base.specs.declared.kind.Kind.{Kind}
+use Rattle.run_model.specs.Terms.{fresh_session, IsGoing, Kind, RunState}
 use Rattle.cf_session.specs.Apply.{LacksOne}
 use Rattle.run_model.specs.Runs.{BeginsOne, IsCommandStep}
-use Rattle.run_model.specs.Sessions.{IsGoing, RunState, fresh_session}
 use Rattle.script_loop.specs.Applying.{TurnsInPart}
 use Rattle.script_loop.specs.Semantics.{Semantics}
 

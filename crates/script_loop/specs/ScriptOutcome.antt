@@ -2,11 +2,10 @@
 -- mode handler; its run goes from the state `from` to the state `to`.
 use Rattle.std.specs.Prelude.{◌≡◌, ◌<◌, ◌≤◌, ◌+◌, ◌⊎◌, ◌++◌, ℕ, Bool, true, false, List, [], ◌∷◌, length, take, nat_le, Option, Some, None, Result, Ok, Err}
 use Rattle.std.specs.List.{list_any}
-use Rattle.cf_base.specs.declared.status.Status.{Status}
+use Rattle.run_model.specs.Terms.{appended, asks, bad, Item, items, Reply, SinkFailsIf, SinkState, SourceFailsIf, SourceState, starts, Status, text_of}
 use Rattle.cf_base.specs.declared.status.Status.TheVariants.{Done, Words, BadScript, ReadFault, WriteFault, OutOfMemory, TooLong, BadImage}
-use Rattle.cf_io.specs.Feeds.{HasGiven, MayFollow, SinkFailsIf, SinkState, SourceFailsIf, SourceState, appended, last_count, preceded}
-use Rattle.script_reader.specs.Items.{AreFirstOf, Item, asks, bad, items, starts}
-use Rattle.run_model.specs.Texts.{Reply, text_of}
+use Rattle.cf_io.specs.Feeds.{HasGiven, MayFollow, last_count, preceded}
+use Rattle.script_reader.specs.Items.{AreFirstOf}
 use Rattle.script_loop.specs.Semantics.{PartBy, RunBy, Semantics}
 
 -- the most bytes of a script

@@ -1,13 +1,8 @@
 -- The semantics of a mode handler, `m` below: a record of relations that fixes which reply each item may get, and to which state it leads.
 use Rattle.std.specs.Prelude.{◌≡◌, ◌++◌, ℕ, Bool, true, false, List, [], Option, Result, Ok, Err}
-use Rattle.cf_base.specs.Settings.{Profile, profile_of}
-use Rattle.cf_base.specs.declared.answers.Failed.{Failed}
+use Rattle.run_model.specs.Terms.{appended, Command, Failed, Item, led, Profile, profile_of, Reply}
 use Rattle.cf_base.specs.declared.settings.Settings.{Settings}
-use Rattle.cf_io.specs.Feeds.{appended}
-use Rattle.script_reader.specs.Items.{Item}
-use Rattle.script_reader.specs.declared.command.Command.{Command}
 use Rattle.run_model.specs.Plays.{PlayPart, PlayRun, PlayStep}
-use Rattle.run_model.specs.Texts.{Reply, led}
 use Rattle.script_loop.specs.declared.mode_handler.OpenFault.{OpenFault}
 use Rattle.script_loop.specs.declared.mode_handler.OpenFault.TheVariants as fault
 

@@ -1,8 +1,7 @@
 -- The semantics of `WithSettings`, a mode handler around another one: those of the inner handler, with the settings of the `heap` line kept in the state.
 use Rattle.std.specs.Prelude.{◌≡◌, ⊤, Option, Some, None, option_map}
-use Rattle.cf_base.specs.Settings.{profile_of}
+use Rattle.run_model.specs.Terms.{IsGoing, profile_of, RunState}
 use Rattle.cf_base.specs.declared.settings.Settings.{Settings}
-use Rattle.run_model.specs.Sessions.{IsGoing, RunState}
 use Rattle.script_loop.specs.Semantics.{Semantics}
 
 -- a state of the inner handler, and the settings of the `heap` line; none before that line

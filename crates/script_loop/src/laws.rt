@@ -2,9 +2,7 @@
 //! sink got, when the output is the transcript, and that chunks don't matter.
 ghost use Rattle.std.specs.Prelude.{◌≡◌, ◌++◌, ℕ, List, [], None, Some};
 ghost use Rattle.script_laws.specs.IdBytes.{AreReadsOf};
-ghost use Rattle.run_model.specs.Sessions.{RunState};
-ghost use Rattle.run_model.specs.Texts.{text_of};
-ghost use Rattle.script_reader.specs.Items.{Item};
+ghost use Rattle.run_model.specs.Terms.{Item, RunState, text_of};
 ghost use Rattle.script_loop.specs.Consequences.{AnswersAll, ArePlain, IsPrefixOfRun, PrintsReads, PrintsTranscript};
 ghost use Rattle.script_loop.specs.OneManager.{one_manager};
 ghost use Rattle.script_loop.specs.ScriptOutcome.{Effects, MeetsOutcome, Wrote, WroteInPart, items_within};

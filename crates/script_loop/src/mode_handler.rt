@@ -1,9 +1,7 @@
 //! The trait `ModeHandler`: the script loop calls `open` of its handler for the `heap` line, and `answer`
 //! for each later command. The trait also names the handler's states and its semantics, for contracts.
 ghost use Rattle.std.specs.Prelude.{◌≡◌, OnOk};
-ghost use Rattle.cf_io.specs.Feeds.{SinkFailsIf};
-ghost use Rattle.script_reader.specs.Commands.{IsWellFormed};
-ghost use Rattle.script_reader.specs.Owned.{owned_command};
+ghost use Rattle.run_model.specs.Terms.{IsWellFormed, owned_command, SinkFailsIf};
 ghost use Rattle.script_loop.specs.declared.mode_handler.OpenFault.TheVariants as fault;
 ghost use Rattle.script_loop.specs.Semantics.{AnswersBy, OpensBy, Semantics, snapshot, is_cut_reply};
 ghost use Rattle.std.specs.Result.{is_err};

@@ -1,8 +1,7 @@
 //! The mode handler of mode `run`: a session over one manager.
 ghost use Rattle.std.specs.Prelude.{Bool};
-ghost use Rattle.cf_base.specs.declared.kind.Kind.{Kind};
+ghost use Rattle.run_model.specs.Terms.{Kind, RunState};
 ghost use Rattle.cf_session.specs.Apply.{run_at};
-ghost use Rattle.run_model.specs.Sessions.{RunState};
 ghost use Rattle.script_loop.specs.OneManager.{one_manager};
 
 use crate::mode_handler::{ModeHandler, OpenFault};

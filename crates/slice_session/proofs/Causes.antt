@@ -1,11 +1,8 @@
 -- For the law `replies_show_their_causes`: if the reply to a malloc or free on a sliced heap names a cause of refusal, the cause holds, for a malloc also
 -- conversely; `busy` means that a job is pending.
-use Rattle.std.proofs.Common.{◌≡◌, ◌≢◌, ℕ, List, [], ◌∷◌, Some, None, get_or, refl, sym, ◌∙◌, ap, subst, ap₂}
-use Rattle.std.specs.Prelude.{Option, Result, Ok, Err, codes, nat_eq, if◌then◌else◌, Bool}
+use Rattle.std.proofs.Common.{◌≡◌, ◌≢◌, ℕ, List, [], ◌∷◌, Some, None, get_or, refl, sym, ◌∙◌, ap, subst, ap₂, Option, Result, Ok, Err, codes, nat_eq, if◌then◌else◌, Bool}
 use Rattle.std.specs.Option.{MatchOption}
-use Rattle.std.specs.FinMap.{get}
-use Rattle.cf_base.specs.declared.answers.Handle.{Handle}
-use Rattle.cf_io.specs.Texts.{Reply, said}
+use Rattle.run_model.specs.Terms.{get, Handle, Profile, Reply, said}
 use Rattle.script_reader.specs.declared.command.Command.TheVariants as command
 use Rattle.page_model.specs.Order.{Order}
 use Rattle.slice_model.specs.Runs.{HeapWithWords, Malloc, Free}
@@ -22,7 +19,6 @@ use Rattle.script_laws.specs.ObjectRun.{FreesId, MallocsId, ids_without}
 use Rattle.slice_session.specs.SliceRun.{Does, IsGoingSliced, SliceRun, SliceStep}
 use Rattle.run_model.specs.Steps.{Stays, ids_given}
 use Rattle.slice_session.specs.SliceRun.{slice_free_text, slice_malloc_text, slice_run, sliced_calls}
-use Rattle.cf_base.specs.Settings.{Profile}
 
 -- a heap from its fields
 abbrev heap_by : Bool → Profile → ℕ → HeapWithWords → Order → SlicedState
@@ -50,9 +46,7 @@ first f (text ∷ rest) = f text
 refusal_shown : (a : Result Handle SliceRefusal) → refusal_in (slice_malloc_text a) ≡ refused a
 refusal_shown (Ok h) = refl
 refusal_shown (Err refusal.Size) = refl
-refusal_shown (Err refusal.Proxy) = refl
-refusal_shown (Err refusal.Space) = refl
-refusal_shown (Err refusal.Busy) = refl
+refusal_shown _ = refl
 
 same_refusal : (a : Result Handle SliceRefusal) (e : SliceRefusal) → said (slice_malloc_text (Err e)) ≡ said (slice_malloc_text a) → a ≡ Err e
 same_refusal a e is = go a (sym (refusal_shown (Err e)) ∙ ap (first refusal_in) is ∙ refusal_shown a)

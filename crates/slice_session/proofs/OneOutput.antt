@@ -1,16 +1,9 @@
 -- For `one_sliced_output`: two runs over one script in mode `slice` have the same replies, with each word that `p` prints, and end in the same state.
-use Rattle.std.proofs.Common.{◌≡◌, ℕ, List, [], ◌∷◌, Option, Some, None, length, sym, ◌∙◌, ap, refl, subst}
-use Rattle.std.specs.Prelude.{Result, Ok, Err, codes, option_map}
+use Rattle.std.proofs.Common.{◌≡◌, ℕ, List, [], ◌∷◌, Option, Some, None, length, sym, ◌∙◌, ap, refl, subst, Result, Ok, Err, codes, option_map}
 use Rattle.std.specs.Option.{MatchOption}
-use Rattle.std.specs.FinMap.{get}
-use Rattle.cf_base.specs.Settings.{Profile}
-use Rattle.cf_base.specs.declared.answers.AccessFault.{AccessFault}
-use Rattle.cf_io.specs.Texts.{Reply, said, with_number}
-use Rattle.cf_model.specs.Steps.{Position}
-use Rattle.run_model.specs.Plays.{PlayRun, PlayStep}
+use Rattle.run_model.specs.Terms.{AccessFault, asks, bad, Command, get, Item, Position, Profile, Reply, said, starts, with_number}
+use Rattle.run_model.specs.Plays.{IsAt, PlayRun, PlayStep}
 use Rattle.script_loop.specs.Semantics.{RunBy}
-use Rattle.script_reader.specs.Items.{Item, asks, bad, starts}
-use Rattle.script_reader.specs.declared.command.Command.{Command}
 use Rattle.script_reader.specs.declared.command.Command.TheVariants as command
 use Rattle.slice_model.specs.State.{Plan, left_of}
 use Rattle.slice_model.specs.Runs.{HeapWithWords}
@@ -23,11 +16,8 @@ use Rattle.slice_session.specs.SliceRun.{IsGoingSliced, SliceRun, SliceStep, Ste
 use Rattle.run_model.specs.Replies.{write_text}
 use Rattle.run_model.specs.Steps.{Stays, ids_given}
 use Rattle.slice_session.specs.SliceRun.{slice_free_text, slice_malloc_text, sliced_calls}
-use Rattle.slice_session.proofs.OpenLemmas.{begins_going}
-use Rattle.slice_session.proofs.Plays.{play_seen}
+use Rattle.slice_session.proofs.RunInvariant.{begins_going, play_seen, sliced_keeps}
 use Rattle.script_laws.proofs.CallerLemmas.{still_going}
-use Rattle.slice_session.proofs.RunInvariant.{sliced_keeps}
-use Rattle.slice_session.proofs.Claims.{GoesOn}
 
 same_heap : (old a b : SlicedState) → StaysOpen old a → StaysOpen old b → working_in a ≡ working_in b → a.order ≡ b.order → b ≡ a
 same_heap old a b x y w order = λ i. record {
@@ -136,21 +126,21 @@ begun_once quantum p new next g f = same_run new next (f.ids ∙ sym g.ids) (f.h
 
 module _ (quantum : ℕ) where
   -- two runs in the same state reply the same to an item, and go on from the same state
-  item_once : (old : Option SliceRun) (item : Item) (reply other : Reply) (mid also : Option SliceRun) → GoesOn old
+  item_once : (old : Option SliceRun) (item : Item) (reply other : Reply) (mid also : Option SliceRun) → IsAt IsGoingSliced old
       → PlayStep (BeginsSlices quantum) SliceStep old item reply mid → PlayStep (BeginsSlices quantum) SliceStep old item other also
-      → (other ≡ reply) × (also ≡ mid) × GoesOn mid
+      → (other ≡ reply) × (also ≡ mid) × IsAt IsGoingSliced mid
   item_once old (starts p) reply other mid also goes (s, begins, is) (t, begins', is') = (
     begins'.1 ∙ sym begins.1,
     is' ∙ ap Some (begun_once quantum p s t begins.0 begins'.0) ∙ sym is,
-    subst GoesOn (sym is) (begins_going quantum p s begins.0),
+    subst (IsAt IsGoingSliced) (sym is) (begins_going quantum p s begins.0),
   )
-  item_once None (asks c) reply other mid also goes g f = (f.0 ∙ sym g.0, f.1 ∙ sym g.1, subst GoesOn (sym g.1) tt)
+  item_once None (asks c) reply other mid also goes g f = (f.0 ∙ sym g.0, f.1 ∙ sym g.1, subst (IsAt IsGoingSliced) (sym g.1) tt)
   item_once (Some old) (asks c) reply other mid also goes (s, step, is) (t, step', is') =
       let (same, state) = one_step old s t goes c reply other step step' in
-      (same, is' ∙ ap Some state ∙ sym is, subst GoesOn (sym is) (still_going sliced_calls sliced_keeps old s c reply goes step))
-  item_once old (bad n) reply other mid also goes g f = (f.0 ∙ sym g.0, f.1 ∙ sym g.1, subst GoesOn (sym g.1) goes)
+      (same, is' ∙ ap Some state ∙ sym is, subst (IsAt IsGoingSliced) (sym is) (still_going sliced_calls sliced_keeps old s c reply goes step))
+  item_once old (bad n) reply other mid also goes g f = (f.0 ∙ sym g.0, f.1 ∙ sym g.1, subst (IsAt IsGoingSliced) (sym g.1) goes)
 
-  run_once : (items : List Item) (old : Option SliceRun) (replies others : List Reply) (end last : Option SliceRun) → GoesOn old
+  run_once : (items : List Item) (old : Option SliceRun) (replies others : List Reply) (end last : Option SliceRun) → IsAt IsGoingSliced old
       → PlayRun (BeginsSlices quantum) SliceStep old items replies end → PlayRun (BeginsSlices quantum) SliceStep old items others last
       → (others ≡ replies) × (last ≡ end)
   run_once [] old replies others end last goes g f = (f.0 ∙ sym g.0, f.1 ∙ sym g.1)

@@ -1,11 +1,7 @@
 -- For `one_sliced_transcript`: to a script without `p` exactly one list of replies meets the claim.
-use Rattle.std.proofs.Common.{◌≡◌, ℕ, List, [], ◌∷◌, Option, Some, None, ◌∙◌, ap, refl}
-use Rattle.std.specs.Prelude.{codes}
+use Rattle.std.proofs.Common.{◌≡◌, ℕ, List, [], ◌∷◌, Option, Some, None, ◌∙◌, ap, refl, codes}
 use Rattle.run_model.specs.Plays.{PlayRun, PlayStep}
-use Rattle.run_model.specs.Texts.{Reply, bad_line, said}
-use Rattle.script_reader.specs.Items.{Item, asks, bad, starts}
-use Rattle.script_reader.specs.declared.command.Command.{Command}
-use Rattle.script_reader.specs.declared.command.Command.TheVariants.{Peek}
+use Rattle.run_model.specs.Terms.{asks, bad, bad_line, Command, Item, Peek, Reply, said, starts}
 use Rattle.slice_session.specs.ShownSlices.{ShownSlices, slices_opened}
 use Rattle.slice_session.specs.SliceHeadline.{AnswersSliced, AreNoPeeks, AsksForNoWord, MeetsSliced, OpensSliced, after, slice_line}
 

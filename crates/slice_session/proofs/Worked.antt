@@ -1,20 +1,13 @@
 -- For `wrong_sliced_replies_fall_short`: the right replies to the small script meet the claim, and wrong ones don't.
-use Rattle.std.proofs.Common.{◌≡◌, ℕ, true, List, [], ◌∷◌, Option, Some, None, drop, length, replicate, get_or, sym, ◌∙◌, ap, refl, subst, inl, inr}
-use Rattle.std.specs.Prelude.{codes}
+use Rattle.std.proofs.Common.{◌≡◌, ℕ, true, List, [], ◌∷◌, Option, Some, None, drop, length, replicate, get_or, sym, ◌∙◌, ap, refl, subst, inl, inr, codes}
 use Rattle.std.proofs.lemmas.Bool.{cases_eq}
 use Rattle.std.specs.Fmt.{digits}
-use Rattle.std.specs.FinMap.{empty, get, insert, remove}
+use Rattle.run_model.specs.Terms.{asks, Command, empty, Free, get, insert, Item, items, Malloc, Objects, Profile, remove, Reply, said, Slice, starts}
 use Rattle.cf_base.specs.Classes.{sizes_from}
-use Rattle.cf_base.specs.Settings.{Profile}
 use Rattle.cf_lemmas.proofs.Maps.{equal_maps, get_insert_other, get_remove_other, get_removed}
 use Rattle.hex.specs.Hex.{decode_pairs}
 use Rattle.page_model.specs.Arrangement.{live, pages_needed_with}
-use Rattle.page_model.specs.Held.{Objects}
 use Rattle.page_model.specs.Paging.{class_for}
-use Rattle.run_model.specs.Texts.{Reply, said}
-use Rattle.script_reader.specs.Items.{Item, asks, items, starts}
-use Rattle.script_reader.specs.declared.command.Command.{Command}
-use Rattle.script_reader.specs.declared.command.Command.TheVariants.{Free, Malloc, Slice}
 use Rattle.slice_session.specs.ShownSlices.{ShownJob, ShownSlices, slices_opened}
 use Rattle.slice_session.specs.SliceHeadline.{MeetsSliced, after, slice_line}
 use Rattle.slice_session.specs.Small.{MeetsSmallSliced, small_sliced_replies}

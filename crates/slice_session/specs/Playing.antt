@@ -1,16 +1,12 @@
 -- Mode `slice` for the script loop: how a run over a sliced heap begins, its runs over a script, and the state after a failed allocation. `sliced` is the
 -- semantics of a session, `slices` that of the mode handler.
 use Rattle.std.specs.Prelude.{◌≡◌, ◌≤◌, ◌*◌, ℕ, true, List, Option, codes, replicate}
-use Rattle.std.specs.FinMap.{empty}
-use Rattle.cf_base.specs.Settings.{Profile}
+use Rattle.run_model.specs.Terms.{empty, Ids, Item, Profile, Reply, said}
 use Rattle.cf_base.specs.declared.kind.Layout.TheVariants.{Words}
-use Rattle.cf_io.specs.Texts.{Reply, said}
-use Rattle.id_table.specs.Ids.{Ids}
 use Rattle.page_model.specs.Order.{first_order}
 use Rattle.page_model.specs.Paging.{first_bounds, paging_of}
 use Rattle.run_model.specs.Plays.{PlayRun}
 use Rattle.script_loop.specs.Semantics.{Semantics}
-use Rattle.script_reader.specs.Items.{Item}
 use Rattle.script_loop.specs.Applying.{TurnsInPart}
 use Rattle.slice_model.specs.State.{Idle}
 use Rattle.sliced_heap.specs.Shown.{KeepsRules, SlicedState, closed_state}

@@ -1,9 +1,8 @@
 -- The heap as the claim of mode `slice` sees it: what the lines of a script and their replies show, which is its objects by id and the pending job.
 use Rattle.std.specs.Prelude.{ℕ, Bool, false, ◌+◌, ◌-◌, ◌%◌, ◌&&◌, ◌||◌, Option, Some, None, if◌then◌else◌, nat_eq, nat_lt, not}
-use Rattle.cf_base.specs.Settings.{Profile, at_bound_one}
-use Rattle.cf_base.specs.declared.kind.Kind.TheVariants.{Moving}
+use Rattle.run_model.specs.Terms.{at_bound_one, Moving, Paging, Profile, slot_words, slots_of}
 use Rattle.page_model.specs.Arrangement.{live, pages_for}
-use Rattle.page_model.specs.Paging.{Paging, class_for, slot_words, slots_of}
+use Rattle.page_model.specs.Paging.{class_for}
 use Rattle.script_laws.specs.ById.{ById, begun, paging_by_id}
 
 -- A pending job, which clears a slot or moves an object out of it. `class` is the slot's class, `done` how many words of the slot are done. `filled`: the slot's

@@ -1,19 +1,11 @@
 -- The claim of every script in mode `slice` (`MeetsSliced`): each reply, but for the word that `p` prints, is a function of its line and the lines before it.
 -- `t` is the heap that these show before a command.
 use Rattle.std.specs.Prelude.{◌≡◌, ⊤, ℕ, zero, suc, false, List, [], ◌∷◌, Option, Some, None, Err, codes, if◌then◌else◌, length, nat_eq, nat_lt, replicate}
-use Rattle.std.specs.FinMap.{get, insert, len, remove}
-use Rattle.cf_base.specs.Classes.{need}
-use Rattle.cf_base.specs.Settings.{Profile}
-use Rattle.cf_model.specs.State.{region_words}
+use Rattle.run_model.specs.Terms.{asks, Command, Free, get, insert, Item, len, Malloc, need, Objects, Peek, Profile, Read, region_words, remove, Reply, said, Slice, with_number, Write}
 use Rattle.page_model.specs.Arrangement.{pages_needed_with}
-use Rattle.page_model.specs.Held.{Objects}
 use Rattle.page_model.specs.Paging.{class_for}
 use Rattle.run_model.specs.Plays.{PlayRun}
 use Rattle.run_model.specs.Replies.{peek_text}
-use Rattle.run_model.specs.Texts.{Reply, said, with_number}
-use Rattle.script_reader.specs.Items.{Item, asks}
-use Rattle.script_reader.specs.declared.command.Command.{Command}
-use Rattle.script_reader.specs.declared.command.Command.TheVariants.{Malloc, Free, Slice, Write, Read, Peek}
 use Rattle.slice_model.specs.declared.answers.SliceFault.{SliceFault}
 use Rattle.slice_model.specs.declared.answers.SliceFault.TheVariants as fault
 use Rattle.slice_model.specs.declared.answers.SliceRefusal.{SliceRefusal}

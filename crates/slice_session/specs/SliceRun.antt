@@ -1,15 +1,11 @@
 -- A session over a sliced heap: its state, the calls of its heap, and for each command the reply, the state after it, and the most steps.
 use Rattle.std.specs.Prelude.{◌≡◌, ℕ, ◌+◌, IsTrue, List, Option, Some, None, Result, Ok, Err, codes, length, slice_get}
-use Rattle.cf_base.specs.declared.answers.Handle.{Handle}
+use Rattle.run_model.specs.Terms.{Command, Handle, Ids, objects, Reply, said, with_number}
 use Rattle.cf_base.specs.declared.answers.Refusal.TheVariants as shown
-use Rattle.cf_io.specs.Texts.{Reply, said, with_number}
 use Rattle.cf_model.specs.Costs.{words_touched}
-use Rattle.id_table.specs.Ids.{Ids}
 use Rattle.script_laws.specs.ObjectRun.{Calls, IsGoingObjects, ObjectRun, ObjectStep, object_run}
-use Rattle.page_model.specs.Held.{objects}
 use Rattle.run_model.specs.Replies.{malloc_text, peek_text}
 use Rattle.run_model.specs.Steps.{Stays}
-use Rattle.script_reader.specs.declared.command.Command.{Command}
 use Rattle.script_reader.specs.declared.command.Command.TheVariants as command
 use Rattle.slice_model.specs.Ordered.{HappensInOrder}
 use Rattle.slice_model.specs.Runs.{Event, Happens, Malloc, Free, Step, Write}

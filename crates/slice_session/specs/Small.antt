@@ -1,7 +1,6 @@
 -- A small script in mode `slice` on which right and wrong replies are tried, and replies to its eight lines.
 use Rattle.std.specs.Prelude.{ℕ, true, List, [], ◌∷◌, codes}
-use Rattle.run_model.specs.Texts.{Reply, said}
-use Rattle.script_reader.specs.Items.{items}
+use Rattle.run_model.specs.Terms.{items, Reply, said}
 use Rattle.slice_session.specs.SliceHeadline.{MeetsSliced}
 
 -- `replies` meet the claim for this script, on two pages of 64 words with slices of 8 words. An object of 176 bytes has 23 words, so a page holds two; an

@@ -2,14 +2,13 @@
 //! their reply; `r`, `s` and `p` build their reply in `line`, and return how the command ended.
 ghost use Rattle.std.specs.Prelude.{◌≡◌, ◌+◌, ◌<◌, ◌≤◌, [], IsTrue, Err, Some, length, slice_get};
 ghost use Rattle.cf_io.specs.Lines.{line_capacity};
-ghost use Rattle.cf_io.specs.Texts.{said};
+ghost use Rattle.run_model.specs.Terms.{Free, Malloc, said, Slice, Write};
 ghost use Rattle.cf_session.specs.Apply.{outcome_in};
 ghost use Rattle.cf_session.specs.Short.{short_text};
 ghost use Rattle.cf_model.specs.Costs.{words_touched};
 ghost use Rattle.script_laws.specs.ObjectRun.{object_bytes};
 ghost use Rattle.run_model.specs.Replies.{peek_text};
 ghost use Rattle.script_laws.specs.IdBytes.{read_shown};
-ghost use Rattle.script_reader.specs.declared.command.Command.TheVariants.{Malloc, Free, Slice, Write};
 ghost use Rattle.script_loop.specs.Applying.{BuildsReply};
 ghost use Rattle.sliced_heap.specs.Shown.{KeepsRules};
 ghost use Rattle.step_ledger.specs.Counting.{RoseAtMost};

@@ -3,18 +3,12 @@
 //! do nothing: their clauses are the laws.
 ghost use Rattle.std.specs.Prelude.{◌≡◌, ◌≢◌, ℕ, ◌++◌, Bool, List, [], Option, Err, None, Some, codes, ◌+◌, ◌-◌, ◌*◌, ◌<◌, ◌≤◌, ◌↔◌, length, take, ◌∷◌};
 ghost use Rattle.std.specs.Option.{option_map};
-ghost use Rattle.std.specs.FinMap.{get};
-ghost use Rattle.cf_base.specs.Settings.{Profile};
-ghost use Rattle.cf_io.specs.Texts.{Reply, said, text_of};
-ghost use Rattle.cf_model.specs.Rules.{AreInRange};
+ghost use Rattle.run_model.specs.Terms.{AreInRange, Command, Free, get, IsPaging, Item, items, Malloc, Profile, Reply, said, Slice, slot_words, text_of};
 ghost use Rattle.script_laws.specs.ValidItems.{IsValidCommand};
 ghost use Rattle.script_laws.specs.IdBytes.{AreReadsOf};
 ghost use Rattle.script_loop.specs.Consequences.{IsPrefixBy};
 ghost use Rattle.script_loop.specs.ScriptOutcome.{Effects, WroteInPart, items_within};
 ghost use Rattle.script_loop.specs.Semantics.{RunBy};
-ghost use Rattle.script_reader.specs.Items.{Item, items};
-ghost use Rattle.script_reader.specs.declared.command.Command.{Command};
-ghost use Rattle.script_reader.specs.declared.command.Command.TheVariants.{Malloc, Free, Slice};
 ghost use Rattle.slice_model.specs.State.{Idle};
 ghost use Rattle.slice_model.specs.Steps.{IsFaultOf, IsRefusedBy};
 ghost use Rattle.slice_model.specs.declared.answers.SliceFault.{SliceFault};
@@ -23,7 +17,7 @@ ghost use Rattle.sliced_heap.specs.Shown.{plan_in, working_in};
 ghost use Rattle.slice_session.specs.Playing.{BeginsSliced, IsQuantum, RunsSliced, SlicePlay, run_of_play, slices};
 ghost use Rattle.slice_session.specs.SliceRun.{IsGoingSliced, SliceRun, SliceStep, slice_free_text, slice_malloc_text};
 ghost use Rattle.page_model.specs.Arrangement.{pages_needed_with};
-ghost use Rattle.page_model.specs.Paging.{IsPaging, class_for, slot_words};
+ghost use Rattle.page_model.specs.Paging.{class_for};
 ghost use Rattle.slice_model.specs.declared.answers.SliceRefusal.TheVariants.{Busy};
 ghost use Rattle.slice_session.specs.ShownSlices.{ShownJob, ShownSlices, paging_shown, words_left};
 ghost use Rattle.slice_session.specs.SliceHeadline.{AreNoPeeks, MeetsSliced, after, after_slices, slice_line, slice_refusal};

@@ -1,19 +1,15 @@
 -- For the loop of `apply_commands` in mode `bench`: each turn applies one more command that the generator makes of the seed, and counts whether its reply is
 -- good or a refusal.
-use Rattle.std.proofs.Common.{◌≡◌, ◌∙◌, ◌+◌, ◌-◌, ◌<◌, ◌≤◌, ◌++◌, ℕ, suc, cond, List, [], ◌∷◌, map, Some, refl, sym, ap, ap₂, subst, arith}
-use Rattle.std.proofs.Common.{append_assoc, append-nil}
+use Rattle.std.proofs.Common.{◌≡◌, ◌∙◌, ◌+◌, ◌-◌, ◌<◌, ◌≤◌, ◌++◌, ℕ, suc, cond, List, [], ◌∷◌, map, Some, refl, sym, ap, ap₂, subst, arith, append_assoc, append-nil}
 use Rattle.std.proofs.lemmas.List.{map-append}
 use Rattle.std.proofs.lemmas.List.Sums.{sum_by_push}
-use Rattle.cf_io.specs.Texts.{Reply}
+use Rattle.run_model.specs.Terms.{asks, Command, Item, Reply, RunState}
 use Rattle.cf_session.specs.Apply.{outcome_of}
 use Rattle.cf_session.specs.declared.outcome.Outcome.{Outcome}
 use Rattle.cf_session.specs.declared.outcome.Outcome.TheVariants.{Good, Refused, Other}
 use Rattle.generator.specs.Generated.{generated}
 use Rattle.run_model.proofs.CallerLemmas.{one_run, run_joined}
 use Rattle.run_model.specs.Runs.{BeginsOne, Run, IsCommandStep}
-use Rattle.run_model.specs.Sessions.{RunState}
-use Rattle.script_reader.specs.Items.{Item, asks}
-use Rattle.script_reader.specs.declared.command.Command.{Command}
 use Rattle.top_call.specs.Bench.{IsAppliedTo, is_good, is_refusal}
 
 -- if the generator returns one more command of the seed, the commands returned and those still to come are the same list as before

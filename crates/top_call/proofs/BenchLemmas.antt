@@ -1,26 +1,17 @@
 -- For `run_bench`: opening the manager and applying the commands is a run of the generated script (`BenchRun`), and the line that is printed, or a prefix of
 -- it, has the numbers of that run.
-use Rattle.std.proofs.Common.{◌≡◌, ◌++◌, ℕ, List, [], ◌∷◌, map, Option, Some, None, refl, subst, append_assoc}
-use Rattle.std.specs.Prelude.{codes}
+use Rattle.std.proofs.Common.{◌≡◌, ◌++◌, ℕ, List, [], ◌∷◌, map, Option, Some, None, refl, subst, append_assoc, codes}
 use Rattle.top_call.specs.Bench.{BenchRun, EndsBench, IsAppliedTo, IsWritten, bench_items, bench_settings, bench_text, bench_figures}
 use Rattle.top_call.specs.Bench.{good_ones, refusals}
 use Rattle.top_call.specs.declared.figures.BenchFigures.{BenchFigures}
-use Rattle.cf_base.specs.Settings.{Profile, profile_of}
+use Rattle.run_model.specs.Terms.{asks, fresh_session, HeapState, KeepsRules, Kind, Profile, profile_of, Reply, RunState, said, SessionState, Status, totals_in}
 use Rattle.cf_base.specs.declared.answers.Totals.{Totals}
-use Rattle.cf_base.specs.declared.kind.Kind.{Kind}
 use Rattle.cf_base.specs.declared.settings.Settings.{Settings}
-use Rattle.cf_base.specs.declared.status.Status.{Status}
 use Rattle.cf_base.specs.declared.status.Status.TheVariants.{Done, Words, BadScript, ReadFault, WriteFault, OutOfMemory, TooLong, BadImage}
-use Rattle.cf_model.specs.Answers.{totals_in}
-use Rattle.cf_model.specs.Rules.{KeepsRules}
-use Rattle.cf_model.specs.State.{HeapState}
 use Rattle.cf_model.specs.Steps.{IsEmptyHeap}
 use Rattle.cf_session.specs.Apply.{run_at}
-use Rattle.cf_io.specs.Texts.{Reply, said}
 use Rattle.generator.specs.Generated.{generated}
 use Rattle.run_model.specs.Runs.{Begins, Run}
-use Rattle.run_model.specs.Sessions.{RunState, SessionState, fresh_session}
-use Rattle.script_reader.specs.Items.{asks}
 
 -- six texts that are pushed on a line one by one are the line of all of them
 pub six : (l m n o p q r a b c d e f : List ℕ) → l ≡ [] → m ≡ l ++ a → n ≡ m ++ b → o ≡ n ++ c → p ≡ o ++ d → q ≡ p ++ e → r ≡ q ++ f
@@ -46,12 +37,7 @@ pub ends_bench : (status : Status) (seed count : ℕ) (from to : RunState) (befo
     → IsWritten status before (bench_text count run.replies to) after → EndsBench status seed count from to before after
 ends_bench Done seed count from to before after run written = record { run = run; written = written }
 ends_bench WriteFault seed count from to before after run written = record { run = run; written = written }
-ends_bench OutOfMemory seed count from to before after run written = absurd written
-ends_bench Words seed count from to before after run written = absurd written
-ends_bench BadScript seed count from to before after run written = absurd written
-ends_bench ReadFault seed count from to before after run written = absurd written
-ends_bench TooLong seed count from to before after run written = absurd written
-ends_bench BadImage seed count from to before after run written = absurd written
+ends_bench _ seed count from to before after run written = absurd written
 
 abbrev figures_from : ℕ → ℕ → ℕ → Totals → ℕ → BenchFigures
 figures_from count ok refused totals moves = record {

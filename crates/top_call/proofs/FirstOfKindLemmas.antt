@@ -1,36 +1,21 @@
 -- For `first_of` and mode `run`, which uses the first manager of a kind in a list: which one that is, and that all managers keep their kinds and promises of
 -- an order if that one does.
-use Rattle.std.proofs.Common.{◌≡◌, ◌∙◌, ◌+◌, ◌<◌, ◌≤◌, ℕ, true, false, List, Option, Some, None, refl, sym, ap}
-use Rattle.std.proofs.Common.{length, get_or, set, map, arith, inl, inr}
+use Rattle.std.proofs.Common.{◌≡◌, ◌∙◌, ◌+◌, ◌<◌, ◌≤◌, ℕ, true, false, List, Option, Some, None, refl, sym, ap, length, get_or, set, map, arith, inl, inr, is_some}
 use Rattle.std.proofs.lemmas.Bool.{cases_lt}
 use Rattle.std.proofs.lemmas.List.{get_or-map, length-map}
 use Rattle.std.proofs.lemmas.List.Quantifiers.{position-Some}
 use Rattle.std.proofs.Math.Seq.{map-set_same}
-use Rattle.std.specs.Prelude.{is_some}
 use Rattle.cf_lemmas.proofs.Positions.{position_is, position_none}
-use Rattle.cf_base.specs.declared.kind.Kind.{Kind}
-use Rattle.cf_base.specs.declared.kind.Kind.TheVariants.{Moving, NonMoving, Tlsf, HalfFit}
+use Rattle.run_model.specs.Terms.{closed_state, HalfFit, HeapState, Kind, Moving, NonMoving, Tlsf}
 use Rattle.cf_model.specs.Ordered.{KeepsPromise}
-use Rattle.cf_model.specs.State.{HeapState, closed_state}
 use Rattle.top_call.specs.FirstOfKind.{chosen_manager, first_of_kind, same_kind, with_chosen_manager}
 
 pub are_same : (one other : Kind) → same_kind one other ≡ true → one ≡ other
 are_same Moving Moving is = refl
-are_same Moving NonMoving is = cc
-are_same Moving Tlsf is = cc
-are_same Moving HalfFit is = cc
-are_same NonMoving Moving is = cc
 are_same NonMoving NonMoving is = refl
-are_same NonMoving Tlsf is = cc
-are_same NonMoving HalfFit is = cc
-are_same Tlsf Moving is = cc
-are_same Tlsf NonMoving is = cc
 are_same Tlsf Tlsf is = refl
-are_same Tlsf HalfFit is = cc
-are_same HalfFit Moving is = cc
-are_same HalfFit NonMoving is = cc
-are_same HalfFit Tlsf is = cc
 are_same HalfFit HalfFit is = refl
+are_same _ _ is = cc
 
 -- A loop over managers, by their states.
 module _ {X : Type 0} (f : X → HeapState) (kind : Kind) (xs : List X) where

@@ -1,18 +1,14 @@
 -- For the laws of `cf_main`, mode by mode: two calls with the same arguments and script that answer every line print the same and have the same status, if
 -- the managers promise an order.
-use Rattle.std.proofs.Common.{◌≡◌, ℕ, Bool, true, false, List, [], ◌∷◌, Option, Some, None, cond, refl, sym, ◌∙◌, ap, subst, length, get_or, map, inl, inr}
-use Rattle.std.proofs.lemmas.Bool.{cases_lt, le-leb, lt-leb}
+use Rattle.std.proofs.Common.{◌≡◌, ℕ, List, [], ◌∷◌, Option, Some, None, refl, sym, ◌∙◌, ap, subst, length, get_or, map, inl, inr}
+use Rattle.std.proofs.lemmas.Bool.{cases_lt}
 use Rattle.std.proofs.lemmas.List.{get_or_past}
 use Rattle.std.proofs.lemmas.List.Elements.{All-cons, All-head, All-nil, All-tail}
 use Rattle.std.specs.List.{All}
 use Rattle.std.specs.Prelude.{IsSome, ⊤, codes, is_some, nat_le, option_map, take}
 use Rattle.clap.specs.Words.{Text}
-use Rattle.cf_base.specs.declared.kind.Kind.{Kind}
-use Rattle.cf_base.specs.declared.kind.Kind.TheVariants.{Moving}
-use Rattle.cf_base.specs.declared.status.Status.{Status}
+use Rattle.run_model.specs.Terms.{appended, asks, closed_state, Command, fresh_session, HeapState, Item, Kind, Moving, Reply, RunState, said, Status, text_of}
 use Rattle.cf_base.specs.declared.status.Status.TheVariants.{Done, Words, BadScript, ReadFault, WriteFault, OutOfMemory, TooLong, BadImage}
-use Rattle.cf_io.specs.Feeds.{appended}
-use Rattle.cf_model.specs.State.{HeapState, closed_state}
 use Rattle.cf_session.specs.Apply.{run_at}
 use Rattle.command_line.proofs.CallerLemmas.{one_choice}
 use Rattle.command_line.specs.Choices.{Chooses}
@@ -33,15 +29,12 @@ use Rattle.top_call.specs.Outcomes.{Benches, Compares, CallState, IsMadeLarge, L
 use Rattle.quota_session.specs.Transcript.{MeetsTasks}
 use Rattle.quota_session.specs.Playing.{quota_tasks}
 use Rattle.run_model.specs.Runs.{Run as RunOver}
-use Rattle.run_model.specs.Sessions.{RunState, fresh_session}
-use Rattle.run_model.specs.Texts.{Reply, said, text_of}
-use Rattle.script_loop.proofs.CallerLemmas.{observed_row, wrote_by}
+use Rattle.script_loop.proofs.CallerLemmas.{met_status, wrote_by}
 use Rattle.cf_io.proofs.CallerLemmas.{appended_none}
-use Rattle.script_loop.specs.Consequences.{AnswersAll}
+use Rattle.script_loop.specs.Consequences.{AnswersAll, status_of}
 use Rattle.script_loop.specs.OneManager.{one_manager}
-use Rattle.script_loop.specs.ScriptOutcome.{Effects, IsStatusRow, MOST_BYTES, MeetsOutcome, EndsAt, has_bad, items_within}
+use Rattle.script_loop.specs.ScriptOutcome.{Effects, MOST_BYTES, EndsAt, items_within}
 use Rattle.script_loop.specs.Semantics.{RunBy, Semantics}
-use Rattle.script_reader.specs.Items.{Item, asks}
 use Rattle.top_call.proofs.FirstOfKindLemmas.{chosen_kind}
 use Rattle.top_call.proofs.OwnOutcomes.{own_of, stand_of}
 use Rattle.top_call.specs.FirstOfKind.{chosen_manager, first_of_kind}
@@ -51,31 +44,10 @@ use Rattle.slice_session.proofs.CallerLemmas.{one_play}
 use Rattle.slice_session.specs.Playing.{SlicePlay, slices}
 use Rattle.top_call.specs.Bench.{EndsBench, bench_items, bench_text}
 use Rattle.generator.specs.Generated.{generated}
-use Rattle.script_reader.specs.declared.command.Command.{Command}
-use Rattle.top_call.specs.OneScript.{AnswersWhole, AreRunsInOrder, IsRunInOrder, KeepsContract, LeavesNoChoice, PrintsReplies, PromisesOrder, TopCall, status_of}
+use Rattle.top_call.specs.OneScript.{AnswersWhole, AreRunsInOrder, IsRunInOrder, KeepsContract, LeavesNoChoice, PrintsReplies, PromisesOrder, TopCall}
 use Rattle.top_call.specs.TopOutcome.{AnswersInput, DoesChosen, EndsWell, InMode, IsMadeForTasks, IsMadeSliced, PrintsBytes, PrintsChosen, PrintsInMode}
 
 -- ---- the replies of one manager
-
--- the status of a call that answered all items is determined by the bytes
-module _ {S P : Type 0} (m : Semantics S P) (from to : S) (all : List ℕ) where
-  by_tests : (bad few : Bool) → has_bad (items_within all) ≡ bad → nat_le (length all) MOST_BYTES ≡ few
-      → status_of all ≡ cond bad BadScript (cond few Done TooLong)
-  by_tests bad few is are = ap (λ b. cond b BadScript (cond (nat_le (length all) MOST_BYTES) Done TooLong)) is
-      ∙ ap (λ f. cond bad BadScript (cond f Done TooLong)) are
-
-  row_status : (left : List ℕ) (call : Effects) (st : Status) → IsStatusRow m st from all left call to → AnswersAll st → st ≡ status_of all
-  row_status left call Done row is = sym (by_tests false true row.2 (le-leb (length all) MOST_BYTES row.0))
-  row_status left call BadScript row is = sym (by_tests true (nat_le (length all) MOST_BYTES) row.0 refl)
-  row_status left call TooLong row is = sym (by_tests false false row.1 (lt-leb (length all) MOST_BYTES row.0))
-  row_status left call Words row is = absurd is
-  row_status left call ReadFault row is = absurd is
-  row_status left call WriteFault row is = absurd is
-  row_status left call OutOfMemory row is = absurd is
-  row_status left call BadImage row is = absurd is
-
-  met_status : (call : Effects) → call.had ≡ Some all → MeetsOutcome m from call to → AnswersAll call.status → call.status ≡ status_of all
-  met_status call shown met is = (let row = observed_row m from to call all shown met in row_status row.0 call call.status row.1 is)
 
 -- if a claim leaves one list of replies, one text is printed
 one_text : (Claim : List Item → List Reply → Type 0) (all : List ℕ) (one two : TopCall)
@@ -225,11 +197,7 @@ load_done : (st : Status) (from to : RunState) (call : Effects) → AnswersAll s
 load_done Done from to call all ends = refl
 load_done BadScript from to call all ends = absurd ends
 load_done TooLong from to call all ends = absurd ends
-load_done Words from to call all ends = absurd all
-load_done ReadFault from to call all ends = absurd all
-load_done WriteFault from to call all ends = absurd all
-load_done OutOfMemory from to call all ends = absurd all
-load_done BadImage from to call all ends = absurd all
+load_done _ from to call all ends = absurd all
 
 load_printed : (all : List ℕ) (call : TopCall) → AnswersWhole all call → Loads call.old call.status call.new
     → PrintsBytes LoadsAs call.old.source.rest (effects_of call.old call.status call.new) → PrintedLoad all call
@@ -267,22 +235,14 @@ saved_text : (st : Status) (before after : Option (List ℕ)) (to : RunState) �
 saved_text Done before after to all put = put
 saved_text BadScript before after to all put = put ∙ appended_none before
 saved_text TooLong before after to all put = put ∙ appended_none before
-saved_text Words before after to all put = absurd all
-saved_text ReadFault before after to all put = absurd all
-saved_text WriteFault before after to all put = absurd all
-saved_text OutOfMemory before after to all put = absurd all
-saved_text BadImage before after to all put = absurd all
+saved_text _ before after to all put = absurd all
 
 -- a script whose items were all answered ended as the call did
 script_alike : (st : Status) → AnswersAll st → script_status st ≡ st
 script_alike Done all = refl
 script_alike BadScript all = refl
 script_alike TooLong all = refl
-script_alike Words all = absurd all
-script_alike ReadFault all = absurd all
-script_alike WriteFault all = absurd all
-script_alike OutOfMemory all = absurd all
-script_alike BadImage all = absurd all
+script_alike _ all = absurd all
 
 -- the moving manager that a mode makes, and a new session
 abbrev made : RunState
@@ -364,11 +324,7 @@ bench_ended : (st : Status) (seed count : ℕ) (from to : RunState) (before afte
 bench_ended Done seed count from to before after ends all = refl
 bench_ended BadScript seed count from to before after ends all = absurd ends.written
 bench_ended TooLong seed count from to before after ends all = absurd ends.written
-bench_ended Words seed count from to before after ends all = absurd all
-bench_ended ReadFault seed count from to before after ends all = absurd all
-bench_ended WriteFault seed count from to before after ends all = absurd all
-bench_ended OutOfMemory seed count from to before after ends all = absurd all
-bench_ended BadImage seed count from to before after ends all = absurd all
+bench_ended _ seed count from to before after ends all = absurd all
 
 bench_status : (choice : Choice) (call : TopCall) → AnswersAll call.status → Benches choice call.old call.status call.new → call.status ≡ Done
 bench_status choice call all did = bench_ended call.status choice.seed choice.count (run_at fresh_session (closed_state choice.kind)) did.end
@@ -436,22 +392,14 @@ as_input : (st : Status) → AnswersAll st → AnswersInput st
 as_input Done all = all
 as_input BadScript all = all
 as_input TooLong all = all
-as_input Words all = absurd all
-as_input ReadFault all = absurd all
-as_input WriteFault all = absurd all
-as_input OutOfMemory all = absurd all
-as_input BadImage all = absurd all
+as_input _ all = absurd all
 
 -- a call that answered all items did what its arguments choose
 did_chosen : (words : List Text) (old : CallState) (st : Status) (new : CallState) → EndsWell words old st new → AnswersAll st → DoesChosen words old st new
 did_chosen words old Done new ends all = ends
 did_chosen words old BadScript new ends all = ends
 did_chosen words old TooLong new ends all = ends
-did_chosen words old Words new ends all = absurd all
-did_chosen words old ReadFault new ends all = absurd all
-did_chosen words old WriteFault new ends all = absurd all
-did_chosen words old OutOfMemory new ends all = absurd all
-did_chosen words old BadImage new ends all = absurd all
+did_chosen words old _ new ends all = absurd all
 
 module _ (words : List Text) (choice : Choice) (chosen : Chooses words choice) (all : List ℕ) (call : TopCall) (keeps : KeepsContract words call)
     (whole : AnswersWhole all call) where
@@ -509,9 +457,4 @@ pub closed_leave_none : (mode : Mode) (choice : Choice) (kinds : List Kind) → 
 closed_leave_none Run choice kinds =
     chosen_promises choice.kind (map closed_state kinds) (first_of_kind choice.kind (map closed_state kinds)) (each_promises kinds)
 closed_leave_none Compare choice kinds = each_promises kinds
-closed_leave_none Slice choice kinds = tt
-closed_leave_none Bench choice kinds = tt
-closed_leave_none Large choice kinds = tt
-closed_leave_none Save choice kinds = tt
-closed_leave_none Load choice kinds = tt
-closed_leave_none Quota choice kinds = tt
+closed_leave_none _ choice kinds = tt

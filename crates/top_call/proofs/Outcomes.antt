@@ -1,23 +1,17 @@
 -- For each mode: from the contract of the function that it calls (`play_script`, `run_bench`, `save_script`, `load_script`) to
 -- `EndsWithCause`: what the mode did, and the cause of its status.
-use Rattle.std.proofs.Common.{◌≡◌, ◌<◌, ◌⊎◌, ◌∙◌, arith, ℕ, Bool, List, Option, Some, None, refl, ap, sym, subst, length, get_or, set, map, inl, inr}
+use Rattle.std.proofs.Common.{◌≡◌, ◌<◌, ◌⊎◌, ◌∙◌, arith, ℕ, Bool, List, Option, Some, None, refl, ap, sym, subst, length, get_or, set, map, inl, inr, is_some}
 use Rattle.std.proofs.lemmas.List.{get_or-map, length-map, map-set}
-use Rattle.std.specs.Prelude.{is_some}
-use Rattle.cf_base.specs.declared.kind.Kind.{Kind}
-use Rattle.cf_base.specs.declared.kind.Kind.TheVariants.{Moving}
-use Rattle.cf_base.specs.declared.status.Status.{Status}
+use Rattle.run_model.specs.Terms.{closed_state, fresh_session, HeapState, Kind, Moving, RunState, SessionState, SinkFailsIf, SinkState, SourceFailsIf, SourceState, Status}
 use Rattle.cf_base.specs.declared.status.Status.TheVariants.{Done, Words, BadScript, ReadFault, WriteFault, OutOfMemory, TooLong, BadImage}
-use Rattle.cf_io.specs.Feeds.{SinkFailsIf, SinkState, SourceFailsIf, SourceState}
 use Rattle.cf_model.specs.Ordered.{KeepsPromise}
-use Rattle.cf_model.specs.State.{HeapState, closed_state}
 use Rattle.cf_session.specs.Apply.{run_at}
-use Rattle.run_model.specs.Sessions.{RunState, SessionState, fresh_session}
 use Rattle.script_loop.specs.OneManager.{one_manager}
 use Rattle.image_run.specs.Loads.{EndsLoad}
 use Rattle.image_run.specs.Saves.{EndsSave}
 use Rattle.script_loop.specs.ScriptOutcome.{Effects, HasCauses, MeetsOutcome, is_read_fault, is_write_fault}
 use Rattle.script_loop.specs.Semantics.{Semantics}
-use Rattle.top_call.proofs.Fresh.{begun_side_by_side}
+use Rattle.top_call.proofs.Begun.{begun_side_by_side}
 use Rattle.top_call.proofs.FirstOfKindLemmas.{chosen_first, chosen_kinds, chosen_none, chosen_orders, first_within, with_first, with_none}
 use Rattle.top_call.specs.FirstOfKind.{chosen_manager, first_of_kind, with_chosen_manager}
 use Rattle.top_call.specs.SideBySide.{AreFresh, SideBySide, side_by_side_at, many_managers}
@@ -29,13 +23,7 @@ use Rattle.top_call.specs.Outcomes.{Benches, Compares, EndsWithCause, CallState,
 or_lacks : (Does : CallState → Status → CallState → Type 0) (old : CallState) (st : Status) (new : CallState)
     → (st ≡ OutOfMemory → new.sink.written ≡ old.sink.written) → Does old st new → OrLacks Does old st new
 or_lacks Does old OutOfMemory new silent done = (silent refl, inr done)
-or_lacks Does old Words new silent done = done
-or_lacks Does old Done new silent done = done
-or_lacks Does old BadScript new silent done = done
-or_lacks Does old ReadFault new silent done = done
-or_lacks Does old WriteFault new silent done = done
-or_lacks Does old TooLong new silent done = done
-or_lacks Does old BadImage new silent done = done
+or_lacks Does old _ new silent done = done
 
 -- `EndsWithCause`, if the mode's record `Does` holds, the status has its causes, and the managers' kinds and promises of an order are kept
 pub ends_of : (Does : CallState → Status → CallState → Type 0) (s : SourceState) (k : SinkState) (hs : List HeapState) (st : Status) (s' : SourceState)
@@ -117,11 +105,7 @@ bench_status : (st : Status) (seed count : ℕ) (from to : RunState) (before aft
 bench_status Done seed count from to before after done = inl refl
 bench_status WriteFault seed count from to before after done = inr (inl refl)
 bench_status OutOfMemory seed count from to before after done = inr (inr (refl, done.unwritten))
-bench_status Words seed count from to before after done = absurd done.written
-bench_status BadScript seed count from to before after done = absurd done.written
-bench_status ReadFault seed count from to before after done = absurd done.written
-bench_status TooLong seed count from to before after done = absurd done.written
-bench_status BadImage seed count from to before after done = absurd done.written
+bench_status _ seed count from to before after done = absurd done.written
 
 -- mode `bench`
 module _ (choice : Choice) (k k' : SinkState) (st : Status) (session : SessionState) (old : HeapState) (end : RunState) (fresh : session ≡ fresh_session)

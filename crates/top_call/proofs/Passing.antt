@@ -1,19 +1,103 @@
--- For `answer_each`, the loop that does one command on each manager: after i passes the first i runs have done it and the others are unchanged; at the end
--- all have, or one reply was cut.
-use Rattle.std.proofs.Common.{◌≡◌, ◌++◌, ◌∙◌, ◌+◌, ◌<◌, ◌≤◌, ℕ, List, [], ◌∷◌, refl, sym, ap, subst, inl, inr, length, set, get_or, map, append_assoc}
-use Rattle.std.proofs.Common.{append-nil, length-append, arith}
-use Rattle.std.proofs.lemmas.List.{get_or_at, length-map, set_at, length_push}
+-- For mode `compare`: one command on each of many managers.
+use Rattle.std.proofs.Common.{◌≡◌, ◌∙◌, ◌<◌, ℕ, suc, zero, List, [], ◌∷◌, refl, sym, ap, length, set, get_or, map, arith, ◌++◌, append_assoc, ◌+◌, ◌≤◌, subst, inl, inr, append-nil, length-append, Option, Result, Ok, Err, is_some}
+use Rattle.std.proofs.lemmas.List.{get_or-map, length-map, map-set, set-get_or, get_or_at, set_at, length_push}
+use Rattle.run_model.specs.Terms.{HeapState, SessionState, appended, Command, IsGoing, Kind, led, Reply, RunState, Failed}
+use Rattle.cf_session.specs.Apply.{run_at}
+use Rattle.top_call.specs.SideBySide.{zipped, lead_of, named_lines, EachInPart, EachTurn, SideBySide, many_managers, runs_of}
+use Rattle.run_model.proofs.CallerLemmas.{step_same}
+use Rattle.run_model.specs.Answering.{IsAnswered, IsCutShort, Moment}
+use Rattle.run_model.specs.Runs.{IsCommandStep}
+use Rattle.top_call.specs.Progress.{TurnNamed, TurnNamedInPart, Swept, AnswersWith}
 use Rattle.cf_io.proofs.CallerLemmas.{led-append}
-use Rattle.run_model.specs.Texts.{Reply, led}
 use Rattle.std.specs.List.{All}
 use Rattle.std.proofs.lemmas.List.Elements.{All-set}
-use Rattle.cf_model.specs.State.{HeapState}
-use Rattle.script_reader.specs.declared.command.Command.{Command}
-use Rattle.run_model.specs.Sessions.{IsGoing, RunState, SessionState}
-use Rattle.cf_session.specs.Apply.{run_at}
-use Rattle.top_call.specs.Progress.{Swept, TurnNamed, TurnNamedInPart}
-use Rattle.top_call.specs.SideBySide.{EachInPart, EachTurn, named_lines, zipped}
-use Rattle.top_call.proofs.Zipping.{runs_read, runs_set, zipped_length}
+use Rattle.script_loop.specs.Semantics.{AnswersBy, snapshot}
+
+-- A list of sessions and a list of managers as a list of runs, one for each index (`zipped`): its length, the run at an index, and what replacing one
+-- session and manager changes.
+
+-- replacing session i and manager i replaces run i
+pub zipped_set : (ss : List SessionState) (hs : List HeapState) (i : ℕ) (s : SessionState) (h : HeapState)
+    → zipped (set ss i s) (set hs i h) ≡ set (zipped ss hs) i (run_at s h)
+zipped_set [] hs i s h = refl
+zipped_set (t ∷ ss) [] zero s h = refl
+zipped_set (t ∷ ss) [] (suc i) s h = refl
+zipped_set (t ∷ ss) (k ∷ hs) zero s h = refl
+zipped_set (t ∷ ss) (k ∷ hs) (suc i) s h = ap (λ l. run_at t k ∷ l) (zipped_set ss hs i s h)
+
+-- the run at i
+pub zipped_read : (ss : List SessionState) (hs : List HeapState) (i : ℕ) (s : SessionState) (h : HeapState) → i < length ss → i < length hs
+    → s ≡ get_or ss i s → h ≡ get_or hs i h
+    → run_at s h ≡ get_or (zipped ss hs) i (run_at s h)
+zipped_read [] hs i s h lt lt' is is' = absurd (omega (arith, lt))
+zipped_read (t ∷ ss) [] i s h lt lt' is is' = absurd (omega (arith, lt'))
+zipped_read (t ∷ ss) (k ∷ hs) zero s h lt lt' is is' = ap (λ t. run_at t h) is ∙ ap (λ k. run_at t k) is'
+zipped_read (t ∷ ss) (k ∷ hs) (suc i) s h lt lt' is is' = zipped_read ss hs i s h (omega (arith, lt)) (omega (arith, lt')) is is'
+
+pub zipped_length : (ss : List SessionState) (hs : List HeapState) → length ss ≡ length hs → length (zipped ss hs) ≡ length hs
+zipped_length [] [] e = refl
+zipped_length [] (k ∷ hs) e = cc
+zipped_length (t ∷ ss) [] e = refl
+zipped_length (t ∷ ss) (k ∷ hs) e = ap suc (zipped_length ss hs (omega (arith, e)))
+
+-- for managers, by their states: replacing session i and manager i replaces run i
+module _ {X : Type 0} (f : X → HeapState) (ss : List SessionState) (ms : List X) (i : ℕ) (s t : SessionState) (m n : X) where
+  pub runs_set : zipped (set ss i t) (map f (set ms i n)) ≡ set (zipped ss (map f ms)) i (run_at t (f n))
+  runs_set = ap (λ l. zipped (set ss i t) l) (map-set f ms i n) ∙ zipped_set ss (map f ms) i t (f n)
+
+  pub runs_read : i < length ss → i < length ms → s ≡ get_or ss i s → m ≡ get_or ms i m → run_at s (f m) ≡ get_or (zipped ss (map f ms)) i (run_at s (f m))
+  runs_read lt lt' is is' =
+      let inside : i < length (map f ms) = omega (arith, length-map ms f, lt') in
+      zipped_read ss (map f ms) i s (f m) lt inside is (ap f is' ∙ sym (get_or-map f ms i m (f m) lt'))
+
+-- if g has the same value for an entry and the one that replaces it, the list of values of g stays the same
+pub same_seen : {X Y : Type 0} (g : X → Y) (ms : List X) (i : ℕ) (m n : X) → i < length ms → m ≡ get_or ms i m → g n ≡ g m → map g (set ms i n) ≡ map g ms
+same_seen g ms i m n lt is same =
+    map-set g ms i n ∙ ap (λ y. set (map g ms) i y) (same ∙ ap g is ∙ sym (get_or-map g ms i m (g m) lt)) ∙ set-get_or (map g ms) i (g m)
+
+pub mapped_twice : {X Y Z : Type 0} (g : Y → Z) (f : X → Y) (xs : List X) → map g (map f xs) ≡ map (λ x. g (f x)) xs
+mapped_twice g f [] = refl
+mapped_twice g f (x ∷ xs) = ap (λ l. g (f x) ∷ l) (mapped_twice g f xs)
+
+-- For `answer_one`, which does a command on one of many managers: with the name of the manager's kind as lead, each line of the reply, whole or cut, begins
+-- with that name.
+
+-- lines with a kind's lead are the bytes of the lines with its name before each
+led_named : (kind : Kind) (reply : Reply) → led (lead_of kind) reply ≡ led [] (named_lines kind reply)
+led_named kind [] = refl
+led_named kind (line ∷ rest) = ap (λ l. l ++ led (lead_of kind) rest) (sym (append_assoc (lead_of kind) line (10 ∷ [])))
+    ∙ ap (λ l. ((lead_of kind ++ line) ++ 10 ∷ []) ++ l) (led_named kind rest)
+
+pub named_whole : (old : Moment) (c : Command) (lead : List ℕ) (new : Moment) → lead ≡ lead_of old.run.heap.kind
+    → IsAnswered old (record { command = c; lead = lead }) new
+    → (reply : Reply) × TurnNamed old.run c reply new.run × (new.written ≡ appended old.written (led [] reply))
+named_whole old c lead new is a = (
+  named_lines old.run.heap.kind a.reply,
+  record { own = a.reply; turn = a.turn; reply_is = refl },
+  a.written ∙ ap (λ l. appended old.written (led l a.reply)) is ∙ ap (λ l. appended old.written l) (led_named old.run.heap.kind a.reply),
+)
+
+pub named_cut : (old : Moment) (c : Command) (lead : List ℕ) (new : Moment) → lead ≡ lead_of old.run.heap.kind
+    → IsCutShort old (record { command = c; lead = lead }) new
+    → (out : List ℕ) × TurnNamedInPart old.run c out new.run × (new.written ≡ appended old.written out)
+named_cut old c lead new is a = (
+  a.front,
+  record {
+    own = a.reply;
+    lost = a.lost;
+    turn = a.turn;
+    cut = sym (led_named old.run.heap.kind a.reply) ∙ ap (λ l. led l a.reply) (sym is)
+        ∙ a.cut;
+  },
+  a.written,
+)
+
+-- a command leaves the kind of the manager as it is
+pub turn_kind : (old new : RunState) (c : Command) (reply : Reply) → IsGoing old → IsCommandStep old c reply new → new.heap.kind ≡ old.heap.kind
+turn_kind old new c reply going turn = (step_same old new c reply going.rules turn.step).kind
+
+-- For `answer_each`, the loop that does one command on each manager: after i passes the first i runs have done it and the others are unchanged; at the end
+-- all have, or one reply was cut.
 
 each_joined : (xs ys : List RunState) (c : Command) (t u : Reply) (ps qs : List RunState) → EachTurn xs c t ps → EachTurn ys c u qs
     → EachTurn (xs ++ ys) c (t ++ u) (ps ++ qs)
@@ -137,3 +221,18 @@ pub seats_whole : {X : Type 0} (f : X → HeapState) (olds : List RunState) (ss 
     → Swept olds i c reply (zipped ss (map f ms)) → EachTurn olds c reply (zipped ss (map f ms))
 seats_whole f olds ss ms i c reply count le swept =
     swept_whole olds (zipped ss (map f ms)) i c reply (omega (arith, le, zipped_length ss (map f ms) (count ∙ sym (length-map ms f)), length-map ms f)) swept
+
+-- For mode `compare`: what `answer_each`, one command on each manager, did is what the mode handler claims of `answer`; and it stays the same which managers
+-- promise an order.
+
+pub each_answers : {T : Type 0} (old new : SideBySide) (w w' : Option (List ℕ)) (c : Command) (r : Result T Failed)
+    → AnswersWith EachTurn EachInPart (runs_of old) w c r (runs_of new) w'
+    → AnswersBy many_managers (snapshot old w) c r (snapshot new w')
+each_answers old new w w' c (Ok u) (reply, turns, written) = record { reply = reply; turns = turns; written = written }
+each_answers old new w w' c (Err e) (out, turns, written) = record { out = out; turns = turns; written = written }
+
+-- the promises of an order stay, by what contracts see of the managers
+pub promises_seen : {X : Type 0} (f : X → HeapState) (xs ys : List X) → map (λ x. is_some (f x).order) ys ≡ map (λ x. is_some (f x).order) xs
+    → map (λ h. is_some h.order) (map f ys) ≡ map (λ h. is_some h.order) (map f xs)
+promises_seen f xs ys same =
+    mapped_twice (λ (h : HeapState). is_some h.order) f ys ∙ same ∙ sym (mapped_twice (λ (h : HeapState). is_some h.order) f xs)

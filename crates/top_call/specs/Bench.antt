@@ -3,21 +3,15 @@
 use Rattle.std.specs.Prelude.{◌≡◌, ◌++◌, ℕ, Bool, true, false, List, [], ◌∷◌, Option, Some, None, map, codes}
 use Rattle.std.specs.List.{count_by}
 use Rattle.top_call.specs.declared.figures.BenchFigures.{BenchFigures}
-use Rattle.cf_base.specs.Settings.{Profile, profile_from}
-use Rattle.cf_base.specs.declared.kind.Kind.{Kind}
-use Rattle.cf_base.specs.declared.status.Status.{Status}
+use Rattle.run_model.specs.Terms.{appended, asks, Command, Item, Kind, led, Profile, Reply, RunState, said, starts, Status, totals_in, with_number}
+use Rattle.cf_base.specs.Settings.{profile_from}
 use Rattle.cf_base.specs.declared.status.Status.TheVariants.{Done, WriteFault, OutOfMemory}
-use Rattle.cf_io.specs.Feeds.{WritesPrefix, appended}
-use Rattle.cf_io.specs.Texts.{Reply, led, said, with_number}
-use Rattle.cf_model.specs.Answers.{totals_in}
+use Rattle.cf_io.specs.Feeds.{WritesPrefix}
 use Rattle.cf_session.specs.Apply.{outcome_of, LacksOne}
 use Rattle.cf_session.specs.declared.outcome.Outcome.{Outcome}
 use Rattle.cf_session.specs.declared.outcome.Outcome.TheVariants.{Good, Refused}
 use Rattle.generator.specs.Generated.{generated}
 use Rattle.run_model.specs.Runs.{Run}
-use Rattle.run_model.specs.Sessions.{RunState}
-use Rattle.script_reader.specs.Items.{Item, asks, starts}
-use Rattle.script_reader.specs.declared.command.Command.{Command}
 
 -- true if the outcome of a command is `Good` (a reply `ok`, or the bytes of a read)
 abbrev pub is_good : Outcome → Bool

@@ -1,9 +1,7 @@
 -- For a mode that answers a script: that its output is a reply to each item, of which a given claim holds (`PrintsAs`). And that the bytes of a source are a
 -- heap image (`HoldsImage`).
 use Rattle.std.specs.Prelude.{◌≡◌, ⊤, ℕ, List, [], Option, Some, None}
-use Rattle.cf_io.specs.Feeds.{appended}
-use Rattle.script_reader.specs.Items.{Item}
-use Rattle.run_model.specs.Texts.{Reply, text_of}
+use Rattle.run_model.specs.Terms.{appended, Item, Reply, text_of}
 use Rattle.script_loop.specs.ScriptOutcome.{Effects, items_within}
 use Rattle.heap_image.specs.Decoded.{IsHeapImage}
 

@@ -1,9 +1,7 @@
 -- The first manager of a kind in a list of managers: the one that mode `run` uses.
 use Rattle.std.specs.Prelude.{ℕ, Bool, true, false, List, Option, Some, None, slice_index_or, slice_set}
 use Rattle.std.specs.List.{position}
-use Rattle.cf_base.specs.declared.kind.Kind.{Kind}
-use Rattle.cf_base.specs.declared.kind.Kind.TheVariants.{Moving, NonMoving, Tlsf, HalfFit}
-use Rattle.cf_model.specs.State.{HeapState, closed_state}
+use Rattle.run_model.specs.Terms.{closed_state, HalfFit, HeapState, Kind, Moving, NonMoving, Tlsf}
 
 -- whether the two kinds are the same
 abbrev pub same_kind : Kind → Kind → Bool

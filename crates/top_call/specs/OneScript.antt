@@ -1,22 +1,15 @@
 -- For the laws of `cf_main`: conditions under which the arguments (here `words`) and the script determine the output of a call.
-use Rattle.std.specs.Prelude.{◌≡◌, ⊤, ℕ, IsSome, List, [], ◌∷◌, Option, None, Some, if◌then◌else◌, length, map, nat_le}
+use Rattle.std.specs.Prelude.{◌≡◌, ⊤, ℕ, IsSome, List, [], ◌∷◌, Option, None, Some, map}
 use Rattle.std.specs.List.{All}
 use Rattle.clap.specs.Words.{Text}
-use Rattle.cf_base.specs.declared.kind.Kind.{Kind}
-use Rattle.cf_base.specs.declared.status.Status.{Status}
-use Rattle.cf_base.specs.declared.status.Status.TheVariants.{Done, BadScript, TooLong}
-use Rattle.cf_io.specs.Feeds.{appended}
-use Rattle.cf_model.specs.State.{HeapState}
+use Rattle.run_model.specs.Terms.{appended, HeapState, Item, Kind, Reply, RunState, Status, text_of}
 use Rattle.command_line.specs.declared.choice.Choice.{Choice}
 use Rattle.command_line.specs.declared.choice.Mode.{Mode}
 use Rattle.command_line.specs.declared.choice.Mode.TheVariants.{Run, Compare}
-use Rattle.script_reader.specs.Items.{Item}
 use Rattle.run_model.specs.Runs.{Run as RunOver}
-use Rattle.run_model.specs.Sessions.{RunState}
-use Rattle.run_model.specs.Texts.{Reply, text_of}
 use Rattle.script_laws.specs.OneOutput.{IsOrdered}
-use Rattle.script_loop.specs.Consequences.{AnswersAll}
-use Rattle.script_loop.specs.ScriptOutcome.{MOST_BYTES, has_bad, items_within}
+use Rattle.script_loop.specs.Consequences.{AnswersAll, status_of}
+use Rattle.script_loop.specs.ScriptOutcome.{items_within}
 use Rattle.top_call.specs.FirstOfKind.{chosen_manager}
 use Rattle.top_call.specs.Outcomes.{CallState, kinds_in, orders_in}
 use Rattle.top_call.specs.OwnRuns.{bare_reply, interleaved_replies}
@@ -50,10 +43,6 @@ abbrev pub LeavesNoChoice : Mode → Choice → List HeapState → Type 0
 LeavesNoChoice Run choice managers = PromisesOrder (chosen_manager choice.kind managers)
 LeavesNoChoice Compare choice managers = All PromisesOrder managers
 LeavesNoChoice mode choice managers = ⊤
-
--- the status of a call that answered each item of these bytes
-abbrev pub status_of : List ℕ → Status
-status_of all = if has_bad (items_within all) then BadScript else (if nat_le (length all) MOST_BYTES then Done else TooLong)
 
 -- one reply for each item of the bytes `all` was printed, `Claim` holds of the items and these replies, and the status follows from the bytes
 pub record PrintsReplies (Claim : List Item → List Reply → Type 0) (all : List ℕ) (call : TopCall) : Type 0 where

@@ -1,17 +1,12 @@
 -- What a call of each mode of this crate did. A record for each mode relates three things: the source, the sink and the
 -- managers before the call (`old`), its status, and the same devices and managers after it (`new`).
 use Rattle.std.specs.Prelude.{◌≡◌, ◌⊎◌, Bool, IsSome, List, None, is_some, map}
-use Rattle.cf_base.specs.declared.kind.Kind.{Kind}
-use Rattle.cf_base.specs.declared.kind.Kind.TheVariants.{Moving}
-use Rattle.cf_base.specs.declared.status.Status.{Status}
+use Rattle.run_model.specs.Terms.{closed_state, fresh_session, HeapState, Kind, Moving, RunState, SinkState, SourceState, Status}
 use Rattle.cf_base.specs.declared.status.Status.TheVariants.{Done, OutOfMemory}
-use Rattle.cf_io.specs.Feeds.{SinkState, SourceState}
 use Rattle.cf_io.specs.declared.sink.Sink as sink
 use Rattle.cf_io.specs.declared.source.Source as source
 use Rattle.cf_model.specs.Ordered.{KeepsPromise}
-use Rattle.cf_model.specs.State.{HeapState, closed_state}
 use Rattle.command_line.specs.declared.choice.Choice.{Choice}
-use Rattle.run_model.specs.Sessions.{RunState, fresh_session}
 use Rattle.top_call.specs.Bench.{EndsBench}
 use Rattle.cf_session.specs.Apply.{run_at}
 use Rattle.script_loop.specs.OneManager.{one_manager}

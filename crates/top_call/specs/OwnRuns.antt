@@ -1,12 +1,7 @@
 -- A run of many managers side by side as separate runs, one for each manager, whose replies are interleaved. A list of kinds has the kind of each manager.
 use Rattle.std.specs.Prelude.{◌≡◌, ◌++◌, ◌⊎◌, ⊤, ℕ, List, [], ◌∷◌, Option, Some, None, map}
-use Rattle.script_reader.specs.Items.{Item, asks, bad, starts}
-use Rattle.script_reader.specs.declared.command.Command.{Command}
-use Rattle.run_model.specs.Texts.{Reply, bad_line, led, said}
-use Rattle.cf_base.specs.declared.kind.Kind.{Kind}
-use Rattle.cf_model.specs.State.{HeapState}
+use Rattle.run_model.specs.Terms.{asks, bad, bad_line, Command, HeapState, Item, Kind, led, Reply, RunState, said, starts}
 use Rattle.run_model.specs.Runs.{Run}
-use Rattle.run_model.specs.Sessions.{RunState}
 use Rattle.script_laws.specs.Headline.{MeetsHeadline}
 use Rattle.top_call.specs.SideBySide.{named_lines}
 

@@ -1,9 +1,6 @@
 -- One command on many managers, after some of them have done it: what `answer_one` and the loop of `answer_each` claim. No public clause cites this module.
 use Rattle.std.specs.Prelude.{◌≡◌, ◌++◌, ℕ, List, [], Option, Result, Ok, Err, length}
-use Rattle.cf_io.specs.Feeds.{appended}
-use Rattle.run_model.specs.Texts.{Reply, led}
-use Rattle.script_reader.specs.declared.command.Command.{Command}
-use Rattle.run_model.specs.Sessions.{RunState}
+use Rattle.run_model.specs.Terms.{appended, Command, led, Reply, RunState}
 use Rattle.run_model.specs.Runs.{IsCommandStep}
 use Rattle.top_call.specs.SideBySide.{EachTurn, named_lines}
 

@@ -2,19 +2,14 @@
 -- (`many_managers`).
 use Rattle.std.specs.Prelude.{◌≡◌, ◌++◌, ◌⊎◌, ℕ, Bool, List, [], ◌∷◌, codes, is_some, length, map}
 use Rattle.std.specs.List.{All}
-use Rattle.run_model.specs.Texts.{Reply, led}
+use Rattle.run_model.specs.Terms.{Command, fresh_session, HeapState, IsGoing, Kind, led, Profile, Reply, RunState, SessionState}
 use Rattle.cf_base.specs.Kind.{kind_name}
-use Rattle.cf_base.specs.Settings.{Profile}
-use Rattle.cf_base.specs.declared.kind.Kind.{Kind}
 use Rattle.cf_model.specs.Loops.{Opens, Stops}
-use Rattle.cf_model.specs.State.{HeapState}
 use Rattle.cf_model.specs.Steps.{IsClosed}
 use Rattle.cf_base.specs.declared.settings.Settings.{Settings}
 use Rattle.cf_session.specs.Apply.{run_at}
-use Rattle.script_reader.specs.declared.command.Command.{Command}
 use Rattle.run_model.specs.Runs.{BeginsOne, IsCommandStep}
 use Rattle.script_loop.specs.Semantics.{Semantics}
-use Rattle.run_model.specs.Sessions.{IsGoing, RunState, SessionState, fresh_session}
 
 -- a list of managers, and a list with a session for each, in the same order
 pub record SideBySide : Type 0 where

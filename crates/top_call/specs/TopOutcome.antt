@@ -1,10 +1,7 @@
 -- The contract of `cf_main`: what a call did, and what it printed, by the mode that the arguments (here `words`) choose.
 use Rattle.std.specs.Prelude.{◌≡◌, ⊤, ℕ, List, Option, Some, None}
-use Rattle.std.specs.FinMap.{empty}
+use Rattle.run_model.specs.Terms.{empty, Kind, Moving, Status}
 use Rattle.clap.specs.Words.{Text}
-use Rattle.cf_base.specs.declared.kind.Kind.{Kind}
-use Rattle.cf_base.specs.declared.kind.Kind.TheVariants.{Moving}
-use Rattle.cf_base.specs.declared.status.Status.{Status}
 use Rattle.cf_base.specs.declared.status.Status.TheVariants.{Words, BadImage}
 use Rattle.command_line.specs.Choices.{AreRefused, Chooses}
 use Rattle.command_line.specs.declared.choice.Choice.{Choice}

@@ -2,12 +2,9 @@
 //! line after the name of the manager's kind.
 ghost use Rattle.std.specs.Prelude.{◌≡◌, ◌≤◌, is_some, length, map};
 ghost use Rattle.std.specs.List.{All};
-ghost use Rattle.cf_io.specs.Feeds.{SinkFailsIf};
+ghost use Rattle.run_model.specs.Terms.{IsGoing, IsWellFormed, owned_command, SinkFailsIf};
 ghost use Rattle.cf_model.specs.Ordered.{KeepsPromise};
 ghost use Rattle.cf_session.specs.Apply.{run_at};
-ghost use Rattle.script_reader.specs.Commands.{IsWellFormed};
-ghost use Rattle.script_reader.specs.Owned.{owned_command};
-ghost use Rattle.run_model.specs.Sessions.{IsGoing};
 ghost use Rattle.top_call.specs.SideBySide.{EachInPart, EachTurn, lead_of, zipped};
 ghost use Rattle.top_call.specs.Progress.{AnswersNamed, AnswersWith};
 ghost use Rattle.std.specs.Result.{is_err};

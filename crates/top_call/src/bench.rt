@@ -4,11 +4,10 @@ ghost use Rattle.script_loop.specs.ScriptOutcome.{is_write_fault};
 ghost use Rattle.top_call.specs.Outcomes.{Benches, EndsBeside};
 ghost use Rattle.std.specs.Prelude.{◌≡◌};
 ghost use Rattle.top_call.specs.Bench.{EndsBench, IsAppliedTo};
-ghost use Rattle.cf_io.specs.Feeds.{SinkFailsIf, SourceState};
+ghost use Rattle.run_model.specs.Terms.{fresh_session, IsGoing, SinkFailsIf, SourceState};
 ghost use Rattle.cf_model.specs.Ordered.{KeepsPromise};
 ghost use Rattle.cf_session.specs.Apply.{run_at};
 ghost use Rattle.generator.specs.Generated.{generated};
-ghost use Rattle.run_model.specs.Sessions.{IsGoing, fresh_session};
 
 use crate::figures::BenchFigures;
 use crate::tally::Tally;

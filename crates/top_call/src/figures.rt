@@ -1,8 +1,7 @@
 //! The numbers that mode `bench` prints, and the line in which it prints them.
 ghost use Rattle.std.specs.Prelude.{◌≡◌, []};
 ghost use Rattle.top_call.specs.Bench.{IsWritten, bench_line};
-ghost use Rattle.cf_io.specs.Feeds.{SinkFailsIf};
-ghost use Rattle.cf_io.specs.Texts.{led, said};
+ghost use Rattle.run_model.specs.Terms.{led, said, SinkFailsIf};
 ghost use Rattle.script_loop.specs.ScriptOutcome.{is_write_fault};
 
 use cf_base::Status;

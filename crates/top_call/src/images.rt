@@ -3,8 +3,7 @@
 //! `run` and `compare` use too. So the compiler makes the session's code for an unboxed manager only in mode
 //! `bench`, and inlines it there.
 ghost use Rattle.std.specs.Prelude.{◌≡◌};
-ghost use Rattle.cf_base.specs.declared.kind.Kind.TheVariants.{Moving};
-ghost use Rattle.cf_model.specs.State.{closed_state};
+ghost use Rattle.run_model.specs.Terms.{closed_state, Moving};
 ghost use Rattle.top_call.specs.Outcomes.{EndsBeside, Loads, Saves};
 
 use cf_base::Status;

@@ -1,7 +1,6 @@
 //! Writes the reply of many managers to the `heap` line: a line with `ok` for each.
 ghost use Rattle.std.specs.Prelude.{◌++◌, [], codes, map, ◌≡◌};
-ghost use Rattle.cf_io.specs.Feeds.{Writes};
-ghost use Rattle.run_model.specs.Texts.{led};
+ghost use Rattle.run_model.specs.Terms.{led, Writes};
 ghost use Rattle.top_call.specs.SideBySide.{lead_of, opened_reply};
 
 use crate::answer::lead_bytes;

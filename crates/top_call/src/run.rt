@@ -1,7 +1,6 @@
 //! Mode `run`: runs a script on the first manager of the chosen kind, or on a new one if none is given.
 ghost use Rattle.std.specs.Prelude.{◌≡◌};
-ghost use Rattle.cf_model.specs.State.{closed_state};
-ghost use Rattle.run_model.specs.Sessions.{fresh_session};
+ghost use Rattle.run_model.specs.Terms.{closed_state, fresh_session};
 ghost use Rattle.top_call.specs.Outcomes.{EndsWithCause, RunsChosen, RunsOwn, seen};
 
 use crate::first_of_kind::first_of;

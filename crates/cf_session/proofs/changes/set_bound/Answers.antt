@@ -1,5 +1,4 @@
-use Rattle.std.proofs.Common.{arith, sym}
-use Rattle.std.specs.Prelude.{IsTrue}
+use Rattle.std.proofs.Common.{arith, sym, IsTrue}
 use Rattle.cf_session.proofs.Calling.{bound_none, bound_ok, bound_refused, bound_step, none_held}
 use Rattle.cf_session.proofs.changes.set_bound.Goals as goal
 

@@ -1,8 +1,6 @@
 use Rattle.std.proofs.Common.{ap, refl}
-use Rattle.script_reader.specs.Owned.{owned_command}
-use Rattle.script_reader.specs.declared.command.Command.TheVariants.{Malloc, Free, Write, Read, Resize, Bound, Place, Block, Peek, Steps}
-use Rattle.cf_session.proofs.Lacking.{lacking}
-use Rattle.cf_session.proofs.Reporting.{has_room, put_faults, reported_walk, reported_frag, shown_step}
+use Rattle.run_model.specs.Terms.{Block, Bound, Free, Malloc, owned_command, Peek, Place, Read, Resize, Steps, Write}
+use Rattle.cf_session.proofs.Reporting.{lacking, has_room, put_faults, reported_walk, reported_frag, shown_step}
 use Rattle.cf_session.proofs.dispatch.answer.Goals as goal
 
 pub returns-in-Malloc-clause-step : goal.returns-in-Malloc-clause-step

@@ -1,7 +1,7 @@
 use Rattle.std.proofs.Common.{◌<◌, ◌≤◌, arith, length, length-append}
 use Rattle.cf_io.proofs.CallerLemmas.{pushed, length_of_word}
 use Rattle.cf_io.specs.Lines.{word_text}
-use Rattle.cf_session.proofs.LookReplies.{word_other, written}
+use Rattle.cf_session.proofs.Reporting.{word_other, written}
 use Rattle.cf_session.proofs.queries.peek.Goals as goal
 
 pub unwrap-requires : goal.unwrap-requires

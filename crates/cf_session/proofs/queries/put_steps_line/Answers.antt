@@ -1,7 +1,7 @@
 use Rattle.std.proofs.Common.{◌≤◌, ◌∙◌, arith, inl, inr, length, refl, sym}
 use Rattle.cf_session.specs.Records.{session_of}
 use Rattle.cf_session.proofs.Calling.{steps_line}
-use Rattle.cf_session.proofs.LookReplies.{steps_other, written}
+use Rattle.cf_session.proofs.Reporting.{steps_other, written}
 use Rattle.cf_session.proofs.queries.put_steps_line.Goals as goal
 
 pub returns-in-Moving : goal.returns-in-Moving

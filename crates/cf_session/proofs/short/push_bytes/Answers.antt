@@ -1,5 +1,4 @@
-use Rattle.std.proofs.Common.{◌≡◌, ◌<◌, ◌≤◌, ◌∙◌, ◌++◌, List, ℕ, arith, length, length-append, ap, refl, sym}
-use Rattle.std.specs.Prelude.{codes}
+use Rattle.std.proofs.Common.{◌≡◌, ◌<◌, ◌≤◌, ◌∙◌, ◌++◌, List, ℕ, arith, length, length-append, ap, refl, sym, codes}
 use Rattle.hex.specs.Hex.{encode_lower}
 use Rattle.cf_io.proofs.CallerLemmas.{length_in_hex, pushed}
 use Rattle.cf_session.specs.Apply.{outcome_in}

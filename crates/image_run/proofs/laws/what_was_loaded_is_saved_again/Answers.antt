@@ -1,4 +1,4 @@
-use Rattle.image_run.proofs.Alike.{loaded_and_saved}
+use Rattle.image_run.proofs.SavedImage.{loaded_and_saved}
 use Rattle.image_run.proofs.laws.what_was_loaded_is_saved_again.Goals as goal
 
 pub returns : goal.returns

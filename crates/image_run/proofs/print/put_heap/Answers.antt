@@ -1,6 +1,6 @@
 use Rattle.std.proofs.Common.{◌*◌}
 use Rattle.cf_io.proofs.CallerLemmas.{puts_same}
-use Rattle.image_run.proofs.LineLemmas.{heap_line_built}
+use Rattle.image_run.proofs.PrintLemmas.{heap_line_built}
 use Rattle.image_run.proofs.print.put_heap.Goals as goal
 
 pub returns : goal.returns

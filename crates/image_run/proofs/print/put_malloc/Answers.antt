@@ -1,5 +1,5 @@
 use Rattle.cf_io.proofs.CallerLemmas.{puts_same}
-use Rattle.image_run.proofs.LineLemmas.{malloc_line}
+use Rattle.image_run.proofs.PrintLemmas.{malloc_line}
 use Rattle.image_run.proofs.print.put_malloc.Goals as goal
 
 pub returns : goal.returns

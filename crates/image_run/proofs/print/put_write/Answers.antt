@@ -1,7 +1,7 @@
 use Rattle.std.proofs.Common.{◌≤◌, ap, arith, length, length-append}
 use Rattle.hex.specs.Hex.{encode_lower}
 use Rattle.cf_io.proofs.CallerLemmas.{length_in_hex, pushed, puts_same}
-use Rattle.image_run.proofs.LineLemmas.{write_line}
+use Rattle.image_run.proofs.PrintLemmas.{write_line}
 use Rattle.image_run.proofs.print.put_write.Goals as goal
 
 pub unwrap-requires : goal.unwrap-requires

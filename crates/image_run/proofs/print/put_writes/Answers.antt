@@ -1,10 +1,8 @@
-use Rattle.std.proofs.Common.{◌∙◌, take, drop, ap, arith}
-use Rattle.std.specs.Prelude.{Err, Ok}
-use Rattle.std.proofs.lemmas.List.{length-take-le}
+use Rattle.std.proofs.Common.{◌∙◌, take, drop, ap, arith, Err, Ok, length-take-le}
 use Rattle.generator.specs.CommandText.{line_of}
 use Rattle.heap_image.proofs.CallerLemmas.{chunk_is, object_length}
 use Rattle.cf_io.proofs.CallerLemmas.{puts_same}
-use Rattle.image_run.proofs.WriteLemmas.{whole_chunk, writes_cut, writes_first, writes_last, writes_on}
+use Rattle.image_run.proofs.PrintLemmas.{whole_chunk, writes_cut, writes_first, writes_last, writes_on}
 use Rattle.script_reader.specs.declared.command.Command.TheVariants.{Write}
 use Rattle.image_run.proofs.print.put_writes.Goals as goal
 

@@ -1,6 +1,6 @@
 use Rattle.std.proofs.Common.{◌-◌, ◌≡◌, Some}
 use Rattle.std.specs.FinMap as map
-use Rattle.image_run.proofs.WriteLemmas.{WroteTo}
+use Rattle.image_run.proofs.PrintLemmas.{WroteTo}
 use Rattle.page_model.specs.Held.{Placed}
 use Rattle.image_run.proofs.print.put_writes.Given as goal
 

@@ -1,9 +1,8 @@
 use Rattle.std.proofs.Common.{◌≡◌, ◌∙◌, Bool, ap, refl}
-use Rattle.cf_base.specs.declared.kind.Kind.{Kind}
-use Rattle.cf_base.specs.declared.kind.Kind.TheVariants.{Moving}
+use Rattle.run_model.specs.Terms.{Kind, Moving}
 use Rattle.cf_session.specs.Apply.{run_at}
 use Rattle.script_loop.specs.WithSettings.{settled}
-use Rattle.image_run.proofs.SaveLemmas.{cut_causes, done_same, ends_cut, ends_early, ends_saved, ends_unopened, never_faults, opened, saved_going, unopened, whole_causes}
+use Rattle.image_run.proofs.SavedImage.{cut_causes, done_same, ends_cut, ends_early, ends_saved, ends_unopened, never_faults, opened, saved_going, unopened, whole_causes}
 use Rattle.image_run.proofs.save.save_script.Goals as goal
 
 pub returns-in_default : goal.returns-in_default

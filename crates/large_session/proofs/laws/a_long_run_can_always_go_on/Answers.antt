@@ -1,7 +1,7 @@
 use Rattle.script_laws.proofs.CallerLemmas.{runs_on, runs_exist}
 use Rattle.large_session.specs.LargeRun.{LargeStep}
 use Rattle.large_session.specs.Playing.{BeginsAtOne}
-use Rattle.large_session.proofs.Turns.{large_goes_on}
+use Rattle.large_session.proofs.RunInvariant.{large_goes_on}
 use Rattle.large_session.proofs.laws.a_long_run_can_always_go_on.Goals as goal
 
 pub returns-clause-there : goal.returns-clause-there

@@ -1,8 +1,7 @@
 use Rattle.script_laws.proofs.CallerLemmas.{names_objects, any_reads_are_shown}
 use Rattle.large_session.specs.LargeRun.{LargeStep, large_calls}
 use Rattle.large_session.specs.Playing.{BeginsAtOne}
-use Rattle.large_session.proofs.RunInvariant.{large_keeps}
-use Rattle.large_session.proofs.Turns.{begins_going}
+use Rattle.large_session.proofs.RunInvariant.{large_keeps, begins_going}
 use Rattle.large_session.proofs.laws.reads_give_what_was_written.Goals as goal
 
 pub returns : goal.returns

@@ -1,6 +1,6 @@
 use Rattle.script_loop.proofs.CallerLemmas.{cut_is_prefix_by}
 use Rattle.large_session.specs.Playing.{large_heap}
-use Rattle.large_session.proofs.Turns.{large_goes_on}
+use Rattle.large_session.proofs.RunInvariant.{large_goes_on}
 use Rattle.large_session.proofs.laws.what_was_cut_is_a_prefix.Goals as goal
 
 pub returns : goal.returns

@@ -1,5 +1,5 @@
 use Rattle.std.proofs.Common.{rules}
-use Rattle.quota_session.proofs.ReplyLemmas.{free_found}
+use Rattle.quota_session.proofs.RunInvariant.{free_found}
 use Rattle.quota_session.proofs.changes.free.Goals as goal
 
 pub unreachable-requires : goal.unreachable-requires

@@ -1,7 +1,7 @@
 use Rattle.std.proofs.Common.{◌∙◌, Some, length, sym}
 use Rattle.script_laws.proofs.CallerLemmas.{read_fault, read_said, read_unknown}
 use Rattle.quota_session.specs.TaskRun.{task_calls, task_run}
-use Rattle.quota_session.proofs.TaskKept.{bytes_by, fault_on}
+use Rattle.quota_session.proofs.RunInvariant.{bytes_by, fault_on}
 use Rattle.quota_session.proofs.changes.read.Goals as goal
 
 pub returns-in_default-clause-text : goal.returns-in_default-clause-text

@@ -1,4 +1,4 @@
-use Rattle.quota_session.proofs.OwnHeap.{as_alone}
+use Rattle.quota_session.proofs.OwnTask.{as_alone}
 use Rattle.quota_session.proofs.laws.a_task_has_a_heap_of_its_own.Goals as goal
 
 pub returns : goal.returns

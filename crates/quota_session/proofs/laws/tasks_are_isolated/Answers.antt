@@ -1,4 +1,4 @@
-use Rattle.quota_session.proofs.IsolatedCalls.{calls_isolated}
+use Rattle.quota_session.proofs.Isolated.{calls_isolated}
 use Rattle.quota_session.proofs.laws.tasks_are_isolated.Goals as goal
 
 pub returns : goal.returns

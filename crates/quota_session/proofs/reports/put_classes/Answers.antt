@@ -1,9 +1,8 @@
 use Rattle.std.proofs.Common.{◌≡◌, ◌∙◌, [], Ok, ap, arith, rules}
 use Rattle.cf_io.proofs.CallerLemmas.{puts_same}
-use Rattle.cf_io.specs.Texts.{led}
+use Rattle.run_model.specs.Terms.{classes, led}
 use Rattle.frag_report.specs.Classes.{classes_below}
 use Rattle.frag_report.proofs.CallerLemmas.{class_cut, class_put}
-use Rattle.page_model.specs.Paging.{classes}
 use Rattle.quota_heap.specs.State.{held_by}
 use Rattle.quota_model.specs.Refusals.{task_paging}
 use Rattle.quota_session.proofs.ClassLines.{all_pages, class_of_task, few_classes, pages_more, past_classes}

@@ -1,11 +1,9 @@
-use Rattle.std.proofs.Common.{◌≡◌, ◌≤◌, ◌*◌, ◌^◌, []}
-use Rattle.std.specs.Prelude.{sum_by}
+use Rattle.std.proofs.Common.{◌≡◌, ◌≤◌, ◌*◌, ◌^◌, [], sum_by}
 use Rattle.std.specs.List.{range_with_len}
 use Rattle.cf_io.specs.Feeds.{WritesAll}
-use Rattle.cf_io.specs.Texts.{led}
+use Rattle.run_model.specs.Terms.{classes, led}
 use Rattle.frag_report.specs.Classes.{classes_below}
 use Rattle.page_model.specs.Arrangement.{pages_of_class}
-use Rattle.page_model.specs.Paging.{classes}
 use Rattle.quota_heap.specs.State.{held_by}
 use Rattle.quota_model.specs.Refusals.{task_paging}
 use Rattle.quota_session.proofs.reports.put_classes.Given as goal

@@ -5,7 +5,7 @@ use Rattle.frag_report.specs.Classes.{totals_with}
 use Rattle.frag_report.proofs.CallerLemmas.{lines_cut, lines_then}
 use Rattle.run_model.specs.Reports.{total_line}
 use Rattle.quota_session.specs.TaskRun.{class_lines, task_classes, task_totals}
-use Rattle.quota_session.proofs.ReplyLemmas.{as_many, totals_are}
+use Rattle.quota_session.proofs.RunInvariant.{as_many, totals_are}
 use Rattle.quota_session.proofs.reports.walk.Goals as goal
 
 pub returns-in-Ok : goal.returns-in-Ok

@@ -1,11 +1,10 @@
 use Rattle.std.proofs.Common.{Some, ap}
-use Rattle.cf_base.specs.Settings.{profile_of}
-use Rattle.script_reader.specs.Owned.{owned_command}
+use Rattle.run_model.specs.Terms.{owned_command, profile_of}
 use Rattle.script_loop.proofs.CallerLemmas.{shown_line}
 use Rattle.quota_session.specs.Layout.{tasks_session}
 use Rattle.quota_session.specs.Playing.{quota_tasks}
 use Rattle.quota_session.specs.QuotaRun.{quota_run}
-use Rattle.quota_session.proofs.ReplyLemmas.{shown_walk}
+use Rattle.quota_session.proofs.RunInvariant.{shown_walk}
 use Rattle.quota_session.proofs.session.answer.Goals as goal
 
 pub returns-in_default-clause-step : goal.returns-in_default-clause-step

@@ -1,10 +1,8 @@
 use Rattle.std.proofs.Common.{arith}
-use Rattle.std.specs.FinMap.{empty}
+use Rattle.run_model.specs.Terms.{empty, owned_command, said}
 use Rattle.std.proofs.lemmas.List.{get_or_read}
-use Rattle.cf_io.specs.Texts.{said}
-use Rattle.script_reader.specs.Owned.{owned_command}
 use Rattle.quota_session.specs.Layout.{tasks_session}
-use Rattle.quota_session.proofs.ReplyLemmas.{present_step}
+use Rattle.quota_session.proofs.RunInvariant.{present_step}
 use Rattle.quota_session.proofs.session.build_reply_present.Goals as goal
 
 pub returns-clause-step : goal.returns-clause-step

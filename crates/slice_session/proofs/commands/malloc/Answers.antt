@@ -1,7 +1,6 @@
-use Rattle.std.proofs.Common.{refl, sym, ◌∙◌}
-use Rattle.std.specs.Prelude.{Ok}
+use Rattle.std.proofs.Common.{refl, sym, ◌∙◌, Ok}
 use Rattle.slice_session.specs.SliceRun.{slice_run}
-use Rattle.slice_session.proofs.ReplyLemmas.{malloc_step, no_handle}
+use Rattle.slice_session.proofs.RunInvariant.{malloc_step, no_handle}
 use Rattle.slice_session.proofs.commands.malloc.Goals as goal
 
 pub returns-in-Ok-clause-step : goal.returns-in-Ok-clause-step

@@ -1,5 +1,4 @@
-use Rattle.std.proofs.Common.{◌∙◌, length, sym}
-use Rattle.std.specs.Prelude.{Ok}
+use Rattle.std.proofs.Common.{◌∙◌, length, sym, Ok}
 use Rattle.script_laws.proofs.CallerLemmas.{read_fault, read_said, read_unknown}
 use Rattle.page_model.specs.Held.{objects}
 use Rattle.slice_model.specs.Runs.{Read}

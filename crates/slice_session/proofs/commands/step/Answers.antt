@@ -1,7 +1,6 @@
-use Rattle.std.proofs.Common.{◌<◌, ◌≤◌, ◌∙◌, ◌++◌, List, ℕ, arith, length, ap}
-use Rattle.std.specs.Prelude.{codes}
+use Rattle.std.proofs.Common.{◌<◌, ◌≤◌, ◌∙◌, ◌++◌, List, ℕ, arith, length, ap, codes}
 use Rattle.cf_io.specs.Texts.{with_number}
-use Rattle.slice_session.proofs.ReplyLemmas.{speaks_left}
+use Rattle.slice_session.proofs.RunInvariant.{speaks_left}
 use Rattle.slice_session.proofs.commands.step.Goals as goal
 
 pub returns-clause-speaks : goal.returns-clause-speaks

@@ -1,4 +1,4 @@
-use Rattle.slice_session.proofs.Plays.{play_seen}
+use Rattle.slice_session.proofs.RunInvariant.{play_seen}
 use Rattle.slice_session.proofs.laws.plays_are_runs.Goals as goal
 
 pub returns : goal.returns

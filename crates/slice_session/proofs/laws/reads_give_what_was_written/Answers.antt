@@ -1,9 +1,7 @@
 use Rattle.script_laws.proofs.CallerLemmas.{names_objects, any_reads_are_shown}
 use Rattle.slice_session.specs.Playing.{BeginsSlices}
 use Rattle.slice_session.specs.SliceRun.{SliceStep, sliced_calls}
-use Rattle.slice_session.proofs.OpenLemmas.{begins_going}
-use Rattle.slice_session.proofs.Plays.{play_seen}
-use Rattle.slice_session.proofs.RunInvariant.{sliced_keeps}
+use Rattle.slice_session.proofs.RunInvariant.{begins_going, play_seen, sliced_keeps}
 use Rattle.slice_session.proofs.laws.reads_give_what_was_written.Goals as goal
 
 pub returns-clause-run : goal.returns-clause-run

@@ -1,12 +1,7 @@
-use Rattle.std.proofs.Common.{◌∙◌, ◌++◌, [], refl, sym, ap, arith}
-use Rattle.std.proofs.lemmas.List.{length-set}
-use Rattle.std.specs.Prelude.{is_some}
+use Rattle.std.proofs.Common.{◌∙◌, ◌++◌, [], refl, sym, ap, arith, length-set, is_some}
 use Rattle.cf_io.proofs.CallerLemmas.{appended_after, led-append, writes_none}
-use Rattle.cf_io.specs.Feeds.{appended}
-use Rattle.run_model.specs.Texts.{led}
-use Rattle.script_reader.specs.Owned.{owned_command}
-use Rattle.top_call.proofs.Zipping.{same_seen}
-use Rattle.top_call.proofs.Passing.{seat_goes, seats_cut, seats_go, seats_more, seats_whole, swept_none}
+use Rattle.run_model.specs.Terms.{appended, led, owned_command}
+use Rattle.top_call.proofs.Passing.{same_seen, seat_goes, seats_cut, seats_go, seats_more, seats_whole, swept_none}
 use Rattle.top_call.proofs.answer.answer_each.Goals as goal
 
 pub loop-i-init : goal.loop-i-init

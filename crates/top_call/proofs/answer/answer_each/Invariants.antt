@@ -1,10 +1,7 @@
-use Rattle.std.proofs.Common.{◌≡◌, map, length, []}
+use Rattle.std.proofs.Common.{◌≡◌, map, length, [], is_some}
 use Rattle.std.specs.List.{All}
-use Rattle.std.specs.Prelude.{is_some}
 use Rattle.cf_io.specs.Feeds.{WritesAll}
-use Rattle.script_reader.specs.Owned.{owned_command}
-use Rattle.run_model.specs.Texts.{Reply, led}
-use Rattle.run_model.specs.Sessions.{IsGoing}
+use Rattle.run_model.specs.Terms.{IsGoing, led, owned_command, Reply}
 use Rattle.top_call.specs.Progress.{Swept}
 use Rattle.top_call.specs.SideBySide.{zipped}
 use Rattle.top_call.proofs.answer.answer_each.Given as goal

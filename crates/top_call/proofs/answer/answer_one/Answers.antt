@@ -2,7 +2,7 @@ use Rattle.std.proofs.Common.{◌∙◌, ap}
 use Rattle.std.proofs.lemmas.Result.{err_from_is_err_and}
 use Rattle.script_reader.specs.Owned.{owned_command}
 use Rattle.script_laws.proofs.CallerLemmas.{step_keeps}
-use Rattle.top_call.proofs.Naming.{named_cut, named_whole, turn_kind}
+use Rattle.top_call.proofs.Passing.{named_cut, named_whole, turn_kind}
 use Rattle.top_call.specs.SideBySide.{lead_of}
 use Rattle.top_call.proofs.answer.answer_one.Goals as goal
 

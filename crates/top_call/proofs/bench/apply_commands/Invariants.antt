@@ -3,8 +3,7 @@ use Rattle.top_call.specs.Bench.{IsAppliedTo}
 use Rattle.cf_model.specs.Ordered.{KeepsPromise}
 use Rattle.cf_session.specs.Apply.{run_at}
 use Rattle.generator.specs.Generated.{generated}
-use Rattle.run_model.specs.Sessions.{IsGoing}
-use Rattle.script_reader.specs.declared.command.Command.{Command}
+use Rattle.run_model.specs.Terms.{Command, IsGoing}
 use Rattle.top_call.proofs.bench.apply_commands.Given as goal
 
 -- The commands `done` were applied, and the generator still has the others. The heap has the kind that it began with, and promises an order if it did then.

@@ -1,8 +1,7 @@
 use Rattle.std.proofs.Common.{◌∙◌, [], ap, refl, subst}
 use Rattle.top_call.specs.Bench.{IsWritten, bench_line, bench_settings}
 use Rattle.top_call.specs.declared.figures.BenchFigures.{BenchFigures}
-use Rattle.cf_io.specs.Texts.{led, said}
-use Rattle.cf_model.specs.State.{HeapState}
+use Rattle.run_model.specs.Terms.{HeapState, led, said}
 use Rattle.cf_session.specs.Apply.{run_at}
 use Rattle.run_model.proofs.CallerLemmas.{begins_going}
 use Rattle.top_call.proofs.BenchLemmas.{ends_bench, opened, run_of_bench, shown_figures}

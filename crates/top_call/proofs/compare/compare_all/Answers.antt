@@ -1,5 +1,5 @@
 use Rattle.std.proofs.Common.{◌≡◌, arith, length, subst}
-use Rattle.top_call.proofs.Fresh.{begun_each}
+use Rattle.top_call.proofs.Begun.{begun_each}
 use Rattle.top_call.specs.SideBySide.{AreFresh}
 use Rattle.top_call.proofs.Outcomes.{each_ends}
 use Rattle.top_call.proofs.compare.compare_all.Goals as goal

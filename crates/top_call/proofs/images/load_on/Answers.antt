@@ -1,7 +1,6 @@
 use Rattle.std.proofs.Common.{ap}
-use Rattle.cf_model.specs.State.{HeapState}
+use Rattle.run_model.specs.Terms.{HeapState, SessionState}
 use Rattle.cf_session.specs.Apply.{run_at}
-use Rattle.run_model.specs.Sessions.{SessionState}
 use Rattle.top_call.proofs.Outcomes.{loaded_ends}
 use Rattle.top_call.proofs.images.load_on.Goals as goal
 

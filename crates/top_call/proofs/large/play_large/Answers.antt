@@ -1,6 +1,5 @@
 use Rattle.std.proofs.Common.{◌∙◌, refl, subst, sym}
-use Rattle.cf_model.specs.Families.{IsPaged}
-use Rattle.cf_model.specs.State.{HeapState}
+use Rattle.run_model.specs.Terms.{HeapState, IsPaged}
 use Rattle.large_session.specs.LargeRun.{large_run}
 use Rattle.large_session.specs.Playing.{large_heap}
 use Rattle.top_call.proofs.Outcomes.{made_ends}

@@ -1,4 +1,4 @@
-use Rattle.top_call.proofs.Unzipping.{own_runs_in_part}
+use Rattle.top_call.proofs.OwnOutcomes.{own_runs_in_part}
 use Rattle.top_call.proofs.laws.a_cut_stops_between_two_managers.Goals as goal
 
 pub returns : goal.returns

@@ -1,4 +1,4 @@
-use Rattle.top_call.proofs.Unzipping.{own_runs}
+use Rattle.top_call.proofs.OwnOutcomes.{own_runs}
 use Rattle.top_call.proofs.laws.each_has_its_own_run.Goals as goal
 
 pub returns : goal.returns

@@ -1,4 +1,4 @@
-use Rattle.top_call.proofs.StillGoing.{own_going, part_going}
+use Rattle.top_call.proofs.OwnOutcomes.{own_going, part_going}
 use Rattle.top_call.proofs.laws.each_manager_is_open_after_its_run.Goals as goal
 
 pub returns-clause-whole : goal.returns-clause-whole

@@ -1,4 +1,4 @@
-use Rattle.top_call.proofs.Headlines.{headlines_met}
+use Rattle.top_call.proofs.Modes.{headlines_met}
 use Rattle.top_call.proofs.laws.each_meets_the_headline.Goals as goal
 
 pub returns : goal.returns

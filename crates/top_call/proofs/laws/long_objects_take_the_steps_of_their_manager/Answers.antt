@@ -1,5 +1,4 @@
-use Rattle.std.proofs.Common.{ℕ, Bool, true, false, ◌≤◌, ◌+◌, ◌/◌, arith, refl}
-use Rattle.std.specs.Prelude.{if◌then◌else◌, nat_eq}
+use Rattle.std.proofs.Common.{ℕ, Bool, true, false, ◌≤◌, ◌+◌, ◌/◌, arith, refl, if◌then◌else◌, nat_eq}
 use Rattle.top_call.proofs.laws.long_objects_take_the_steps_of_their_manager.Goals as goal
 
 at_most : (n : ℕ) → n ≤ n

@@ -1,5 +1,5 @@
 use Rattle.script_loop.proofs.CallerLemmas.{cut_is_prefix_by}
-use Rattle.top_call.proofs.Prefixes.{each_is_whole, many_go_on}
+use Rattle.top_call.proofs.Begun.{each_is_whole, many_go_on}
 use Rattle.top_call.specs.SideBySide.{many_managers}
 use Rattle.top_call.proofs.laws.what_was_cut_is_a_prefix.Goals as goal
 

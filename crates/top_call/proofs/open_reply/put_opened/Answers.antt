@@ -1,10 +1,9 @@
-use Rattle.std.proofs.Common.{◌++◌, ◌+◌, [], true, ap, arith, map, take, drop}
+use Rattle.std.proofs.Common.{◌++◌, ◌+◌, [], true, ap, arith, map, take, drop, Ok}
 use Rattle.std.proofs.lemmas.List.{length-map, take_all}
 use Rattle.cf_io.proofs.CallerLemmas.{appended_after, fails_after, puts_same, puts_then}
 use Rattle.run_model.specs.Texts.{led}
-use Rattle.std.specs.Prelude.{Ok}
 use Rattle.top_call.specs.SideBySide.{opened_reply}
-use Rattle.top_call.proofs.OpenedReply.{kind_at, opened_reply_cut, opened_reply_more}
+use Rattle.top_call.proofs.Begun.{kind_at, opened_reply_cut, opened_reply_more}
 use Rattle.top_call.proofs.open_reply.put_opened.Goals as goal
 
 pub returns-in-Err : goal.returns-in-Err

@@ -1,5 +1,5 @@
 use Rattle.script_reader.specs.Owned.{owned_command}
-use Rattle.large_session.proofs.OpenReply.{kind_kept}
+use Rattle.large_session.proofs.RunInvariant.{kind_kept}
 use Rattle.large_session.proofs.mode_handler.LargeHandlerModeHandlerLargeHeap.answer.Goals as goal
 
 pub returns-clause-plan : goal.returns-clause-plan

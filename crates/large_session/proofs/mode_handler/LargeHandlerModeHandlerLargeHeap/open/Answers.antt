@@ -1,5 +1,5 @@
 use Rattle.std.proofs.Common.{refl}
-use Rattle.large_session.proofs.OpenReply.{opened_begins, opened_going}
+use Rattle.large_session.proofs.RunInvariant.{opened_begins, opened_going}
 use Rattle.large_session.proofs.mode_handler.LargeHandlerModeHandlerLargeHeap.open.Goals as goal
 
 pub returns-clause-going : goal.returns-clause-going

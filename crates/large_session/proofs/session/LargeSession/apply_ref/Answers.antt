@@ -1,13 +1,12 @@
 use Rattle.std.proofs.Common.{◌∙◌, ap, subst, sym}
-use Rattle.id_table.specs.Ids.{Ids}
-use Rattle.script_reader.specs.Owned.{owned_command}
+use Rattle.run_model.specs.Terms.{Ids, owned_command}
 use Rattle.script_laws.proofs.CallerLemmas.{going_before}
 use Rattle.script_loop.specs.Applying.{Applies}
 use Rattle.script_loop.specs.Semantics.{snapshot}
 use Rattle.script_loop.proofs.CallerLemmas.{shown_line}
 use Rattle.large_session.specs.LargeRun.{large_calls, large_run}
 use Rattle.large_session.specs.Playing.{large_heap}
-use Rattle.large_session.proofs.ReplyLemmas.{applied_going, shown_frag, shown_walk}
+use Rattle.large_session.proofs.RunInvariant.{applied_going, shown_frag, shown_walk}
 use Rattle.large_session.proofs.session.LargeSession.apply_ref.Goals as goal
 
 pub build_reply-outcome-requires-clause-going : goal.build_reply-outcome-requires-clause-going
@@ -47,12 +46,7 @@ returns-in_default-clause-step g c =
     c.build_reply-outcome.ensures.outcome c.put_line.ensures c.ended-in_default.ensures)
 
 pub returns-in_default-clause-going : goal.returns-in_default-clause-going
-returns-in_default-clause-going g c =
-    let old = large_run c.self.inside.ids c.args.heap.now in
-    let new = large_run c.build_reply-outcome.new.ids c.build_reply-outcome.new.heap in
-    let going = going_before large_calls c.args.self.now c.self.inside.ids c.args.heap.now (sym c.self.view_is)
-    (record { opened = c.requires.open; parts = c.is_open-open.ensures.parts (c.is_open-open.ensures.value ∙ c.requires.open) }) c.requires.tied in
-    applied_going old new (owned_command c.args.c) _ _ c.ended-in_default.result going
-    (shown_line large_heap (λ _ _ _ _ turn. turn) old new (owned_command c.args.c) c.build_reply-outcome.new.line (g.K.Sink.state c.args.out.now)
-    (g.K.Sink.state c.put_line.new.out) c.put_line.result c.build_reply-outcome.result c.ended-in_default.result c.build_reply-outcome.ensures.speaks
-    c.build_reply-outcome.ensures.outcome c.put_line.ensures c.ended-in_default.ensures)
+returns-in_default-clause-going g c = applied_going (large_run c.args.self.now c.args.heap.now) _ (owned_command c.args.c) _ _ c.ended-in_default.result (record {
+  ready = record { opened = c.requires.open; parts = c.is_open-open.ensures.parts (c.is_open-open.ensures.value ∙ c.requires.open) };
+  tied = c.requires.tied;
+}) (returns-in_default-clause-step g c)

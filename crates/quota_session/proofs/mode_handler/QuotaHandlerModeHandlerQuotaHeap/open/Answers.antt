@@ -1,6 +1,6 @@
 use Rattle.std.proofs.Common.{refl}
 use Rattle.cf_base.specs.Settings.{profile_of}
-use Rattle.quota_session.proofs.OpenLemmas.{opened_begins, opened_going}
+use Rattle.quota_session.proofs.RunInvariant.{opened_begins, opened_going}
 use Rattle.quota_session.proofs.mode_handler.QuotaHandlerModeHandlerQuotaHeap.open.Goals as goal
 
 pub returns-clause-going : goal.returns-clause-going

@@ -1,6 +1,5 @@
 use Rattle.std.proofs.Common.{Some, ◌∙◌}
-use Rattle.cf_base.specs.Settings.{profile_of}
-use Rattle.script_reader.specs.Owned.{owned_command}
+use Rattle.run_model.specs.Terms.{owned_command, profile_of}
 use Rattle.quota_session.specs.Layout.{tasks_session}
 use Rattle.quota_session.specs.QuotaRun.{quota_run}
 use Rattle.quota_session.proofs.RunInvariant.{applied_going, going_before}

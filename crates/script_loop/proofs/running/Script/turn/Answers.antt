@@ -1,6 +1,5 @@
-use Rattle.std.proofs.Common.{◌≡◌, ◌<◌, ◌+◌, ap, arith, inl, min, refl, sym, ◌∙◌}
+use Rattle.std.proofs.Common.{◌≡◌, ◌<◌, ◌+◌, ap, arith, inl, min, refl, sym, ◌∙◌, length-take-le}
 use Rattle.cf_io.specs.Feeds.{last_count}
-use Rattle.std.proofs.lemmas.List.{length-take-le}
 use Rattle.cf_io.proofs.CallerLemmas.{given_min, nothing_taken}
 use Rattle.script_loop.proofs.LoopTurn.{chunk_of, some_past, stops_by, whole_chunk}
 use Rattle.script_loop.proofs.running.Script.turn.Goals as goal

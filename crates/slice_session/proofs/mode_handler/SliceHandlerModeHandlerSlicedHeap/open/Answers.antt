@@ -1,6 +1,6 @@
 use Rattle.std.proofs.Common.{refl}
 use Rattle.cf_base.specs.Settings.{profile_of}
-use Rattle.slice_session.proofs.OpenLemmas.{begins_going, opened_begins}
+use Rattle.slice_session.proofs.RunInvariant.{begins_going, opened_begins}
 use Rattle.slice_session.proofs.mode_handler.SliceHandlerModeHandlerSlicedHeap.open.Goals as goal
 
 pub returns-clause-going : goal.returns-clause-going

@@ -1,7 +1,6 @@
 use Rattle.std.proofs.Common.{◌∙◌, sym}
 use Rattle.script_reader.specs.Owned.{owned_command}
-use Rattle.top_call.proofs.Answering.{each_answers, promises_seen}
-use Rattle.top_call.proofs.Zipping.{mapped_twice}
+use Rattle.top_call.proofs.Passing.{each_answers, promises_seen, mapped_twice}
 use Rattle.top_call.proofs.each.SessionsModeHandlerVec.answer.Goals as goal
 
 pub returns-clause-plan : goal.returns-clause-plan

@@ -1,8 +1,7 @@
 use Rattle.std.proofs.Common.{◌∙◌, [], ap, sym, refl}
 use Rattle.std.proofs.lemmas.Result.{err_from_is_err_and}
-use Rattle.cf_io.specs.Feeds.{appended}
-use Rattle.run_model.specs.Texts.{led}
-use Rattle.top_call.proofs.Answering.{promises_seen}
+use Rattle.run_model.specs.Terms.{appended, led}
+use Rattle.top_call.proofs.Passing.{promises_seen}
 use Rattle.top_call.proofs.Begun.{all_begin, all_go, pairs_promises, same_kinds, some_lack, stops_kinds, shown}
 use Rattle.top_call.proofs.each.SessionsModeHandlerVec.open.Goals as goal
 

@@ -1,5 +1,4 @@
-use Rattle.std.proofs.Common.{[]}
-use Rattle.std.specs.Prelude.{Ok, Err}
+use Rattle.std.proofs.Common.{[], Ok, Err}
 use Rattle.cf_io.proofs.CallerLemmas.{puts_line}
 use Rattle.top_call.specs.Bench.{bench_line}
 use Rattle.top_call.proofs.BenchLemmas.{six}
