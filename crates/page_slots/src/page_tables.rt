@@ -40,11 +40,7 @@ impl PageTables {
         })
     }
 
-<<<<<<< HEAD
     /// The memory that new page tables (`PageTables`) ask for.
-=======
-    /// The memory that `PageTables::new` asks for.
->>>>>>> 2ada9b3687de5929bb679a4b0980e2a842adb42c
     pub fn bytes_needed(s: &Settings, layout: Layout) -> BytesNeeded
         ensures needed { result ≡ table_bytes (profile_of s.now) layout }
         ensures few { result.total < 2 ^ 43 }

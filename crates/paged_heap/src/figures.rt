@@ -22,7 +22,7 @@ impl OpenHeap {
     }
 
     /// The number of pages of class c, full or partly full.
-    fn pages_of<A: Mapping>(&self, c: u32) -> u32
+    pub fn pages_of<A: Mapping>(&self, c: u32) -> u32
         requires kept { Holds A.kind self.now }
         requires class { c < classes (paging_at (seen A.kind self.now)) }
         ensures { result ≡ pages_of_class (paging_at (seen A.kind self.now)) (held_in (seen A.kind self.now)) c }
@@ -31,7 +31,7 @@ impl OpenHeap {
     }
 
     /// The number of partly full pages of class c.
-    fn not_full<A: Mapping>(&self, c: u32) -> u32
+    pub fn not_full<A: Mapping>(&self, c: u32) -> u32
         requires kept { Holds A.kind self.now }
         requires class { c < classes (paging_at (seen A.kind self.now)) }
         ensures { result ≡ not_full_pages (paging_at (seen A.kind self.now)) (held_in (seen A.kind self.now)) c }
@@ -48,11 +48,7 @@ impl OpenHeap {
         self.tables.pool.left()
     }
 
-<<<<<<< HEAD
     /// With pages, the figures of class c; none if there is no such class.
-=======
-    /// The figures of class c of an open heap with pages; none if there is no such class.
->>>>>>> 2ada9b3687de5929bb679a4b0980e2a842adb42c
     pub fn figures<A: Mapping>(&self, c: u32) -> Option<Figures>
         requires { Holds A.kind self.now }
         ensures { result ≡ if nat_lt c (classes (paging_at (seen A.kind self.now)))
@@ -80,11 +76,7 @@ impl OpenHeap {
         }
     }
 
-<<<<<<< HEAD
     /// The figures of the whole heap with pages.
-=======
-    /// The figures of an open heap with pages as a whole.
->>>>>>> 2ada9b3687de5929bb679a4b0980e2a842adb42c
     pub fn totals<A: Mapping>(&self) -> Totals
         requires { Holds A.kind self.now }
         ensures { result ≡ totals_of (paging_at (seen A.kind self.now)) (held_in (seen A.kind self.now)) }

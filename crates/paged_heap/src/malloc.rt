@@ -65,13 +65,8 @@ impl OpenHeap {
         Ok(handle)
     }
 
-<<<<<<< HEAD
     /// Returns what a malloc of `bytes` bytes on pages would return now, without the handle: `Ok`, or its refusal.
     /// Changes nothing, and costs one step.
-=======
-    /// Returns what `OpenHeap::malloc` of `bytes` bytes would return now, without the handle: `Ok`, or
-    /// its refusal. Changes nothing, and costs one step.
->>>>>>> 2ada9b3687de5929bb679a4b0980e2a842adb42c
     pub fn has_room<A: Mapping>(&self, bytes: u32, steps: &mut Steps) -> Result<(), Refusal>
         requires { Holds A.kind self.now }
         ensures ok { IfOk result (λ u. (e : Refusal) → ¬ IsRefusedBy (state_at A.kind self.now) bytes e) }

@@ -2,9 +2,10 @@
 ghost use Rattle.std.specs.Prelude.{◌≡◌, ◌^◌, ◌+◌, ◌<◌, ◌≤◌, [], IsSome, IsTrue, OnErr, OnOk, Some, option_map};
 ghost use Rattle.std.specs.FinMap as map;
 ghost use Rattle.cf_base.specs.Classes.{class_of};
-ghost use Rattle.page_model.specs.Arrangement.{free_pages};
+ghost use Rattle.page_model.specs.Arrangement.{free_pages, not_full_pages, pages_of_class};
 ghost use Rattle.cf_base.specs.Settings.{profile_of};
 ghost use Rattle.cf_base.specs.declared.kind.Kind.TheVariants.{NonMoving};
+ghost use Rattle.cf_model.specs.Answers.{classes_in};
 ghost use Rattle.paged_heap.specs.Costs.{free_steps, resize_steps};
 ghost use Rattle.paged_heap.specs.Slots.{slot_words_steps};
 ghost use Rattle.cf_model.specs.Costs.{RoseByCost, TakesAtMost, block_free_bound, free_bound, resize_bound};
@@ -235,11 +236,7 @@ impl<A: PageKind> Manager for PagedHeap<A> {
 }
 
 impl<A: PageKind> PagedHeap<A> {
-<<<<<<< HEAD
     /// The memory that opening a manager with pages asks for. The bytes of the manager itself, which its owner keeps,
-=======
-    /// The memory that `PagedHeap::open_heap` asks for. The bytes of the manager itself, which its owner keeps,
->>>>>>> 2ada9b3687de5929bb679a4b0980e2a842adb42c
     /// aren't counted.
     pub fn bytes_needed(s: &Settings) -> BytesNeeded
         ensures needed { result ≡ paged_bytes A.kind (profile_of s.now) }
@@ -294,6 +291,24 @@ impl<A: PageKind> PagedHeap<A> {
         self.open().class_of::<A>(bytes, steps)
     }
 
+    /// The number of pages of class c in the manager's heap, full or partly full.
+    pub fn pages_of(&self, c: u32) -> u32
+        requires open { IsTrue self.now.state.is_open }
+        requires class { c < classes_in self.now.state.kind self.now.state }
+        ensures { result ≡ pages_of_class (paging_in self.now.state) self.now.state.held c }
+    {
+        self.open().pages_of::<A>(c)
+    }
+
+    /// The number of partly full pages of class c in the manager's heap.
+    pub fn not_full(&self, c: u32) -> u32
+        requires open { IsTrue self.now.state.is_open }
+        requires class { c < classes_in self.now.state.kind self.now.state }
+        ensures { result ≡ not_full_pages (paging_in self.now.state) self.now.state.held c }
+    {
+        self.open().not_full::<A>(c)
+    }
+
     /// The number of free pages of the manager's heap.
     pub fn free_pages(&self) -> u32
         requires { IsTrue self.now.state.is_open }
@@ -302,11 +317,7 @@ impl<A: PageKind> PagedHeap<A> {
         self.open().free_pages::<A>()
     }
 
-<<<<<<< HEAD
     /// Borrows the open heap with pages, for its figures and for calls that change nothing.
-=======
-    /// Borrows the open heap of the manager, for its figures and for calls that change nothing.
->>>>>>> 2ada9b3687de5929bb679a4b0980e2a842adb42c
     pub(crate) fn open(&self) -> &OpenHeap
         requires { IsTrue self.now.state.is_open }
         ensures kept { Holds A.kind result.now }

@@ -61,11 +61,7 @@ impl OpenHeap {
         Ok(OpenHeap::empty::<A>(s, region, blocks, tables, lists, proxies))
     }
 
-<<<<<<< HEAD
     /// The memory that `OpenHeap::new` with pages asks for.
-=======
-    /// The memory that `OpenHeap::new` asks for.
->>>>>>> 2ada9b3687de5929bb679a4b0980e2a842adb42c
     pub(crate) fn bytes_needed(s: &Settings, layout: Layout) -> BytesNeeded
         ensures needed { result ≡ open_bytes (profile_of s.now) layout }
         ensures few { result.total < 2 ^ 44 }

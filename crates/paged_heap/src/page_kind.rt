@@ -23,11 +23,7 @@ pub trait PageKind: Mapping {
     fn kind() -> Kind
         ensures { result ≡ Self.kind };
 
-<<<<<<< HEAD
     /// Opens a heap of this `PageKind` without objects. Fails if out of memory.
-=======
-    /// Opens a heap of this kind without objects, with the settings `s`. Fails if out of memory.
->>>>>>> 2ada9b3687de5929bb679a4b0980e2a842adb42c
     fn open(alloc: Global, s: &Settings) -> Result<OpenHeap, OutOfMemory>
         ensures kept { IfOk result (λ h. Holds Self.kind h) }
         ensures empty { IfOk result (λ h. IsEmptyHeap Self.kind s.now (state_at Self.kind h)) };

@@ -30,11 +30,7 @@ impl OpenHeap {
         Some(self.tables.classes.slot_words(c))
     }
 
-<<<<<<< HEAD
     /// With pages, the class of an object of `bytes` bytes; none if it needs more than a page. Costs one step.
-=======
-    /// The class of the slot for `bytes` bytes; none if they need more than a page. Costs one step.
->>>>>>> 2ada9b3687de5929bb679a4b0980e2a842adb42c
     pub fn class_of<A: Mapping>(&self, bytes: u32, steps: &mut Steps) -> Option<u32>
         requires { Holds A.kind self.now }
         ensures value { result ≡ class_of (paging_in (state_at A.kind self.now)).sizes bytes }

@@ -65,13 +65,8 @@ impl QuotaHeap {
         Ok(())
     }
 
-<<<<<<< HEAD
     /// The memory that opening a heap of tasks asks for. The bytes of the `QuotaHeap` itself, which its owner keeps,
     /// aren't counted.
-=======
-    /// The memory that `QuotaHeap::open_heap` asks for. The bytes of the `QuotaHeap` itself, which its owner
-    /// keeps, aren't counted.
->>>>>>> 2ada9b3687de5929bb679a4b0980e2a842adb42c
     pub fn bytes_needed(s: &Settings) -> BytesNeeded
         ensures needed { result ≡ quota_bytes (profile_of s.now) }
         ensures few { result.total < 2 ^ 44 }
@@ -79,13 +74,8 @@ impl QuotaHeap {
         OpenTasks::bytes_needed(s)
     }
 
-<<<<<<< HEAD
     /// Returns whether the heap of tasks is open. In an open heap no page has objects of two tasks, and no task uses
     /// more pages than its quota (`KeepsTasks`).
-=======
-    /// Returns whether the heap of tasks is open. In an open heap no page has objects of two tasks, and no
-    /// task uses more pages than its quota (`KeepsTasks`).
->>>>>>> 2ada9b3687de5929bb679a4b0980e2a842adb42c
     pub fn is_open(&self) -> bool
         ensures value { result ≡ self.now.is_open }
         ensures rules { IsTrue result → KeepsTasks self.now }
@@ -279,11 +269,7 @@ impl QuotaHeap {
         }
     }
 
-<<<<<<< HEAD
     /// Returns the word of the tasks' region with the number `word`, or `None` past the region's end.
-=======
-    /// Returns word number `word` of the region of the heap of tasks, or `None` past the region's end.
->>>>>>> 2ada9b3687de5929bb679a4b0980e2a842adb42c
     pub fn peek(&self, word: u32, steps: &mut Steps) -> Option<u64>
         requires opened { IsTrue self.now.is_open }
         requires room { steps.old ≤ 2 ^ 63 }

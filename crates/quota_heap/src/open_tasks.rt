@@ -332,11 +332,7 @@ impl OpenTasks {
         }
     }
 
-<<<<<<< HEAD
     /// Returns the word of the region of `OpenTasks` with the number `word`, or `None` past the region's end.
-=======
-    /// Returns word number `word` of the region that the tasks share, or `None` past its end.
->>>>>>> 2ada9b3687de5929bb679a4b0980e2a842adb42c
     pub(crate) fn peek(&self, word: u32, steps: &mut Steps) -> Option<u64>
         ensures value { result ≡ slice_get self.now.shared_pages.region word }
         ensures steps { RoseBy steps.old steps.new (peek_steps result) }
