@@ -97,10 +97,10 @@ def c_parameters(parameters):
 def structs(crate):
     """Each #[repr(C)] struct that the crate uses: its fields in their order; a ghost field is none."""
     text = Path('crates', crate, 'src/lib.rt').read_text()
-    folder, module = (re.search(r'use (held_\w+)::(\w+)::(?:NphHeap|\{[^}]*\bNphHeap\b)', text) or fail(f'{crate}: no NphHeap')).groups()
+    below, module = (re.search(r'use (crate|held_heap)::(\w+)::NphHeap;', text) or fail(f'{crate}: no NphHeap')).groups()
     found = {}
     aliases = {(file, there): here for here, (file, there) in ELSEWHERE.items()}
-    for file in [*sorted(BASE.glob('*.rt')), *sorted(Path('crates', folder, 'src').glob('*.rt')), *{file for file, _ in aliases}]:
+    for file in [*sorted(BASE.glob('*.rt')), *sorted(Path('crates', crate if below == 'crate' else below, 'src').glob('*.rt')), *{file for file, _ in aliases}]:
         if 'pub struct NphHeap {' in file.read_text() and file.stem != module:
             continue
         for name, inside in re.findall(r'#\[repr\(C\)\]\n(?:#\[[^\n]*\]\n)*pub struct (\w+) \{\n(.*?)\n\}', file.read_text(), re.S):

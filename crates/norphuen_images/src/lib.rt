@@ -1,5 +1,5 @@
 //! The heap whose objects have ids, with its images, as a library for C. `include/norphuen.h` describes each export
-//! for C. An export calls the function of `held_images` or `c_base` that its comment names, and its contract is that
+//! for C. An export calls the function of this crate or `c_base` that its comment names, and its contract is that
 //! function's. Each export that takes a heap, but `nph_images_close`, returns a code: 0 (`DONE`) if the call is done,
 //! else the cause (`c_base`, file `codes`). Of these each but `nph_images_open` and `nph_images_load` returns
 //! `CLOSED` and changes nothing while the heap is closed (`IsCallOnOpen`).
@@ -8,14 +8,19 @@
 ghost use Rattle.std.specs.Prelude.{◌≡◌};
 ghost use Rattle.c_base.specs.AtPlace.{IsCallOnOpen};
 ghost use Rattle.c_base.specs.Version.{version};
-ghost use Rattle.held_images.specs.CallerImages.{IsLoadCall, IsOpenCall, closed_by};
-ghost use Rattle.held_images.specs.Calls.{IsFreeCall, IsImageBytesCall, IsLengthCall, IsMakeCall, IsReadCall, IsSaveCall, IsWriteCall};
-ghost use Rattle.held_images.specs.Needed.{IsNeededCall};
-ghost use Rattle.held_images.specs.Place.{held_in};
+ghost use Rattle.norphuen_images.specs.CallerImages.{IsLoadCall, IsOpenCall, closed_by};
+ghost use Rattle.norphuen_images.specs.Calls.{IsFreeCall, IsImageBytesCall, IsLengthCall, IsMakeCall, IsReadCall, IsSaveCall, IsWriteCall};
+ghost use Rattle.norphuen_images.specs.Needed.{IsNeededCall};
+ghost use Rattle.norphuen_images.specs.Place.{held_in};
 
+mod held;
+mod images;
+pub mod laws;
+mod slices;
+
+use crate::held::HeldImages;
+use crate::images::NphHeap;
 use c_base::{CLOSED, ClosableHeap, NphNeeded, VERSION};
-use held_images::HeldImages;
-use held_images::images::NphHeap;
 use std::rt::Memory;
 
 /// Opens the heap with these settings: `pages` pages of `page_bytes` bytes, the bound `k`, and at most `proxies` live objects

@@ -1,5 +1,5 @@
 //! The heap of long objects as a library for C. `include/norphuen.h` describes each export for C. An export calls the
-//! function of `held_large` or `c_base` that its comment names, and its contract is that function's. Each export that
+//! function of this crate or `c_base` that its comment names, and its contract is that function's. Each export that
 //! takes a heap, but `nph_large_close`, returns a code: 0 (`DONE`) if the call is done, else the cause (`c_base`,
 //! file `codes`). Of these each but `nph_large_open` returns `CLOSED` and changes nothing while the heap is closed
 //! (`IsCallOnOpen`).
@@ -8,15 +8,20 @@
 ghost use Rattle.std.specs.Prelude.{◌≡◌};
 ghost use Rattle.c_base.specs.AtPlace.{IsCallOnOpen};
 ghost use Rattle.c_base.specs.Version.{version};
-ghost use Rattle.held_large.specs.CallerHeap.{IsOpenCall, closed_by};
-ghost use Rattle.held_large.specs.Calls.{IsFiguresCall, IsFreeCall, IsLengthCall, IsMallocCall, IsReadCall, IsStepsCall, IsTotalsCall, IsWriteCall};
-ghost use Rattle.held_large.specs.Most.{IsMostAccess, IsMostFree, IsMostMalloc};
-ghost use Rattle.held_large.specs.Needed.{IsNeededCall};
-ghost use Rattle.held_large.specs.Place.{held_in};
+ghost use Rattle.norphuen_large.specs.CallerHeap.{IsOpenCall, closed_by};
+ghost use Rattle.norphuen_large.specs.Calls.{IsFiguresCall, IsFreeCall, IsLengthCall, IsMallocCall, IsReadCall, IsStepsCall, IsTotalsCall, IsWriteCall};
+ghost use Rattle.norphuen_large.specs.Most.{IsMostAccess, IsMostFree, IsMostMalloc};
+ghost use Rattle.norphuen_large.specs.Needed.{IsNeededCall};
+ghost use Rattle.norphuen_large.specs.Place.{held_in};
 
+mod held;
+mod large;
+pub mod laws;
+mod most;
+
+use crate::held::Held;
+use crate::large::NphHeap;
 use c_base::{CLOSED, ClosableHeap, NphClass, NphHeapTotals, NphNeeded, VERSION};
-use held_large::large::NphHeap;
-use held_large::{Held, most};
 use std::rt::Memory;
 
 /// Opens the heap with these settings: `pages` pages of `page_bytes` bytes, and at most `proxies` objects, parts and spines

@@ -1,5 +1,5 @@
 //! The sliced heap as a library for C. `include/norphuen.h` describes each export for C. An export calls the function
-//! of `held_sliced` that its comment names, and its contract is that function's. Each export that takes a heap, but
+//! of this crate that its comment names, and its contract is that function's. Each export that takes a heap, but
 //! `nph_sliced_close`, returns a code: 0 (`DONE`) if the call is done, else the cause (`c_base`, file `codes`). Of
 //! these each but `nph_sliced_open` returns `CLOSED` and changes nothing while the heap is closed, and each but
 //! `nph_sliced_return` returns `LENT` and changes nothing while it is lent (`IsCallOnOpen`).
@@ -7,16 +7,22 @@
 
 ghost use Rattle.std.specs.Prelude.{◌≡◌};
 ghost use Rattle.c_base.specs.AtPlace.{IsCallOnOpen, IsReturnCall};
-ghost use Rattle.held_sliced.specs.Place.{held_in};
+ghost use Rattle.norphuen_sliced.specs.Place.{held_in};
 ghost use Rattle.c_base.specs.Version.{version};
-ghost use Rattle.held_sliced.specs.AtPlace.{IsLendCall, IsOpenCall};
-ghost use Rattle.held_sliced.specs.CallerHeap.{closed_by};
-ghost use Rattle.held_sliced.specs.Calls.{IsClassCall, IsFiguresCall, IsFreeCall, IsLeftCall, IsLengthCall, IsMallocCall, IsMovingCall, IsPlaceCall, IsReadCall, IsRoomCall, IsSlotWordsCall, IsStepCall, IsStepsCall, IsTotalsCall, IsWriteCall};
-ghost use Rattle.held_sliced.specs.Most.{most_access, most_free, most_has_room, most_length, most_malloc, most_step};
-ghost use Rattle.held_sliced.specs.Needed.{IsNeededCall};
+ghost use Rattle.norphuen_sliced.specs.AtPlace.{IsLendCall, IsOpenCall};
+ghost use Rattle.norphuen_sliced.specs.CallerHeap.{closed_by};
+ghost use Rattle.norphuen_sliced.specs.Calls.{IsClassCall, IsFiguresCall, IsFreeCall, IsLeftCall, IsLengthCall, IsMallocCall, IsMovingCall, IsPlaceCall, IsReadCall, IsRoomCall, IsSlotWordsCall, IsStepCall, IsStepsCall, IsTotalsCall, IsWriteCall};
+ghost use Rattle.norphuen_sliced.specs.Most.{most_access, most_free, most_has_room, most_length, most_malloc, most_step};
+ghost use Rattle.norphuen_sliced.specs.Needed.{IsNeededCall};
 
-use held_sliced::sliced::NphHeap;
-use held_sliced::{NphClass, NphHeapTotals, NphNeeded, VERSION, most};
+mod held;
+pub mod laws;
+mod loose;
+mod most;
+mod sliced;
+
+use crate::sliced::NphHeap;
+use c_base::{NphClass, NphHeapTotals, NphNeeded, VERSION};
 use std::rt::Memory;
 
 /// Opens the heap with these settings: `pages` pages of `page_bytes` bytes, at most `proxies` live objects, and slices of at

@@ -1,5 +1,5 @@
 //! The heap of sixteen tasks as a library for C. `include/norphuen.h` describes each export for C. An export calls
-//! the function of `held_tasks` or `c_base` that its comment names, and its contract is that function's. Each export
+//! the function of this crate or `c_base` that its comment names, and its contract is that function's. Each export
 //! that takes a heap, but `nph_tasks_close`, returns a code: 0 (`DONE`) if the call is done, else the cause
 //! (`c_base`, file `codes`). Of these each but `nph_tasks_open` returns `CLOSED` and changes nothing while the heap
 //! is closed (`IsCallOnOpen`). A call of a task that there is not returns `UNKNOWN` and changes nothing (`IsOfTask`).
@@ -8,14 +8,22 @@
 ghost use Rattle.std.specs.Prelude.{◌≡◌};
 ghost use Rattle.c_base.specs.AtPlace.{IsCallOnOpen};
 ghost use Rattle.c_base.specs.Version.{version};
-ghost use Rattle.held_tasks.specs.CallerTasks.{IsOpenCall, closed_by};
-ghost use Rattle.held_tasks.specs.Calls.{IsAdmitCall, IsFiguresCall, IsFreeCall, IsLeastCall, IsLengthCall, IsMallocCall, IsOfTask, IsQuotaCall, IsReadCall, IsStepsCall, IsTaskCall, IsUnassignedCall, IsWriteCall};
-ghost use Rattle.held_tasks.specs.Needed.{IsNeededCall};
-ghost use Rattle.held_tasks.specs.Place.{held_in};
+ghost use Rattle.norphuen_tasks.specs.CallerTasks.{IsOpenCall, closed_by};
+ghost use Rattle.norphuen_tasks.specs.Calls.{IsAdmitCall, IsFiguresCall, IsFreeCall, IsLeastCall, IsLengthCall, IsMallocCall, IsOfTask, IsQuotaCall, IsReadCall, IsStepsCall, IsTaskCall, IsUnassignedCall, IsWriteCall};
+ghost use Rattle.norphuen_tasks.specs.Needed.{IsNeededCall};
+ghost use Rattle.norphuen_tasks.specs.Place.{held_in};
 
+mod answers;
+mod handles;
+mod held;
+pub mod laws;
+mod tasks;
+
+use crate::answers::NphTask;
+use crate::held::HeldTasks;
+use crate::tasks::NphHeap;
 use c_base::{CLOSED, ClosableHeap, NphClass, NphFreed, NphNeeded, VERSION};
-use held_tasks::tasks::NphHeap;
-use held_tasks::{HeldTasks, NphNeed, NphTask};
+use quota_model::Need as NphNeed;
 use std::rt::Memory;
 
 /// Opens the heap with these settings: `pages` pages of `page_bytes` bytes, and at most `proxies` live objects in each of sixteen

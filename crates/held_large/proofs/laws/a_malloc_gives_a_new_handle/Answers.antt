@@ -1,5 +1,0 @@
-use Rattle.held_large.proofs.HeldLaws.{malloc_is_new}
-use Rattle.held_large.proofs.laws.a_malloc_gives_a_new_handle.Goals as goal
-
-pub returns : goal.returns
-returns c = malloc_is_new

@@ -1,5 +1,0 @@
-use Rattle.held_sliced.proofs.HandleLaws.{malloc_is_new}
-use Rattle.held_sliced.proofs.laws.a_malloc_gives_a_new_handle.Goals as goal
-
-pub returns : goal.returns
-returns c = malloc_is_new

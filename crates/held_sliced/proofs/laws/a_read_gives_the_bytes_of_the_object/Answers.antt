@@ -1,5 +1,0 @@
-use Rattle.held_sliced.proofs.HandleLaws.{read_gives}
-use Rattle.held_sliced.proofs.laws.a_read_gives_the_bytes_of_the_object.Goals as goal
-
-pub returns : goal.returns
-returns c = read_gives

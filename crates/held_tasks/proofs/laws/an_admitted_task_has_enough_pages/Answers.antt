@@ -1,5 +1,0 @@
-use Rattle.held_tasks.proofs.TaskLaws.{admitted}
-use Rattle.held_tasks.proofs.laws.an_admitted_task_has_enough_pages.Goals as goal
-
-pub returns : goal.returns
-returns c = admitted

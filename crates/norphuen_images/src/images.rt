@@ -1,0 +1,81 @@
+//! `NphHeap` for the heap whose objects have ids: a `ClosableHeap` in types that C may see.
+ghost use Rattle.std.specs.Prelude.{◌≡◌, Option, is_some};
+ghost use Rattle.std.specs.Borrow.{sem};
+ghost use Rattle.std.specs.Coded.{coded_option};
+ghost use Rattle.c_base.specs.HeapBlock.{place_owns};
+ghost use Rattle.id_table.specs.Sessions.{RunState};
+ghost use Rattle.norphuen_images.specs.contracts.held.HeldImages.{the_row as open_heap};
+ghost use Rattle.norphuen_images.specs.State.{run_code};
+
+use crate::held::HeldImages;
+use c_base::{BOUND, ClosableHeap, DONE, IMAGE, MEMORY, OPEN, Sealed};
+use heap_image::LoadFault;
+use std::marker::Model;
+use std::mem::size_of;
+use std::rt::Memory;
+
+const _: () = prove!(size_of::<NphHeap>() == 16);
+
+/// A `HeapBlock`.
+#[repr(C)]
+#[derive(Drop)]
+pub struct Place {
+    at: *mut Sealed,
+    pub(crate) ghost held: { Option RunState } by { coded_option run_code },
+}
+
+impl Model for Place {
+    ghost also_owns = { λ p. place_owns open_heap p.at p.held };
+}
+
+unsafe impl Send for Place {}
+
+/// A `ClosableHeap`. Call its `close` before it is dropped: a drop does not free the memory of a heap.
+#[repr(C)]
+#[derive(Drop)]
+pub struct NphHeap {
+    place: Place,
+    last: u32,
+    is_open: bool,
+    ghost shown: { is_open ≡ is_some place.held },
+}
+
+impl NphHeap {
+    ghost use Rattle.norphuen_images.specs.CallerImages.{IsLoadCall};
+    ghost use Rattle.norphuen_images.specs.Place.{LendsInner, held_in, inner_of};
+
+    /// Borrows the `ClosableHeap` that this heap with ids is in memory.
+    pub fn inner(&mut self) -> &mut ClosableHeap<HeldImages>
+        ensures* writes_back { sem 𝓛 (LendsInner self.entry result) }
+        ensures value { result.now ≡ inner_of self.old }
+    {
+        unsafe { &mut *(self as *mut NphHeap as *mut ClosableHeap<HeldImages>) }
+    }
+
+    /// Opens a heap with the settings and the objects of an image, and with the bound `k`. Returns `DONE`; else the heap is unchanged,
+    /// and the code is `OPEN` if it is open already, `BOUND` if `k` isn't 1 to 64, `IMAGE` if the bytes are no image, or `MEMORY`.
+    /// After `IMAGE`, and only then, `offset` is where the bytes break a rule of images.
+    pub fn load(&mut self, memory: Memory, bytes: &[u8], k: u32, offset: &mut u64) -> i32
+        ensures { IsLoadCall (held_in self.old) bytes.now k offset.old result offset.new (held_in self.new) }
+    {
+        let heap = self.inner();
+        if heap.is_open() {
+            return OPEN;
+        }
+        if k < 1 || 64 < k {
+            return BOUND;
+        }
+        match HeldImages::load(memory, bytes, k) {
+            Ok(held) => {
+                heap.put(held);
+                DONE
+            }
+            Err(LoadFault::Bad { at }) => {
+                *offset = at;
+                IMAGE
+            }
+            Err(LoadFault::OutOfMemory) => MEMORY,
+            Err(LoadFault::Read) => unreachable!(),
+        }
+    }
+}

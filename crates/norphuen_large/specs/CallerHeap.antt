@@ -1,0 +1,23 @@
+-- What a caller in C has for a heap of long objects (`CallerHeap` of `c_base`; it is never lent), and how it is opened and closed.
+use Rattle.std.specs.Prelude.{◌≡◌, ℕ, ℤ}
+use Rattle.cf_base.specs.Settings.{profile_from, setting_fault}
+use Rattle.c_base.specs.AtPlace.{IsOpenBy}
+use Rattle.c_base.specs.CallerHeap.{CallerHeap, closed_with}
+use Rattle.c_base.specs.Handles.{largest}
+use Rattle.c_base.specs.Opening.{Opening}
+use Rattle.norphuen_large.specs.Calls.{IsFreshHeap}
+use Rattle.norphuen_large.specs.HeldState.{HeldState}
+use Rattle.norphuen_large.specs.Needed.{IsHeldBytes}
+
+-- how a heap is opened, with the bound 1 alone; what it needs; and its largest handle
+abbrev pub held_opening : Opening HeldState
+held_opening = record { takes = λ k. k ≡ 1; is_fresh = IsFreshHeap; needs = IsHeldBytes; last = λ h. largest h.handles }
+
+-- the heap after it is closed: the handles of the next one will be larger than all that its numbers have
+abbrev pub closed_by : CallerHeap HeldState → CallerHeap HeldState
+closed_by = closed_with held_opening.last
+
+-- an open with these settings: pages, bytes of a page, and proxies
+abbrev pub IsOpenCall : CallerHeap HeldState → ℕ → ℕ → ℕ → ℤ → CallerHeap HeldState → Type 0
+IsOpenCall old pages page_bytes proxies code new =
+    IsOpenBy (setting_fault pages page_bytes 1 proxies) (IsFreshHeap (profile_from pages page_bytes 1 proxies)) old code new

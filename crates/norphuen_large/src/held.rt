@@ -1,0 +1,195 @@
+//! `Held`: an open heap of long objects with the step count of its last call and the handles that C has, for a C library. Each
+//! call returns a code, and writes its other results through references.
+
+use c_base::{DONE, Handles, NphClass, NphHeapTotals, Openable, UNKNOWN, of_access, of_refusal};
+use cf_base::{BytesNeeded, Handle, Settings};
+use cf_model::{Manager, StepBounds};
+use large_objects::LargeHeap;
+use moving_heap::MovingHeap;
+use std::alloc::Global;
+use std::marker::Model;
+use std::mem::size_of;
+use std::rt::Memory;
+use step_ledger::Meter;
+
+/// The bytes of the block of an open heap.
+const HELD_BYTES: u64 = 1512;
+
+const _: () = prove!(size_of::<Held>() == 1512);
+
+/// An open heap of long objects over the moving heap, the steps of its last call, and the handle of each number: what C has for
+/// an object. A call on a handle that its number does not have now is a call on `NONE`, which is never live. `malloc`, `free`,
+/// `write`, `read` and `totals` count steps, each on a ledger of its own that it makes from `memory`; the others leave the number
+/// unchanged.
+#[derive(Drop)]
+pub struct Held {
+    heap: LargeHeap<MovingHeap>,
+    steps: u64,
+    memory: Memory,
+    handles: Handles,
+}
+
+impl Model for Held {
+    ghost use Rattle.std.specs.Prelude.{IsTrue};
+    ghost use Rattle.large_objects.specs.LargeCosts.{AreInnerCosts, moving_costs};
+    ghost use Rattle.norphuen_large.specs.HeldState.{HeldState, held_code};
+
+    ghost Value = { HeldState };
+
+    ghost coded = { held_code };
+
+    ghost view = { λ h. record { heap = h.heap; steps = h.steps; handles = h.handles } };
+
+    ghost invariant = { λ h. IsTrue h.heap.is_open × AreInnerCosts h.heap.inner ⟦<MovingHeap as StepBounds>⟧.most moving_costs };
+}
+
+impl Openable for Held {
+    ghost use Rattle.norphuen_large.specs.CallerHeap.{held_opening};
+
+    ghost opening = { held_opening };
+
+    fn bytes_needed(s: &Settings) -> BytesNeeded {
+        let heap = LargeHeap::<MovingHeap>::bytes_needed(MovingHeap::bytes_needed(s), s);
+        let handles = Handles::bytes_needed(s.proxies);
+        heap.and(handles.and(BytesNeeded::block(HELD_BYTES)))
+    }
+
+    /// Opens an empty heap of long objects for C.
+    fn open(memory: Memory, s: &Settings, last: u32) -> Option<Box<Held, Global>> {
+        let alloc = Global::new(memory);
+        let handles = Handles::new(alloc, s.proxies, last)?;
+        let mut heap = LargeHeap::new(alloc, MovingHeap::closed(alloc));
+        heap.open_heap(s).ok()?;
+        let held = Held {
+            heap,
+            steps: 0,
+            memory,
+            handles,
+        };
+        Box::new(alloc, held).ok()
+    }
+
+    fn last(&self) -> u32 {
+        self.handles.largest()
+    }
+}
+
+impl Held {
+    ghost use Rattle.norphuen_large.specs.Calls.{IsFiguresCall, IsFreeCall, IsLengthCall, IsMallocCall, IsReadCall, IsStepsCall, IsTotalsCall, IsWriteCall};
+
+    /// Makes an object of `bytes` zeros, long or short, and writes its handle into `handle`. Returns `DONE`, or the
+    /// code of the refusal: `SIZE`, `PROXY` or `SPACE`. After a refusal `handle` is unchanged.
+    pub fn malloc(&mut self, bytes: u32, handle: &mut u32) -> i32
+        ensures { IsMallocCall self.old bytes handle.old result handle.new self.new }
+    {
+        let mut meter = Meter::for_library(self.memory);
+        let answer = self.heap.malloc(bytes, &mut meter);
+        self.steps = meter.lap();
+        match answer {
+            Ok(h) => {
+                *handle = self.handles.handle_of(h.0);
+                DONE
+            }
+            Err(cause) => of_refusal(cause),
+        }
+    }
+
+    /// Frees C's object, long or short. Returns `DONE`, or `UNKNOWN` if the handle isn't live, and then no object
+    /// changes.
+    pub fn free(&mut self, handle: u32) -> i32
+        ensures { IsFreeCall self.old handle result self.new }
+    {
+        let number = self.handles.number_in(handle);
+        let mut meter = Meter::for_library(self.memory);
+        let answer = self.heap.free(Handle(number), &mut meter);
+        self.steps = meter.lap();
+        match answer {
+            Ok(()) => {
+                self.handles.raise(handle);
+                DONE
+            }
+            Err(_) => UNKNOWN,
+        }
+    }
+
+    /// Writes the bytes into C's object, long or short, from its byte `at` on. Returns `DONE`; `UNKNOWN` if the handle
+    /// isn't live, or `RANGE` if the bytes pass the object's end, and then no object changes.
+    pub fn write(&mut self, handle: u32, at: u32, bytes: &[u8]) -> i32
+        ensures { IsWriteCall self.old handle at bytes.now result self.new }
+    {
+        let number = self.handles.number_in(handle);
+        let mut meter = Meter::for_library(self.memory);
+        let answer = self.heap.write(Handle(number), at, bytes, &mut meter);
+        self.steps = meter.lap();
+        match answer {
+            Ok(()) => DONE,
+            Err(cause) => of_access(cause),
+        }
+    }
+
+    /// Fills `out` with the bytes of C's object, long or short, from its byte `at` on. Returns `DONE`; `UNKNOWN` if the
+    /// handle isn't live, or `RANGE` if the bytes pass the object's end, and then `out` is unchanged.
+    pub fn read(&mut self, handle: u32, at: u32, out: &mut [u8]) -> i32
+        ensures { IsReadCall self.old handle at out.old result out.new self.new }
+    {
+        let number = self.handles.number_in(handle);
+        let mut meter = Meter::for_library(self.memory);
+        let answer = self.heap.read(Handle(number), at, out, &mut meter);
+        self.steps = meter.lap();
+        match answer {
+            Ok(()) => DONE,
+            Err(cause) => of_access(cause),
+        }
+    }
+
+    /// Writes the object's length in bytes, also if long, into `bytes`. Returns `DONE`, or `UNKNOWN` if the handle
+    /// isn't live; then `bytes` is unchanged.
+    pub fn length(&mut self, handle: u32, bytes: &mut u32) -> i32
+        ensures { IsLengthCall self.old handle bytes.old result bytes.new self.new }
+    {
+        match self.heap.length_of(Handle(self.handles.number_in(handle))) {
+            Some(n) => {
+                *bytes = n;
+                DONE
+            }
+            None => UNKNOWN,
+        }
+    }
+
+    /// Writes the figures of a class, numbered from 0, into `figures`; each part and each spine counts as an object. Returns `DONE`,
+    /// or `UNKNOWN` if there is no such class; then `figures` is unchanged.
+    pub fn figures(&mut self, class: u32, figures: &mut NphClass) -> i32
+        ensures { IsFiguresCall self.old class figures.old result figures.new self.new }
+    {
+        // For its contract: an open heap keeps its rules.
+        let _ = self.heap.is_open();
+        match self.heap.inner().figures(class) {
+            Some(f) => {
+                *figures = NphClass::of(f);
+                DONE
+            }
+            None => UNKNOWN,
+        }
+    }
+
+    /// Writes the figures of the whole heap into `totals`; each part and each spine counts as an object. Always returns `DONE`.
+    pub fn totals(&mut self, totals: &mut NphHeapTotals) -> i32
+        ensures { IsTotalsCall self.old result totals.new self.new }
+    {
+        // For its contract: an open heap keeps its rules.
+        let _ = self.heap.is_open();
+        let mut meter = Meter::for_library(self.memory);
+        let all = self.heap.inner().totals(meter.steps());
+        self.steps = meter.lap();
+        *totals = NphHeapTotals::of(all);
+        DONE
+    }
+
+    /// Writes the steps of the last call on long objects into `steps`; 0 if there was none. Always returns `DONE`.
+    pub fn last_steps(&mut self, steps: &mut u64) -> i32
+        ensures { IsStepsCall self.old result steps.new self.new }
+    {
+        *steps = self.steps;
+        DONE
+    }
+}

@@ -1,0 +1,50 @@
+//! `NphHeap` for the heap of long objects: a `ClosableHeap` in types that C may see.
+ghost use Rattle.std.specs.Prelude.{◌≡◌, Option, is_some};
+ghost use Rattle.std.specs.Borrow.{sem};
+ghost use Rattle.std.specs.Coded.{coded_option};
+ghost use Rattle.c_base.specs.HeapBlock.{place_owns};
+ghost use Rattle.norphuen_large.specs.HeldState.{HeldState, held_code};
+ghost use Rattle.norphuen_large.specs.contracts.held.Held.{the_row as open_heap};
+
+use crate::held::Held;
+use c_base::{ClosableHeap, Sealed};
+use std::marker::Model;
+use std::mem::size_of;
+
+const _: () = prove!(size_of::<NphHeap>() == 16);
+
+/// A `HeapBlock`.
+#[repr(C)]
+#[derive(Drop)]
+pub struct Place {
+    at: *mut Sealed,
+    pub(crate) ghost held: { Option HeldState } by { coded_option held_code },
+}
+
+impl Model for Place {
+    ghost also_owns = { λ p. place_owns open_heap p.at p.held };
+}
+
+unsafe impl Send for Place {}
+
+/// A `ClosableHeap`. Call its `close` before it is dropped: a drop does not free the memory of a heap.
+#[repr(C)]
+#[derive(Drop)]
+pub struct NphHeap {
+    place: Place,
+    last: u32,
+    is_open: bool,
+    ghost shown: { is_open ≡ is_some place.held },
+}
+
+impl NphHeap {
+    ghost use Rattle.norphuen_large.specs.Place.{LendsInner, inner_of};
+
+    /// Borrows the `ClosableHeap` that this heap of long objects is in memory.
+    pub fn inner(&mut self) -> &mut ClosableHeap<Held>
+        ensures* writes_back { sem 𝓛 (LendsInner self.entry result) }
+        ensures value { result.now ≡ inner_of self.old }
+    {
+        unsafe { &mut *(self as *mut NphHeap as *mut ClosableHeap<Held>) }
+    }
+}

@@ -1,0 +1,46 @@
+-- For `NphHeap` of `sliced.rt`, the struct that a caller in C has for its heap: the `LendableHeap` that it is in memory.
+use Rattle.std.specs.Borrow.{Fml, Lends, MutBor}
+use Rattle.c_base.specs.CallerHeap.{CallerHeap}
+use Rattle.c_base.specs.Place as base
+use Rattle.c_base.specs.contracts.heap.LendableHeap.{the_row as heap_row}
+use Rattle.c_base.specs.declared.heap.LendableHeap.{LendableHeap}
+use Rattle.norphuen_sliced.specs.HeldState.{HeldState}
+use Rattle.norphuen_sliced.specs.Sliced.{loose_heap, open_heap}
+use Rattle.norphuen_sliced.specs.contracts.loose.HeldLendableLooseHeld.TheImpl.{ghosts}
+use Rattle.norphuen_sliced.specs.contracts.sliced.NphHeap.{the_row}
+use Rattle.norphuen_sliced.specs.declared.loose.LooseHeld.{LooseHeld}
+use Rattle.norphuen_sliced.specs.declared.sliced.NphHeap.{NphHeap}
+
+-- the `LendableHeap` that the struct is
+abbrev pub inner_of : NphHeap → LendableHeap HeldState LooseHeld
+inner_of n = record {
+  place = record { at = n.place.at; held = n.place.held };
+  loan = record { of = record {}; heap = n.loan.heap; block = n.loan.block; words = n.loan.words };
+  last = n.last;
+  is_open = n.is_open;
+  is_lent = n.is_lent;
+  shown = n.shown;
+  lent_shown = n.lent_shown;
+  same = n.same;
+}
+
+-- the struct that a `LendableHeap` is
+abbrev pub outer_of : LendableHeap HeldState LooseHeld → NphHeap
+outer_of h = record {
+  place = record { at = h.place.at; held = h.place.held };
+  loan = record { of = record {}; heap = h.loan.heap; block = h.loan.block; words = h.loan.words };
+  last = h.last;
+  is_open = h.is_open;
+  is_lent = h.is_lent;
+  shown = h.shown;
+  lent_shown = h.lent_shown;
+  same = h.same;
+}
+
+-- the heap of the struct: closed, open or lent
+abbrev pub held_in : NphHeap → CallerHeap HeldState
+held_in n = base.held_in (inner_of n)
+
+-- s is the borrow of the struct, r that of the `LendableHeap` in the same memory: when r ends, the struct is what r leaves
+abbrev pub LendsInner : MutBor NphHeap → MutBor (LendableHeap HeldState LooseHeld) → Fml
+LendsInner s r = Lends the_row (heap_row open_heap loose_heap ghosts) s r outer_of

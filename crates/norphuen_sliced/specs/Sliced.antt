@@ -1,0 +1,12 @@
+-- For `sliced.rt`: the types of an open sliced heap (`Held`) and of its fields in the kit's logic of memory. The kit generates `the_row`, the type of a struct.
+use denote.RattleType.{RattleType}
+use Rattle.norphuen_sliced.specs.contracts.held.Held as held
+use Rattle.norphuen_sliced.specs.contracts.loose.LooseHeld as loose
+
+-- an open sliced heap, `Held`
+abbrev pub open_heap : RattleType
+open_heap = held.the_row
+
+-- its fields, `LooseHeld`
+abbrev pub loose_heap : RattleType
+loose_heap = loose.the_row

@@ -1,0 +1,312 @@
+//! `Held`: an open sliced heap with the step count of its last call and the handles that C has, for a C library. Each
+//! call returns a code, and writes its other results through references.
+ghost use Rattle.std.specs.Prelude.{◌≡◌, ◌≤◌, IfSome, is_some};
+ghost use Rattle.cf_base.specs.Settings.{profile_of};
+ghost use Rattle.slice_model.specs.State.{job_slot};
+ghost use Rattle.norphuen_sliced.specs.Codes.{fault_code, refusal_code};
+
+use c_base::{
+    BUSY, DONE, Handles, NphClass, NphHeapTotals, PROXY, SIZE, SPACE, UNKNOWN, of_access,
+};
+use cf_base::{Handle, Settings};
+use slice_model::{SliceFault, SliceRefusal};
+use sliced_heap::SlicedHeap;
+use std::alloc::Global;
+use std::marker::Model;
+use std::rt::Memory;
+use step_ledger::Meter;
+
+/// An open sliced heap, the steps of its last call, and the handle of each number: what C has for an object. A call on a
+/// handle that its number does not have now is a call on `NONE`, which is never live. Only `left`, `moving`, `figures`,
+/// `totals` and `last_steps` count no steps, and leave this number unchanged.
+#[derive(Drop)]
+pub struct Held {
+    heap: SlicedHeap,
+    steps: u64,
+    memory: Memory,
+    handles: Handles,
+}
+
+impl Model for Held {
+    ghost use Rattle.std.specs.Prelude.{IsTrue};
+    ghost use Rattle.norphuen_sliced.specs.HeldState.{HeldState, held_code};
+
+    ghost Value = { HeldState };
+
+    ghost coded = { held_code };
+
+    ghost view = { λ h. record { heap = h.heap; steps = h.steps; handles = h.handles } };
+
+    ghost invariant = { λ h. IsTrue h.heap.is_open };
+}
+
+impl Held {
+    ghost use Rattle.c_base.specs.Handles.{largest};
+    ghost use Rattle.norphuen_sliced.specs.Calls.{IsClassCall, IsFiguresCall, IsFreeCall, IsFreshHeap, IsLeftCall, IsLengthCall, IsMallocCall, IsMovingCall, IsPlaceCall, IsReadCall, IsRoomCall, IsSlotWordsCall, IsStepCall, IsStepsCall, IsTotalsCall, IsWriteCall};
+
+    /// Opens a sliced heap without objects, with slices of at most `quantum` words, in a block of its own. Its handles
+    /// are larger than `last`. Returns `None` if out of memory.
+    pub fn open(memory: Memory, s: &Settings, quantum: u32, last: u32) -> Option<Box<Held>>
+        requires least { 1 ≤ quantum }
+        requires most { quantum ≤ 16384 }
+        ensures { IfSome result (λ b. IsFreshHeap (profile_of s.now) quantum last b.value) }
+    {
+        let alloc = Global::new(memory);
+        let handles = Handles::new(alloc, s.proxies, last)?;
+        let mut heap = SlicedHeap::closed(alloc);
+        heap.open_heap(s, quantum).ok()?;
+        let held = Held {
+            heap,
+            steps: 0,
+            memory,
+            handles,
+        };
+        Box::new(alloc, held).ok()
+    }
+
+    /// Makes an object of `bytes` zeros in the sliced heap and writes its handle into `handle`. Returns `DONE`, or the
+    /// code of the refusal: `SIZE`, `PROXY`, `SPACE` or `BUSY`. After a refusal `handle` is unchanged.
+    pub fn malloc(&mut self, bytes: u32, handle: &mut u32) -> i32
+        ensures { IsMallocCall self.old bytes handle.old result handle.new self.new }
+    {
+        let mut meter = Meter::for_library(self.memory);
+        let answer = self.heap.malloc(bytes, meter.steps());
+        self.steps = meter.lap();
+        match answer {
+            Ok(h) => {
+                *handle = self.handles.handle_of(h.0);
+                DONE
+            }
+            Err(cause) => of_refusal(cause),
+        }
+    }
+
+    /// For C, frees an object, and does the first slice of the job that this leaves. Returns `DONE`; else, with no
+    /// object changed, `UNKNOWN` if the handle isn't live, or `BUSY` if a job is pending.
+    pub fn free(&mut self, handle: u32) -> i32
+        ensures { IsFreeCall self.old handle result self.new }
+    {
+        let number = self.handles.number_in(handle);
+        let mut meter = Meter::for_library(self.memory);
+        let answer = self.heap.free(Handle(number), meter.steps());
+        self.steps = meter.lap();
+        match answer {
+            Ok(()) => {
+                self.handles.raise(handle);
+                DONE
+            }
+            Err(cause) => of_fault(cause),
+        }
+    }
+
+    /// For C, does one slice of the pending job; nothing if none is pending. Always returns `DONE`.
+    pub fn step(&mut self) -> i32
+        ensures { IsStepCall self.old result self.new }
+    {
+        let mut meter = Meter::for_library(self.memory);
+        self.heap.step(meter.steps());
+        self.steps = meter.lap();
+        DONE
+    }
+
+    /// Writes into `words` how many words the pending job has yet to clear or move; 0 if none is pending. Always returns
+    /// `DONE`.
+    pub fn left(&mut self, words: &mut u32) -> i32
+        ensures { IsLeftCall self.old result words.new self.new }
+    {
+        *words = self.heap.left();
+        DONE
+    }
+
+    /// Writes into `handle` the handle of the object that the pending job moves; `NONE` if it moves none, or no job is
+    /// pending. Always returns `DONE`.
+    pub fn moving(&mut self, handle: &mut u32) -> i32
+        ensures { IsMovingCall self.old result handle.new self.new }
+    {
+        *handle = self.handles.of_moved(self.heap.moving());
+        DONE
+    }
+
+    /// Writes the bytes into an object, from its byte `at` on, also while a job moves it. Returns `DONE`; `UNKNOWN` if the
+    /// handle isn't live, or `RANGE` if the bytes pass the object's end, and then no object changes.
+    pub fn write(&mut self, handle: u32, at: u32, bytes: &[u8]) -> i32
+        ensures { IsWriteCall self.old handle at bytes.now result self.new }
+    {
+        let number = self.handles.number_in(handle);
+        let mut meter = Meter::for_library(self.memory);
+        let answer = self.heap.write(Handle(number), at, bytes, meter.steps());
+        self.steps = meter.lap();
+        match answer {
+            Ok(()) => DONE,
+            Err(cause) => of_access(cause),
+        }
+    }
+
+    /// Fills `out` with the bytes of an object from its byte `at` on, also while a job moves it. Returns `DONE`; `UNKNOWN` if
+    /// the handle isn't live, or `RANGE` if the bytes pass the object's end, and then `out` is unchanged.
+    pub fn read(&mut self, handle: u32, at: u32, out: &mut [u8]) -> i32
+        ensures { IsReadCall self.old handle at out.old result out.new self.new }
+    {
+        let number = self.handles.number_in(handle);
+        let mut meter = Meter::for_library(self.memory);
+        let answer = self.heap.read(Handle(number), at, out, meter.steps());
+        self.steps = meter.lap();
+        match answer {
+            Ok(()) => DONE,
+            Err(cause) => of_access(cause),
+        }
+    }
+
+    /// Writes the length in bytes of a sliced heap's object into `bytes`. Returns `DONE`, or `UNKNOWN` if the handle
+    /// isn't live; then `bytes` is unchanged.
+    pub fn length(&mut self, handle: u32, bytes: &mut u32) -> i32
+        ensures { IsLengthCall self.old handle bytes.old result bytes.new self.new }
+    {
+        let number = self.handles.number_in(handle);
+        let mut meter = Meter::for_library(self.memory);
+        let answer = self.heap.length(Handle(number), meter.steps());
+        self.steps = meter.lap();
+        match answer {
+            Some(n) => {
+                *bytes = n;
+                DONE
+            }
+            None => UNKNOWN,
+        }
+    }
+
+    /// Writes the words of an object's slot into `words`: those that a free of it clears. Returns `DONE`, or `UNKNOWN` if the
+    /// handle isn't live; then `words` is unchanged.
+    pub fn slot_words(&mut self, handle: u32, words: &mut u32) -> i32
+        ensures { IsSlotWordsCall self.old handle words.old result words.new self.new }
+    {
+        let number = self.handles.number_in(handle);
+        let mut meter = Meter::for_library(self.memory);
+        let answer = self.heap.slot_words(Handle(number), meter.steps());
+        self.steps = meter.lap();
+        match answer {
+            Some(n) => {
+                *words = n;
+                DONE
+            }
+            None => UNKNOWN,
+        }
+    }
+
+    /// Writes the sliced heap's class of an object of `bytes` bytes, numbered from 0, into `class`. Returns `DONE`, or
+    /// `SIZE` if it needs more than a page; then `class` is unchanged.
+    pub fn class_of(&mut self, bytes: u32, class: &mut u32) -> i32
+        ensures { IsClassCall self.old bytes class.old result class.new self.new }
+    {
+        let mut meter = Meter::for_library(self.memory);
+        let answer = self.heap.class_of(bytes, meter.steps());
+        self.steps = meter.lap();
+        match answer {
+            Some(c) => {
+                *class = c;
+                DONE
+            }
+            None => SIZE,
+        }
+    }
+
+    /// Writes the figures of a class of the sliced heap, numbered from 0, into `figures`. A pending job's slot counts
+    /// as used. Returns `DONE`, or `UNKNOWN` if there is no such class; then `figures` is unchanged.
+    pub fn figures(&mut self, class: u32, figures: &mut NphClass) -> i32
+        ensures { IsFiguresCall self.old class figures.old result figures.new self.new }
+    {
+        match self.heap.figures(class) {
+            Some(f) => {
+                *figures = NphClass::of(f);
+                DONE
+            }
+            None => UNKNOWN,
+        }
+    }
+
+    /// Writes the figures of the whole sliced heap into `totals`. A pending job's slot counts as used and as taken.
+    /// Always returns `DONE`.
+    pub fn totals(&mut self, totals: &mut NphHeapTotals) -> i32
+        ensures { IsTotalsCall self.old result totals.new self.new }
+    {
+        let all = self.heap.totals();
+        *totals = NphHeapTotals::of(all);
+        DONE
+    }
+
+    /// Returns the code that a sliced heap's malloc of `bytes` bytes would return now; makes no object.
+    pub fn has_room(&mut self, bytes: u32) -> i32
+        ensures { IsRoomCall self.old bytes result self.new }
+    {
+        let mut meter = Meter::for_library(self.memory);
+        let answer = self.heap.has_room(bytes, meter.steps());
+        self.steps = meter.lap();
+        match answer {
+            Ok(()) => DONE,
+            Err(cause) => of_refusal(cause),
+        }
+    }
+
+    /// Writes the steps of the sliced heap's last call into `steps`; 0 if there was none. Always returns `DONE`.
+    pub fn last_steps(&mut self, steps: &mut u64) -> i32
+        ensures { IsStepsCall self.old result steps.new self.new }
+    {
+        *steps = self.steps;
+        DONE
+    }
+
+    /// Writes the address of a sliced heap's object into `place`, in words from the start of the region. A job that
+    /// moves the object moves it there. Returns `DONE`, or `UNKNOWN` if the handle isn't live; then `place` is
+    /// unchanged.
+    pub fn place(&mut self, handle: u32, place: &mut u32) -> i32
+        ensures { IsPlaceCall self.old handle place.old result place.new self.new }
+    {
+        let number = self.handles.number_in(handle);
+        let mut meter = Meter::for_library(self.memory);
+        let answer = self.heap.place(Handle(number), meter.steps());
+        self.steps = meter.lap();
+        match answer {
+            Some(at) => {
+                *place = at;
+                DONE
+            }
+            None => UNKNOWN,
+        }
+    }
+
+    /// Returns whether C's sliced heap has a pending job.
+    pub(crate) fn has_job(&self) -> bool
+        ensures { result ≡ is_some (job_slot self.now.heap.job) }
+    {
+        self.heap.has_job()
+    }
+
+    /// The largest handle that a number of the sliced heap has.
+    pub(crate) fn last_handle(&self) -> u32
+        ensures { result ≡ largest self.now.handles }
+    {
+        self.handles.largest()
+    }
+}
+
+/// The code of a sliced heap's refused malloc.
+fn of_refusal(cause: SliceRefusal) -> i32
+    ensures { result ≡ refusal_code cause }
+{
+    match cause {
+        SliceRefusal::Size => SIZE,
+        SliceRefusal::Proxy => PROXY,
+        SliceRefusal::Space => SPACE,
+        SliceRefusal::Busy => BUSY,
+    }
+}
+
+/// The code of a refused free.
+fn of_fault(cause: SliceFault) -> i32
+    ensures { result ≡ fault_code cause }
+{
+    match cause {
+        SliceFault::Unknown => UNKNOWN,
+        SliceFault::Busy => BUSY,
+    }
+}

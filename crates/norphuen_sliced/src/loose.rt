@@ -1,0 +1,101 @@
+//! `LooseHeld`: an open sliced heap with its step count, as `Held` has it, field by field, but with no invariant. A `Held`
+//! is a `LooseHeld` whose heap is valid, in the same memory; so the words of its region can be borrowed all at once.
+ghost use Rattle.std.specs.Prelude.{◌≡◌, IsSome, length, refl};
+ghost use Rattle.c_base.specs.Lending.{AreOf, IsFit};
+ghost use Rattle.std.specs.Borrow.{sem};
+ghost use Rattle.norphuen_sliced.specs.Loose.{lending as of_held, words_in, words_of};
+ghost use Rattle.norphuen_sliced.specs.LooseLoan.{LendsAllOf, LendsAllIn, LendsAllWords};
+ghost use Rattle.norphuen_sliced.specs.Restored.{restored as same_words};
+
+use crate::held::Held;
+use c_base::{Handles, HeapBlock, Lendable};
+use sliced_heap::OpenHeap;
+use std::alloc::Global;
+use std::rt::Memory;
+use step_ledger::Meter;
+
+/// The fields of `SlicedHeap`.
+#[derive(Drop)]
+pub struct LooseSliced {
+    pub(crate) alloc: Global,
+    pub(crate) inner: Option<OpenHeap>,
+}
+
+/// The fields of `Held`.
+#[derive(Drop)]
+pub struct LooseHeld {
+    pub(crate) heap: LooseSliced,
+    pub(crate) steps: u64,
+    pub(crate) memory: Memory,
+    pub(crate) handles: Handles,
+}
+
+/// Borrows all words of the sliced heap's region.
+fn all_of(heap: &mut OpenHeap, memory: Memory) -> &mut [u64]
+    ensures* writes_back { sem 𝓛 (LendsAllOf heap.entry result) }
+    ensures value { result.now ≡ heap.old.region }
+{
+    let n = heap.region.len();
+    let mut meter = Meter::for_library(memory);
+    heap.region.payload_mut(0, n, meter.steps())
+}
+
+/// Borrows all words of the region of a sliced heap that is open.
+fn all_in(inner: &mut Option<OpenHeap>, memory: Memory) -> &mut [u64]
+    requires open { IsSome inner.old }
+    ensures* writes_back { sem 𝓛 (LendsAllIn inner.entry result) }
+    ensures value { result.now ≡ words_in inner.old }
+{
+    match inner {
+        Some(heap) => all_of(heap, memory),
+        None => unreachable!(),
+    }
+}
+
+/// Borrows all words of the region of a held sliced heap that is open. When the borrow ends, the region has the words
+/// as they then are.
+fn all_words(held: &mut LooseHeld) -> &mut [u64]
+    requires open { IsSome held.old.heap.inner }
+    ensures* writes_back { sem 𝓛 (LendsAllWords held.entry result) }
+    ensures value { result.now ≡ words_of held.old }
+{
+    let memory = held.memory;
+    let heap = &mut held.heap;
+    all_in(&mut heap.inner, memory)
+}
+
+impl Lendable<LooseHeld> for Held {
+    ghost lending = { of_held };
+
+    fn loosened(block: HeapBlock<Held>) -> HeapBlock<LooseHeld>
+        requires { IsSome block.held }
+        ensures { AreOf of_held result.held block.held }
+    {
+        let HeapBlock { at } = block;
+        HeapBlock {
+            at: at as *mut LooseHeld,
+        }
+    }
+
+    fn tightened(block: HeapBlock<LooseHeld>) -> HeapBlock<Held>
+        requires { IsFit of_held block.held }
+        ensures { AreOf of_held block.held result.held }
+    {
+        let HeapBlock { at } = block;
+        HeapBlock {
+            at: at as *mut Held,
+        }
+    }
+
+    fn all_words(parts: &mut LooseHeld) -> &mut [u64] {
+        all_words(parts)
+    }
+
+    fn last(&self) -> u32 {
+        self.last_handle()
+    }
+
+    ghost restored = { same_words };
+
+    ghost forever = { refl };
+}

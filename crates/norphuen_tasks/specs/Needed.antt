@@ -1,0 +1,22 @@
+-- The memory that opening a heap of tasks asks for, as a caller in C gets it.
+use Rattle.std.specs.Prelude.{ℕ, ℤ}
+use Rattle.cf_base.specs.Needed.{both, one_block}
+use Rattle.cf_base.specs.Settings.{Profile, profile_from, setting_fault}
+use Rattle.cf_base.specs.declared.needed.BytesNeeded.{BytesNeeded}
+use Rattle.c_base.specs.Needed.{AreNeeded, IsOfHandles}
+use Rattle.c_base.specs.declared.answers.NphNeeded.{NphNeeded}
+use Rattle.quota_heap.specs.Needed.{quota_bytes}
+use Rattle.norphuen_tasks.specs.Handles.{handles_bytes}
+
+-- the heap, the handles of `count` numbers for each task, and the block of the open heap
+abbrev pub held_bytes : Profile → ℕ → BytesNeeded
+held_bytes p count = both (quota_bytes p) (both (handles_bytes count) (one_block 248))
+
+-- what opening a heap with the settings p asks for
+abbrev pub IsHeldBytes : Profile → BytesNeeded → Type 0
+IsHeldBytes p = IsOfHandles p.proxies (held_bytes p)
+
+-- a call for the memory of a heap with these settings: pages, bytes of a page, and proxies of each task
+abbrev pub IsNeededCall : ℕ → ℕ → ℕ → ℤ → NphNeeded → NphNeeded → Type 0
+IsNeededCall pages page_bytes proxies code before after =
+    AreNeeded (setting_fault pages page_bytes 1 proxies) (IsHeldBytes (profile_from pages page_bytes 1 proxies)) code before after

@@ -1,0 +1,25 @@
+-- For `NphHeap` of `tasks.rt`, the struct that a caller in C has for its heap: the `ClosableHeap` that it is in memory.
+use Rattle.std.specs.Borrow.{Fml, Lends, MutBor}
+use Rattle.c_base.specs.CallerHeap.{CallerHeap}
+use Rattle.c_base.specs.ClosablePlace as base
+use Rattle.c_base.specs.contracts.closable.ClosableHeap.{the_row as heap_row}
+use Rattle.c_base.specs.declared.closable.ClosableHeap.{ClosableHeap}
+use Rattle.norphuen_tasks.specs.TasksState.{TasksState}
+use Rattle.norphuen_tasks.specs.contracts.held.HeldTasks.{the_row as open_heap}
+use Rattle.norphuen_tasks.specs.contracts.tasks.NphHeap.{the_row}
+use Rattle.norphuen_tasks.specs.declared.tasks.NphHeap.{NphHeap}
+
+-- the `ClosableHeap` that the struct is, and the struct that a `ClosableHeap` is
+abbrev pub inner_of : NphHeap → ClosableHeap TasksState
+inner_of n = record { place = record { at = n.place.at; held = n.place.held }; last = n.last; is_open = n.is_open; shown = n.shown }
+
+abbrev pub outer_of : ClosableHeap TasksState → NphHeap
+outer_of h = record { place = record { at = h.place.at; held = h.place.held }; last = h.last; is_open = h.is_open; shown = h.shown }
+
+-- the heap of the struct: closed or open
+abbrev pub held_in : NphHeap → CallerHeap TasksState
+held_in n = base.held_in (inner_of n)
+
+-- s is the borrow of the struct, r that of the `ClosableHeap` in the same memory: when r ends, the struct is what r leaves
+abbrev pub LendsInner : MutBor NphHeap → MutBor (ClosableHeap TasksState) → Fml
+LendsInner s r = Lends the_row (heap_row open_heap) s r outer_of
