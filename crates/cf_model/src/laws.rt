@@ -33,12 +33,11 @@ ghost use Rattle.cf_model.specs.Steps.{ReadsBytes, ResizesObject, WritesBytes, e
 
 use block_model::free_order::lists_stay_lists_of_the_blocks;
 
-/// The state of a heap that was just opened keeps the rules (`KeepsRules`). With pages its words
-/// are zeros, and it has no order or the opening one (clause `pages`). With blocks word 0 is the
-/// header of the one free block, and the words from 2 on are zeros. Word 1 may be any word if the
-/// state has no order (`blocks`). If it has the opening order, word 1 links the block with no other
-/// (`linked`). So each kind has such words, without an order (`there`) and with the opening one
-/// (`ordered`).
+/// The state of a manager's heap that was just opened keeps the rules (`KeepsRules`). With pages its words are zeros,
+/// and it has no order or the opening one (clause `pages`). With blocks word 0 is the header of the one free block, and
+/// the words from 2 on are zeros. Word 1 may be any word if the state has no order (`blocks`). If it has the opening
+/// order, word 1 links the block with no other (`linked`). So each kind has such words, without an order (`there`) and
+/// with the opening one (`ordered`).
 pub fn an_empty_heap_keeps_the_rules()
     ensures pages { (kind : Kind) (p : Profile) (order : Option Order) → IsPaged kind → AreInRange p → IsOpeningOrder kind p order
         → KeepsRules (ordered_heap kind p (replicate (region_words p) 0) order) }
@@ -66,7 +65,7 @@ pub fn a_promise_is_an_opening_order()
         → new ≡ ordered_heap old.kind (profile_of s) new.words (Some (opening_order old.kind (profile_of s))) }
 {}
 
-/// A read of the bytes that were just written returns them, and a write changes no other object.
+/// On any manager, a read of the bytes that were just written returns them, and a write changes no other object.
 pub fn what_is_written_is_read()
     ensures same { (old new : HeapState) (position : Position) (bytes out : List ℕ)
         → WritesBytes old position bytes new → ReadsBytes new position (length bytes) out → out ≡ bytes }
@@ -75,7 +74,7 @@ pub fn what_is_written_is_read()
         → (q : ℕ) → q ≢ position.number → get new.held q ≡ get old.held q }
 {}
 
-/// After a free that succeeds, the freed handle isn't live.
+/// On any manager, after a free that succeeds, the freed handle isn't live.
 pub fn what_is_freed_is_gone()
     ensures { (old new : HeapState) (h : ℕ) (freed : Freed)
         → FreesObject old h freed new → get new.held h ≡ None }
@@ -92,8 +91,8 @@ pub fn blocks_of_others_stay()
         → KeepsRules old → KeepsRules new → ChangesCost old new → BlocksStay old h new }
 {}
 
-/// A call that succeeds has no cause for a refusal, so each refusal happens if and only if its
-/// cause holds. A malloc has at most one cause.
+/// A manager's call that succeeds has no cause for a refusal, so each refusal happens if and only if its cause holds. A
+/// malloc has at most one cause.
 pub fn refusals_come_exactly_by_their_causes()
     ensures malloc { (old new : HeapState) (asked : Request) (e : Refusal)
         → AddsObject old asked new → ¬ IsRefusedBy old asked.length e }

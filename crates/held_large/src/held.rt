@@ -156,8 +156,8 @@ impl Held {
         }
     }
 
-    /// Writes the figures of a class, numbered from 0, into `figures`; each part and each spine counts as an object. Returns `DONE`,
-    /// or `UNKNOWN` if there is no such class; then `figures` is unchanged.
+    /// Writes C's figures of a class, numbered from 0, into `figures`; each part and each spine counts as an object.
+    /// Returns `DONE`, or `UNKNOWN` if there is no such class; then `figures` is unchanged.
     pub fn figures(&mut self, class: u32, figures: &mut NphClass) -> i32
         ensures { IsFiguresCall self.old class figures.old result figures.new self.new }
     {
@@ -172,7 +172,8 @@ impl Held {
         }
     }
 
-    /// Writes the figures of the whole heap into `totals`; each part and each spine counts as an object. Always returns `DONE`.
+    /// Writes C's figures of the whole heap into `totals`; each part and each spine counts as an object. Always returns
+    /// `DONE`.
     pub fn totals(&mut self, totals: &mut NphHeapTotals) -> i32
         ensures { IsTotalsCall self.old result totals.new self.new }
     {

@@ -109,8 +109,8 @@ impl Held {
         DONE
     }
 
-    /// Writes into `words` how many words the pending job has yet to clear or move; 0 if none is pending. Always returns
-    /// `DONE`.
+    /// For C, writes into `words` how many words the pending job has yet to clear or move; 0 if none is pending. Always
+    /// returns `DONE`.
     pub fn left(&mut self, words: &mut u32) -> i32
         ensures { IsLeftCall self.old result words.new self.new }
     {
@@ -118,8 +118,8 @@ impl Held {
         DONE
     }
 
-    /// Writes into `handle` the handle of the object that the pending job moves; `NONE` if it moves none, or no job is
-    /// pending. Always returns `DONE`.
+    /// For C, writes into `handle` the handle of the object that the pending job moves; `NONE` if it moves none, or no
+    /// job is pending. Always returns `DONE`.
     pub fn moving(&mut self, handle: &mut u32) -> i32
         ensures { IsMovingCall self.old result handle.new self.new }
     {
@@ -127,8 +127,8 @@ impl Held {
         DONE
     }
 
-    /// Writes the bytes into an object, from its byte `at` on, also while a job moves it. Returns `DONE`; `UNKNOWN` if the
-    /// handle isn't live, or `RANGE` if the bytes pass the object's end, and then no object changes.
+    /// For C, writes the bytes into an object, from its byte `at` on, also while a job moves it. Returns `DONE`;
+    /// `UNKNOWN` if the handle isn't live, or `RANGE` if the bytes pass the object's end, and then no object changes.
     pub fn write(&mut self, handle: u32, at: u32, bytes: &[u8]) -> i32
         ensures { IsWriteCall self.old handle at bytes.now result self.new }
     {
@@ -142,8 +142,8 @@ impl Held {
         }
     }
 
-    /// Fills `out` with the bytes of an object from its byte `at` on, also while a job moves it. Returns `DONE`; `UNKNOWN` if
-    /// the handle isn't live, or `RANGE` if the bytes pass the object's end, and then `out` is unchanged.
+    /// For C, fills `out` with the bytes of an object from its byte `at` on, also while a job moves it. Returns `DONE`;
+    /// `UNKNOWN` if the handle isn't live, or `RANGE` if the bytes pass the object's end, and then `out` is unchanged.
     pub fn read(&mut self, handle: u32, at: u32, out: &mut [u8]) -> i32
         ensures { IsReadCall self.old handle at out.old result out.new self.new }
     {
@@ -175,8 +175,8 @@ impl Held {
         }
     }
 
-    /// Writes the words of an object's slot into `words`: those that a free of it clears. Returns `DONE`, or `UNKNOWN` if the
-    /// handle isn't live; then `words` is unchanged.
+    /// For C's sliced heap, writes the words of an object's slot into `words`: those that a free of it clears. Returns
+    /// `DONE`, or `UNKNOWN` if the handle isn't live; then `words` is unchanged.
     pub fn slot_words(&mut self, handle: u32, words: &mut u32) -> i32
         ensures { IsSlotWordsCall self.old handle words.old result words.new self.new }
     {
@@ -193,8 +193,8 @@ impl Held {
         }
     }
 
-    /// Writes the sliced heap's class of an object of `bytes` bytes, numbered from 0, into `class`. Returns `DONE`, or
-    /// `SIZE` if it needs more than a page; then `class` is unchanged.
+    /// For C, writes the sliced heap's class of an object of `bytes` bytes, numbered from 0, into `class`. Returns
+    /// `DONE`, or `SIZE` if it needs more than a page; then `class` is unchanged.
     pub fn class_of(&mut self, bytes: u32, class: &mut u32) -> i32
         ensures { IsClassCall self.old bytes class.old result class.new self.new }
     {
@@ -301,7 +301,7 @@ fn of_refusal(cause: SliceRefusal) -> i32
     }
 }
 
-/// The code of a refused free.
+/// The code of a sliced heap's refused free.
 fn of_fault(cause: SliceFault) -> i32
     ensures { result ≡ fault_code cause }
 {

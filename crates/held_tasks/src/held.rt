@@ -62,7 +62,7 @@ impl Openable for HeldTasks {
         QuotaHeap::bytes_needed(s).and(handles.and(BytesNeeded::block(HELD_BYTES)))
     }
 
-    /// Opens a heap in which no task has an object and all quotas are 0.
+    /// For C, opens a heap in which no task has an object and all quotas are 0.
     fn open(memory: Memory, s: &Settings, last: u32) -> Option<Box<HeldTasks, Global>> {
         let alloc = Global::new(memory);
         let handles = TaskHandles::new(alloc, s.proxies, last)?;
@@ -77,7 +77,7 @@ impl Openable for HeldTasks {
         Box::new(alloc, held).ok()
     }
 
-    /// The largest handle of all tasks.
+    /// `HeldTasks`: the largest handle of all tasks.
     fn last(&self) -> u32 {
         self.handles.largest()
     }
@@ -204,7 +204,7 @@ impl HeldTasks {
         }
     }
 
-    /// Writes the figures of a task into `figures`. Returns `DONE`.
+    /// For C, writes the figures of a task into `figures`. Returns `DONE`.
     pub fn task(&mut self, task: u32, figures: &mut NphTask) -> i32
         ensures { IsOfTask task self.old result self.new (figures.new ≡ figures.old) (IsTaskCall self.old task result figures.new self.new) }
     {
@@ -260,8 +260,8 @@ impl HeldTasks {
         of_admission(admit(&self.heap.settings(), quota, needs))
     }
 
-    /// Writes into `pages` the least quota that is enough for a task with these `needs`. Returns `DONE`, or `ENTRIES`, `SIZE` or
-    /// `PROXIES` as `admit` does, and then `pages` is unchanged.
+    /// For C, writes into `pages` the least quota that is enough for a task with these `needs`. Returns `DONE`, or
+    /// `ENTRIES`, `SIZE` or `PROXIES` as `admit` does, and then `pages` is unchanged.
     pub fn least_quota(&mut self, needs: &[Need], pages: &mut u32) -> i32
         ensures { IsLeastCall self.old needs.now result pages.old pages.new self.new }
     {
@@ -290,7 +290,7 @@ impl HeldTasks {
     }
 }
 
-/// The code of a refused quota.
+/// `HeldTasks`: the code of a refused quota.
 fn of_quota(cause: QuotaFault) -> i32
     ensures { result ≡ quota_code (Err cause) }
 {
@@ -300,7 +300,7 @@ fn of_quota(cause: QuotaFault) -> i32
     }
 }
 
-/// The code of an admission.
+/// `HeldTasks`: the code of an admission.
 fn of_admission(answer: Admission) -> i32
     ensures { result ≡ admission_code answer }
 {

@@ -27,9 +27,9 @@ pub fn reads_give_what_was_written()
         → RunsLarge kind None items replies new → AreReadsOf None items replies }
 {}
 
-/// Over a manager of any kind with pages a run can begin with any settings in their ranges, and then is in
-/// progress. In each state of a run in progress every command that a script can contain has a reply, and the
-/// run is in progress after it.
+/// Over a manager of any kind with pages a run on long objects can begin with any settings in their ranges, and then is
+/// in progress. In each state of a run in progress every command that a script can contain has a reply, and the run is
+/// in progress after it.
 pub fn each_command_has_its_turn()
     ensures begins { (kind : Kind) (p : Profile) → IsPaged kind → AreInRange p
         → (new : LargeRun) × BeginsLarge kind p new }
@@ -51,8 +51,8 @@ pub fn a_long_run_can_always_go_on()
         → (more : List Reply) × (new : Option LargeRun) × RunsLarge kind None (items given ended) (replies ++ more) new }
 {}
 
-/// If the sink fails, what it got before is a prefix of the output of a run over the whole script, whose bytes
-/// are `all`.
+/// On long objects, if the sink fails, what it got before is a prefix of the output of a run over the whole script,
+/// whose bytes are `all`.
 pub fn what_was_cut_is_a_prefix()
     ensures { (from to : LargeRun) (call : Effects) (all : List ℕ) → IsPaged from.heap.inner.kind
         → (w : WroteInPart large_heap from (items_within all) call to)

@@ -71,7 +71,7 @@ impl PageTables {
     }
 }
 
-/// Marks the lowest free slot of a page as used, and returns its number. At least one slot must be
+/// In the page tables, marks the lowest free slot of a page as used, and returns its number. At least one slot must be
 /// free.
 #[inline(always)]
 fn take_least(maps: &mut SlotMaps, page: u32, steps: &mut Steps) -> u32

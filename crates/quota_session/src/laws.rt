@@ -74,8 +74,8 @@ pub fn one_transcript_of_tasks()
     a_task_is_answered_from_its_own();
 }
 
-/// A run can begin under any settings in their ranges. In each state of a run in progress every command
-/// that a script can contain has a reply, and the run is in progress after it.
+/// A run of tasks can begin under any settings in their ranges. In each state of a run in progress every command that a
+/// script can contain has a reply, and the run is in progress after it.
 pub fn each_command_has_its_turn()
     ensures begins { (p : Profile) → AreInRange p → (new : QuotaRun) × BeginsQuotas p new }
     ensures begun { (p : Profile) (new : QuotaRun) → BeginsQuotas p new → IsGoingQuotas new }

@@ -65,9 +65,9 @@ pub fn replies_show_their_causes()
     a_malloc_is_busy_only_with_a_job();
 }
 
-/// A run can begin with any settings in their ranges and slices of any quantum, and is then in progress
-/// (`IsGoingSliced`). In each state of a run in progress every command that a script can contain has a reply,
-/// and the run is in progress after it.
+/// A sliced run can begin with any settings in their ranges and slices of any quantum, and is then in progress
+/// (`IsGoingSliced`). In each state of a run in progress every command that a script can contain has a reply, and the
+/// run is in progress after it.
 pub fn each_command_has_its_turn()
     ensures begins { (quantum : ℕ) (p : Profile) → IsQuantum quantum → AreInRange p
         → (new : SliceRun) × BeginsSliced quantum p new }

@@ -36,8 +36,8 @@ impl<B: FitPolicy> OpenHeap<B> {
         result
     }
 
-    /// Adds an object as `malloc` does, or refuses it for the same causes. Leaves `cost` unchanged.
-    /// The block is carved once the object has a number, since the block's tag holds it.
+    /// Adds an object in a block as `malloc` does, or refuses it for the same causes. Leaves `cost` unchanged. The
+    /// block is carved once the object has a number, since the block's tag holds it.
     fn malloc_inner(&mut self, bytes: u32, steps: &mut Steps) -> Result<Handle, Refusal>
         ensures step { IsMallocStep (state_of B.kind self.old) bytes result (state_of B.kind self.new) }
         ensures rules { KeepsRules (state_of B.kind self.new) }
