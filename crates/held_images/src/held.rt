@@ -129,7 +129,7 @@ impl HeldImages {
         }
     }
 
-    /// The number of the object that an id names; `NONE` if no object has the id.
+    /// For C, the number of the object that an id names; `NONE` if no object has the id.
     fn number(&self, id: u32) -> u32
         ensures { result ≡ number_by (map.get self.now.session.ids id) }
     {

@@ -28,8 +28,8 @@ pub trait Namer {
         ensures step { MakesNamed (run_at (state self.old) (H.state heap.old)) id bytes result (run_at (state self.new) (H.state heap.new)) }
         ensures going { IsGoing (run_at (state self.new) (H.state heap.new)) };
 
-    /// Writes 1 to 4,096 bytes into the object of a live id, from byte `at` of the object on. They don't pass its
-    /// end.
+    /// `Namer`: writes 1 to 4,096 bytes into the object of a live id, from byte `at` of the object on. They don't pass
+    /// its end.
     fn write<H: Manager>(&mut self, heap: &mut H, id: u16, at: u32, bytes: &[u8])
         requires going { IsGoing (run_at (state self.old) (H.state heap.old)) }
         requires some { 1 ≤ length bytes.now }

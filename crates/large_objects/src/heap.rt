@@ -96,7 +96,8 @@ impl<H: Manager> LargeHeap<H> {
         self.is_open
     }
 
-    /// Opens an empty heap of long objects with the settings `s`, whose bound is 1; an open heap loses its objects.
+    /// `LargeHeap`: opens an empty heap of long objects with the settings `s`, whose bound is 1; an open heap loses its
+    /// objects.
     /// Allocates all memory: that of the inner manager, and a table with a length for each proxy. After
     /// `OutOfMemory` the heap is closed, and the inner manager is unchanged or closed; the heap may be
     /// opened again. A manager that promised an order promises one afterwards.

@@ -40,8 +40,8 @@ pub fn parts_are_as_many_as_needed()
     ensures few { (u n : ℕ) → 0 < u → u * part_count u n < n + u }
 {}
 
-/// Clause `same`: after a write to an object, long or short, a read of the same number of bytes from the same position
-/// returns the written bytes. Clause `others`: a write changes no other object.
+/// Clause `same`: after a write to any object, a read of the same number of bytes from the same position returns the
+/// written bytes. Clause `others`: a write changes no other object.
 pub fn what_is_written_is_read()
     ensures same { (old new : LargeState) (position : Position) (bytes out : List ℕ)
         → WritesLarge old position bytes new → ReadsLarge new position (length bytes) out → out ≡ bytes }

@@ -21,7 +21,7 @@ impl OpenHeap {
         self.tables.classes.len()
     }
 
-    /// The number of pages of class c of the open heap, full or partly full.
+    /// With pages, the number of pages of class c, full or partly full.
     pub fn pages_of<A: Mapping>(&self, c: u32) -> u32
         requires kept { Holds A.kind self.now }
         requires class { c < classes (paging_at (seen A.kind self.now)) }
@@ -30,7 +30,7 @@ impl OpenHeap {
         self.lists.len(c, Which::Full) + self.lists.len(c, Which::NotFull)
     }
 
-    /// The number of partly full pages of class c of the open heap.
+    /// With pages, the number of partly full pages of class c.
     pub fn not_full<A: Mapping>(&self, c: u32) -> u32
         requires kept { Holds A.kind self.now }
         requires class { c < classes (paging_at (seen A.kind self.now)) }
@@ -39,7 +39,7 @@ impl OpenHeap {
         self.lists.len(c, Which::NotFull)
     }
 
-    /// The number of free pages of the open heap.
+    /// With pages, the number of free pages.
     pub fn free_pages<A: Mapping>(&self) -> u32
         requires { Holds A.kind self.now }
         ensures value { result ≡ free_pages (paging_at (seen A.kind self.now)) (held_in (seen A.kind self.now)) }

@@ -318,7 +318,7 @@ impl<A: PageKind> PagedHeap<A> {
         self.open().free_pages::<A>()
     }
 
-    /// Borrows the open heap with pages, for its figures and for calls that change nothing.
+    /// `PagedHeap`: borrows the open heap with pages, for its figures and for calls that change nothing.
     pub(crate) fn open(&self) -> &OpenHeap
         requires { IsTrue self.now.state.is_open }
         ensures kept { Holds A.kind result.now }

@@ -52,9 +52,9 @@ impl QuotaHeap {
         QuotaHeap { alloc, inner: None }
     }
 
-    /// Opens the heap of tasks with the settings `s`; an open heap is closed first. No task has an object, and all
-    /// quotas are 0. Each task gets as many proxies of its own as `s` has. Each class of a task has bound 1, whatever
-    /// bound `s` has. Fails if out of memory; the heap is closed then.
+    /// `QuotaHeap`: opens the heap of tasks with the settings `s`; an open heap is closed first. No task has an object,
+    /// and all quotas are 0. Each task gets as many proxies of its own as `s` has. Each class of a task has bound 1,
+    /// whatever bound `s` has. Fails if out of memory; the heap is closed then.
     pub fn open_heap(&mut self, s: &Settings) -> Result<(), OutOfMemory>
         ensures opened { IfOk result (λ done. self.new ≡ empty_state (profile_of s.now)) }
         ensures kept { IfOk result (λ done. KeepsTasks self.new) }

@@ -16,7 +16,8 @@ use region::Header;
 use step_ledger::Steps;
 
 impl OpenHeap {
-    /// Returns the word of an open sliced heap's region with the number `word`, or `None` past the region's end.
+    /// In a sliced heap, returns the word of an open sliced heap's region with the number `word`, or `None` past the
+    /// region's end.
     pub fn peek(&self, word: u32, steps: &mut Steps) -> Option<u64>
         ensures value { result ≡ slice_get self.now.region word }
         ensures steps { RoseBy steps.old steps.new (if is_some result then 1 else 0) }
@@ -28,7 +29,8 @@ impl OpenHeap {
         }
     }
 
-    /// The address of object `h`, to which a job that moves the object moves it, or `None` if the handle is not live.
+    /// In a sliced heap, the address of object `h`, to which a job that moves the object moves it, or `None` if the
+    /// handle is not live.
     pub fn place(&self, h: Handle, steps: &mut Steps) -> Option<u32>
         requires { IsValid (seen self.now) }
         ensures value { result ≡ place_in (state_of (seen self.now)).held h.0 }

@@ -74,9 +74,9 @@ impl SlicedHeap {
         self.inner.is_some()
     }
 
-    /// Opens the sliced heap without objects, with the settings `s` and slices of at most `quantum` words; an open heap
-    /// is closed first. Each class has bound 1, whatever bound `s` has. All memory is allocated here. If this fails
-    /// with `OutOfMemory`, the heap is closed, and may be opened again.
+    /// `SlicedHeap`: opens the sliced heap without objects, with the settings `s` and slices of at most `quantum`
+    /// words; an open heap is closed first. Each class has bound 1, whatever bound `s` has. All memory is allocated
+    /// here. If this fails with `OutOfMemory`, the heap is closed, and may be opened again.
     pub fn open_heap(&mut self, s: &Settings, quantum: u32) -> Result<(), OutOfMemory>
         requires least { 1 ≤ quantum }
         requires most { quantum ≤ 16384 }
@@ -317,7 +317,7 @@ impl SlicedHeap {
         }
     }
 
-    /// Returns the word of a `SlicedHeap`'s region with the number `word`, or `None` past the region's end.
+    /// `SlicedHeap`: returns the word of its region with the number `word`, or `None` past the region's end.
     pub fn peek(&self, word: u32, steps: &mut Steps) -> Option<u64>
         requires open { IsTrue self.now.is_open }
         ensures value { result ≡ slice_get self.now.words word }

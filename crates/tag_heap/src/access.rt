@@ -20,8 +20,8 @@ use region::Header;
 use step_ledger::Steps;
 
 impl<B: FitPolicy> OpenHeap<B> {
-    /// The address of the object, the first word of its block; none if the handle isn't live. Costs
-    /// one step.
+    /// With blocks, the address of the object, the first word of its block; none if the handle isn't live. Costs one
+    /// step.
     pub(crate) fn place(&self, h: Handle, steps: &mut Steps) -> Option<u32>
         ensures value { result ≡ place_of (state_of B.kind self.now) h.0 }
         ensures steps { RoseBy steps.old steps.new 1 }
@@ -114,7 +114,8 @@ impl<B: FitPolicy> OpenHeap<B> {
         }
     }
 
-    /// The words of an object's block in an open heap; none if the handle isn't live. Costs two steps, one if it isn't.
+    /// With blocks, the words of an object's block; none if the handle isn't live. Costs two steps, one
+    /// if it isn't.
     pub(crate) fn block_words(&self, h: Handle, steps: &mut Steps) -> Option<u32>
         ensures value { result ≡ option_map (slot_in B.kind (state_of B.kind self.now)) (map.get (state_of B.kind self.now).held h.0) }
         ensures steps { RoseBy steps.old steps.new (block_words_steps result) }
@@ -125,8 +126,8 @@ impl<B: FitPolicy> OpenHeap<B> {
         }
     }
 
-    /// Why a resize of the object to any length is refused: with `Unknown` if the handle isn't
-    /// live, else with `Kind`, since heaps with blocks have no resize. Costs one step.
+    /// With blocks, why a resize of the object to any length is refused: with `Unknown` if the handle isn't live, else
+    /// with `Kind`, since heaps with blocks have no resize. Costs one step.
     pub(crate) fn resize_fault(&self, h: Handle, steps: &mut Steps) -> ResizeFault
         ensures step { (bytes : ℕ) → IsResizeFault (state_of B.kind self.now) (record { number = h.0; length = bytes }) result }
         ensures rules { KeepsRules (state_of B.kind self.now) }

@@ -59,8 +59,8 @@ impl<B: FitPolicy> OpenHeap<B> {
         Ok(handle)
     }
 
-    /// Returns the address of the free block that a malloc of `bytes` bytes would take now, or
-    /// fails with the refusal that it would return. Changes nothing.
+    /// With blocks, returns the address of the free block that a malloc of `bytes` bytes would take now, or fails with
+    /// the refusal that it would return. Changes nothing.
     pub(crate) fn room(&self, bytes: u32, steps: &mut Steps) -> Result<u32, Refusal>
         ensures room { IsBlockFor B.rule B.kind self.now bytes result }
         ensures answer { IsHasRoomAnswer (state_of B.kind self.now) bytes (done_by result) }

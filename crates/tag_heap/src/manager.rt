@@ -69,7 +69,7 @@ impl<B: FitPolicy> TagHeap<B> {
         self.open().block_words(h, steps)
     }
 
-    /// Borrows the open heap with blocks, for calls that change nothing.
+    /// `TagHeap`: borrows the open heap with blocks, for calls that change nothing.
     fn open(&self) -> &OpenHeap<B>
         requires { IsTrue self.now.is_open }
         ensures { state_of B.kind result.now ≡ self.now }
