@@ -8,8 +8,8 @@ use generator::Generator;
 use script_reader::CommandRef;
 use step_ledger::Meter;
 
-/// Runs one command of a generated script, and returns whether it succeeded. `table` has the handle of each id.
-/// A malloc fails if its id has an object, the others if it has none.
+/// For a profiler, runs one command of a generated script, and returns whether it succeeded. `table` has the handle of
+/// each id. A malloc fails if its id has an object, the others if it has none.
 fn call<H: Manager>(heap: &mut H, c: CommandRef, table: &mut Table, meter: &mut Meter) -> bool
     requires { IsTrue (H.state heap.old).is_open }
     ensures { IsTrue (H.state heap.new).is_open }

@@ -10,8 +10,8 @@ use moving_heap::MovingHeap;
 use std::alloc::Global;
 use step_ledger::Meter;
 
-/// Writes these bytes into the object h from byte `at` on, and returns whether that succeeded. Not inlined, so
-/// that a profile shows it.
+/// For a profiler, writes these bytes into the object h from byte `at` on, and returns whether that succeeded. Not
+/// inlined, so that a profile shows it.
 #[inline(never)]
 fn long_write<H: Manager>(
     heap: &mut LargeHeap<H>,
@@ -25,8 +25,8 @@ fn long_write<H: Manager>(
     heap.write(h, at, bytes, meter).is_ok()
 }
 
-/// Fills `out` from the object h from byte `at` on, and returns whether that succeeded. Not inlined, so that a
-/// profile shows it.
+/// For a profiler, fills `out` from the object h from byte `at` on, and returns whether that succeeded. Not inlined, so
+/// that a profile shows it.
 #[inline(never)]
 fn long_read<H: Manager>(
     heap: &LargeHeap<H>,
@@ -40,8 +40,8 @@ fn long_read<H: Manager>(
     heap.read(h, at, out, meter).is_ok()
 }
 
-/// Makes the call of a line, and returns whether it succeeded: false for a letter that is no call of this
-/// heap. `table` has the handle of each ID, and the bytes that are written or read.
+/// Makes the call of a line on long objects, and returns whether it succeeded: false for a letter that is no call of
+/// this heap. `table` has the handle of each ID, and the bytes that are written or read.
 fn apply<H: Manager>(
     heap: &mut LargeHeap<H>,
     line: Line,

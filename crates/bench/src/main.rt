@@ -39,7 +39,7 @@ use std::process::ExitCode;
 use step_ledger::Meter;
 use tlsf_heap::TlsfHeap;
 
-/// Reads all bytes of standard input; `None` if reading fails or memory runs out.
+/// For a profiler, reads all bytes of standard input; `None` if reading fails or memory runs out.
 fn all_input(rt: &HostRuntime) -> Option<Vec<u8>> {
     let mut source = StdSource::new(rt.stdin());
     let mut text = Vec::new(rt.alloc());
@@ -54,7 +54,7 @@ fn all_input(rt: &HostRuntime) -> Option<Vec<u8>> {
     None
 }
 
-/// Opens a closed manager with the settings and makes the calls, the script's lines after the first.
+/// For a profiler, opens a closed manager with the settings and makes the calls, the script's lines after the first.
 /// `table` has the handle of each ID. Returns the number of calls that succeeded, or `None` if a line is
 /// bad or memory runs out.
 fn on_manager<H: Manager>(
@@ -75,7 +75,8 @@ fn on_manager<H: Manager>(
     Some(served)
 }
 
-/// Opens the heap that the first line of the script `text` names, and makes the calls of the other lines.
+/// For a profiler, opens the heap that the first line of the script `text` names, and makes the calls of the other
+/// lines.
 /// Returns the number of calls that succeeded, or `None` if the script is bad or memory runs out.
 fn on_heap(rt: &HostRuntime, text: &[u8]) -> Option<u64> {
     let first = Line::read(text.get(..script::LINE)?)?;

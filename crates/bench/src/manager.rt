@@ -8,7 +8,7 @@ use cf_base::Handle;
 use cf_model::Manager;
 use step_ledger::Meter;
 
-/// Makes an object of `bytes` bytes, and returns its handle; `None` if the manager refuses.
+/// For a profiler, makes an object of `bytes` bytes, and returns its handle; `None` if the manager refuses.
 #[inline(never)]
 fn malloc_call<H: Manager>(heap: &mut H, bytes: u32, meter: &mut Meter) -> Option<Handle>
     requires { IsTrue (H.state heap.old).is_open }
@@ -17,7 +17,7 @@ fn malloc_call<H: Manager>(heap: &mut H, bytes: u32, meter: &mut Meter) -> Optio
     heap.malloc(bytes, meter.steps()).ok()
 }
 
-/// Frees the object h, and returns whether that succeeded.
+/// For a profiler, frees the object h, and returns whether that succeeded.
 #[inline(never)]
 fn free_call<H: Manager>(heap: &mut H, h: Handle, meter: &mut Meter) -> bool
     requires { IsTrue (H.state heap.old).is_open }
@@ -26,7 +26,7 @@ fn free_call<H: Manager>(heap: &mut H, h: Handle, meter: &mut Meter) -> bool
     heap.free(h, meter.steps()).is_ok()
 }
 
-/// Gives the object h the length `bytes`, and returns whether that succeeded.
+/// For a profiler, gives the object h the length `bytes`, and returns whether that succeeded.
 #[inline(never)]
 fn resize_call<H: Manager>(heap: &mut H, h: Handle, bytes: u32, meter: &mut Meter) -> bool
     requires { IsTrue (H.state heap.old).is_open }
@@ -35,7 +35,7 @@ fn resize_call<H: Manager>(heap: &mut H, h: Handle, bytes: u32, meter: &mut Mete
     heap.resize(h, bytes, meter.steps()).is_ok()
 }
 
-/// Writes these bytes into the object h from byte `at` on, and returns whether that succeeded.
+/// For a profiler, writes these bytes into the object h from byte `at` on, and returns whether that succeeded.
 #[inline(never)]
 fn write_call<H: Manager>(heap: &mut H, h: Handle, at: u32, bytes: &[u8], meter: &mut Meter) -> bool
     requires { IsTrue (H.state heap.old).is_open }
@@ -44,7 +44,7 @@ fn write_call<H: Manager>(heap: &mut H, h: Handle, at: u32, bytes: &[u8], meter:
     heap.write(h, at, bytes, meter.steps()).is_ok()
 }
 
-/// Fills `out` from the object h from byte `at` on, and returns whether that succeeded.
+/// For a profiler, fills `out` from the object h from byte `at` on, and returns whether that succeeded.
 #[inline(never)]
 fn read_call<H: Manager>(heap: &H, h: Handle, at: u32, out: &mut [u8], meter: &mut Meter) -> bool
     requires { IsTrue (H.state heap.now).is_open }
@@ -53,7 +53,7 @@ fn read_call<H: Manager>(heap: &H, h: Handle, at: u32, out: &mut [u8], meter: &m
     heap.read(h, at, out, meter.steps()).is_ok()
 }
 
-/// Makes the call of a line, and returns whether it succeeded: false for a letter that is no call of a
+/// For a profiler, makes the call of a line, and returns whether it succeeded: false for a letter that is no call of a
 /// manager. `table` has the handle of each ID, and the bytes that are written or read.
 pub(crate) fn apply<H: Manager>(
     heap: &mut H,

@@ -53,7 +53,7 @@ impl Table {
         Some(Table { handles, bytes })
     }
 
-    /// The handle of an id; `NONE` if the id has no object.
+    /// For a profiler, the handle of an id; `NONE` if the id has no object.
     pub(crate) fn handle(&self, id: u32) -> Handle {
         match self.handles.get(id as usize) {
             Some(number) => Handle(*number),
@@ -68,7 +68,7 @@ impl Table {
         }
     }
 
-    /// Lends the first `count` of the table's bytes, or all if there are fewer.
+    /// Lends the first `count` of the bench table's bytes, or all if there are fewer.
     pub(crate) fn bytes(&mut self, count: u32) -> &mut [u8] {
         let most = self.bytes.len().min(count as usize);
         &mut self.bytes[..most]

@@ -25,7 +25,7 @@ fn length_of(word: u64) -> u32 {
     }
 }
 
-/// Makes an object; none if refused.
+/// For a profiler, makes an object; none if refused.
 #[inline(never)]
 fn sliced_malloc(heap: &mut SlicedHeap, bytes: u32, meter: &mut Meter) -> Option<Handle>
     requires { IsTrue heap.old.is_open }
@@ -34,7 +34,7 @@ fn sliced_malloc(heap: &mut SlicedHeap, bytes: u32, meter: &mut Meter) -> Option
     heap.malloc(bytes, meter.steps()).ok()
 }
 
-/// Frees an object, and returns whether it succeeded.
+/// For a profiler, frees an object, and returns whether it succeeded.
 #[inline(never)]
 fn sliced_free(heap: &mut SlicedHeap, h: Handle, meter: &mut Meter) -> bool
     requires { IsTrue heap.old.is_open }
@@ -43,7 +43,7 @@ fn sliced_free(heap: &mut SlicedHeap, h: Handle, meter: &mut Meter) -> bool
     heap.free(h, meter.steps()).is_ok()
 }
 
-/// Does a slice of the pending job, if there is one.
+/// For a profiler, does a slice of the pending job, if there is one.
 #[inline(never)]
 fn sliced_step(heap: &mut SlicedHeap, meter: &mut Meter)
     requires { IsTrue heap.old.is_open }
@@ -52,9 +52,9 @@ fn sliced_step(heap: &mut SlicedHeap, meter: &mut Meter)
     heap.step(meter.steps());
 }
 
-/// Makes the call that the random number `word` determines. For one of three numbers it is `step`, which does a
-/// slice of the pending job. Else the number selects an entry of the table: if the entry has no object, the call
-/// is a malloc, else a free of its object.
+/// For a profiler, makes the call that the random number `word` determines. For one of three numbers it is `step`,
+/// which does a slice of the pending job. Else the number selects an entry of the table: if the entry has no object,
+/// the call is a malloc, else a free of its object.
 fn drawn(heap: &mut SlicedHeap, word: u64, table: &mut Table, meter: &mut Meter) {
     if !heap.is_open() {
         return;
@@ -72,8 +72,8 @@ fn drawn(heap: &mut SlicedHeap, word: u64, table: &mut Table, meter: &mut Meter)
     }
 }
 
-/// Makes the call of a line, or for the letter `d` a number of drawn calls. Returns whether it succeeded:
-/// false for a letter that is no call of this heap.
+/// Makes the call of a line on the sliced heap, or for the letter `d` a number of drawn calls. Returns whether it
+/// succeeded: false for a letter that is no call of this heap.
 fn apply(heap: &mut SlicedHeap, line: Line, table: &mut Table, meter: &mut Meter) -> bool {
     if !heap.is_open() {
         return false;

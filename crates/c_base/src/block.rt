@@ -51,7 +51,7 @@ impl<T: Drop> HeapBlock<T> {
         place_of(Unboxed::new(b))
     }
 
-    /// Returns the box of the open heap, with `alloc` as its allocator; dropping the box frees the block.
+    /// `HeapBlock`: returns the box of the open heap, with `alloc` as its allocator; dropping the box frees the block.
     pub fn into_box(self, alloc: Global) -> Box<T, Global>
         requires { IsSome self.held }
         ensures { self.held ≡ Some result.value }

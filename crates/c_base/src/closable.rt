@@ -20,12 +20,12 @@ pub trait Openable: Sized {
     fn bytes_needed(s: &Settings) -> BytesNeeded
         ensures { opening.needs (profile_of s.now) result };
 
-    /// Opens a heap whose handles are larger than `last`. Returns `None` if out of memory.
+    /// `Openable`: opens a heap whose handles are larger than `last`. Returns `None` if out of memory.
     fn open(memory: Memory, s: &Settings, last: u32) -> Option<Box<Self, Global>>
         requires { opening.takes s.now.k }
         ensures { IfSome result (λ b. opening.is_fresh (profile_of s.now) last b.value) };
 
-    /// The largest handle that a number has; 0 if objects have no handles.
+    /// `Openable`: the largest handle that a number has; 0 if objects have no handles.
     fn last(&self) -> u32
         ensures { result ≡ opening.last self.now };
 }
@@ -70,7 +70,7 @@ impl<T: Drop> ClosableHeap<T> {
     ghost use Rattle.c_base.specs.CallerHeap.{Opened, closed_now};
     ghost use Rattle.c_base.specs.ClosablePlace.{held_in};
 
-    /// Opens a heap that is closed: it is this one.
+    /// Opens a `ClosableHeap` that is closed: it is this one.
     pub fn put(&mut self, heap: Box<T, Global>)
         requires { IsOk (closed_now (held_in self.old)) }
         ensures { held_in self.new ≡ Opened heap.value }
@@ -132,7 +132,7 @@ impl<T: Openable + Drop> ClosableHeap<T> {
         }
     }
 
-    /// Closes the heap and frees its memory; does nothing if it is closed.
+    /// Closes this `ClosableHeap` and frees its memory; does nothing if it is closed.
     pub fn close(&mut self, memory: Memory)
         ensures { held_in self.new ≡ closed_with T.opening.last (held_in self.old) }
     {

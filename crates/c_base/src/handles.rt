@@ -33,8 +33,8 @@ impl Model for Handles {
     ghost invariant = { λ h. AreCounted h.of.items h.mask h.limit };
 }
 
-/// The handle of number 0 in a heap with `count` numbers: the least multiple of `count` that is larger than `last`; or 0,
-/// if it would be too large.
+/// C's handle of number 0 in a heap with `count` numbers: the least multiple of `count` that is larger than `last`; or
+/// 0, if it would be too large.
 fn base(count: u32, last: u32) -> u32
     requires some { 1 ≤ count }
     requires few { count < 131072 }
@@ -75,7 +75,7 @@ impl Handles {
         BytesNeeded::block(4 * u64::from(proxies.next_power_of_two()))
     }
 
-    /// How many numbers have a handle.
+    /// How many numbers have a handle of C.
     pub fn count(&self) -> u32
         ensures value { result ≡ length self.now }
         ensures few { result < 131072 }
@@ -83,7 +83,7 @@ impl Handles {
         self.mask + 1
     }
 
-    /// The number of a handle: its low bits.
+    /// The number of C's handle: its low bits.
     fn number(&self, handle: u32) -> u32
         ensures value { result ≡ handle % length self.now }
         ensures within { result < length self.now }
@@ -111,7 +111,7 @@ impl Handles {
         }
     }
 
-    /// The handle after this one with the same number; after the last one the first.
+    /// C's handle after this one with the same number; after the last one the first.
     fn next(&self, handle: u32) -> u32
         ensures { result ≡ next (length self.now) handle }
     {
@@ -122,7 +122,7 @@ impl Handles {
         }
     }
 
-    /// Raises the handle of an object that was freed.
+    /// Raises C's handle of an object that was freed.
     pub fn raise(&mut self, handle: u32)
         ensures { self.new ≡ raised self.old (handle % length self.old) }
     {
@@ -130,7 +130,7 @@ impl Handles {
         self.of[number] = self.next(self.of[number]);
     }
 
-    /// The handle that C has for the object that moved; `NONE` if no object did.
+    /// C's handle of the object that moved; `NONE` if no object did.
     pub fn of_moved(&self, moved: Option<Handle>) -> u32
         ensures { result ≡ moved_handle self.now moved }
     {
@@ -140,7 +140,7 @@ impl Handles {
         }
     }
 
-    /// The largest handle.
+    /// C's largest handle.
     pub fn largest(&self) -> u32
         ensures { result ≡ largest self.now }
     {

@@ -31,7 +31,7 @@ impl<T: Lendable<S>, S> LendableHeap<T, S> {
     ghost use Rattle.c_base.specs.CallerHeap.{Opened, closed_now, refusal_code};
     ghost use Rattle.c_base.specs.Place.{LendsHeap, held_in};
 
-    /// Returns whether the heap is open, and not lent.
+    /// Returns whether this `LendableHeap` is open, and not lent.
     pub fn is_open(&self) -> bool
         ensures { result ≡ opened_now (held_in self.now) }
     {
@@ -68,7 +68,8 @@ impl<T: Lendable<S>, S> LendableHeap<T, S> {
         self.place.lend()
     }
 
-    /// Lends the words of the region, and writes their address into `words`: until `end_loan` they are the caller's.
+    /// `LendableHeap`: lends the words of the region, and writes their address into `words`: until `end_loan` they are
+    /// the caller's.
     /// The caller may read them, and write the bytes of objects (the law `bytes_are_written` of the manager). Returns `DONE`,
     /// or the code of the refusal, and then `words` is unchanged.
     pub fn lend(&mut self, words: &mut *mut u64) -> i32
@@ -88,7 +89,7 @@ impl<T: Lendable<S>, S> LendableHeap<T, S> {
         }
     }
 
-    /// Ends the loan: the heap is open, with the words as the caller left them. Returns `DONE`, or `NOT_LENT` or
+    /// Ends the loan to C: the heap is open, with the words as the caller left them. Returns `DONE`, or `NOT_LENT` or
     /// `CLOSED` if the heap isn't lent.
     pub fn end_loan(&mut self) -> i32
         ensures { IsReturnCall (held_in self.old) result (held_in self.new) }
@@ -113,7 +114,7 @@ impl<T: Lendable<S> + Drop, S> LendableHeap<T, S> {
     ghost use Rattle.c_base.specs.CallerHeap.{Opened, closed_now, closed_with};
     ghost use Rattle.c_base.specs.Place.{held_in};
 
-    /// Opens a heap that is closed: it is this one.
+    /// Opens a `LendableHeap` that is closed: it is this one.
     pub fn put(&mut self, heap: Box<T, Global>)
         requires { IsOk (closed_now (held_in self.old)) }
         ensures { held_in self.new ≡ Opened heap.value }
@@ -122,7 +123,7 @@ impl<T: Lendable<S> + Drop, S> LendableHeap<T, S> {
         self.is_open = true;
     }
 
-    /// Closes the heap and frees its memory, also if it is lent; does nothing if it is closed.
+    /// Closes this `LendableHeap` and frees its memory, also if it is lent; does nothing if it is closed.
     pub fn close(&mut self, memory: Memory)
         ensures { held_in self.new ≡ closed_with T.lending.last (held_in self.old) }
     {

@@ -4,7 +4,7 @@ ghost use Rattle.c_base.specs.Frees.{raised_all, times};
 ghost use Rattle.c_base.specs.HandleRules.{AreFirstHandles, AreHandles};
 ghost use Rattle.c_base.specs.Handles.{handle_of, largest, none, number_in};
 
-/// An object's handle names it. From the first free of its number on, it names nothing until that number was freed
+/// C's handle of an object names it. From the first free of its number on, it names nothing until that number was freed
 /// `2 ^ 32 / length handles - 1` times, where `ns` are the numbers that were freed since, in any order.
 pub fn a_freed_handle_names_nothing()
     ensures names { (handles : List ℕ) (n : ℕ) → AreHandles handles → n < length handles → number_in handles (handle_of handles n) ≡ n }
@@ -12,7 +12,7 @@ pub fn a_freed_handle_names_nothing()
         → times n ns + 1 < 2 ^ 32 / length handles → number_in (raised_all handles ns) (handle_of handles n) ≡ none }
 {}
 
-/// If no handle has reached the last three generations, a handle of a heap names nothing in the next heap of the same
+/// If no handle has reached the last three generations, C's handle of a heap names nothing in the next heap of the same
 /// `nph_heap`, whatever its number of proxies.
 pub fn a_handle_of_an_earlier_heap_names_nothing()
     ensures { (old new : List ℕ) (n proxies : ℕ) → n < length old → AreFirstHandles proxies (largest old) new

@@ -14,23 +14,23 @@ pub trait Lendable<S>: Sized {
     /// The words of a heap, and which fields are those of a heap.
     ghost lending: { Lending Self S };
 
-    /// Returns the same block, as one of the fields.
+    /// For a loan, returns the same block, as one of the fields.
     fn loosened(block: HeapBlock<Self>) -> HeapBlock<S>
         requires { IsSome block.held }
         ensures { AreOf lending result.held block.held };
 
-    /// Returns the same block, as one of a heap.
+    /// After a loan, returns the same block, as one of a heap.
     fn tightened(block: HeapBlock<S>) -> HeapBlock<Self>
         requires { IsFit lending block.held }
         ensures { AreOf lending block.held result.held };
 
-    /// Borrows all words of the heap. When the borrow ends, the fields have the words as they then are.
+    /// `Lendable`: borrows all words of the heap. When the borrow ends, the fields have the words as they then are.
     fn all_words(parts: &mut S) -> &mut [u64]
         requires { lending.fits parts.old }
         ensures* writes_back { sem 𝓛 (Lends S.row (Array u64 0) parts.entry result (lending.with_words parts.old)) }
         ensures value { result.now ≡ lending.words (lending.state parts.old) };
 
-    /// The largest handle that a number has.
+    /// `Lendable`: the largest handle that a number has.
     fn last(&self) -> u32
         ensures { result ≡ lending.last self.now };
 
@@ -63,8 +63,8 @@ impl<T: Lendable<S>, S> Loan<T, S> {
         Loan { of: PhantomData }
     }
 
-    /// Lends the words of the heap in a block. Returns the block, which has no heap then, the loan, and the address of the
-    /// words.
+    /// For C, lends the words of the heap in a block. Returns the block, which has no heap then, the loan, and the
+    /// address of the words.
     pub fn new(block: HeapBlock<T>) -> (HeapBlock<T>, Loan<T, S>, *mut u64)
         requires { IsSome block.held }
         ensures block { result.0.held ≡ None }

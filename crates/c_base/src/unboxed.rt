@@ -27,7 +27,7 @@ impl<T: Drop, A: Allocator> Unboxed<T, A> {
         Unboxed { alloc, at }
     }
 
-    /// Puts the box together again, over the same block.
+    /// `Unboxed`: puts the box together again, over the same block.
     pub fn boxed(self) -> Box<T, A>
         ensures { result.value ≡ self.value }
     {

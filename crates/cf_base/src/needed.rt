@@ -12,7 +12,7 @@ pub struct BytesNeeded {
 }
 
 impl BytesNeeded {
-    /// One block of `bytes` bytes.
+    /// `BytesNeeded` of one block of `bytes` bytes.
     pub fn block(bytes: u64) -> BytesNeeded
         ensures { result ≡ one_block bytes }
     {
@@ -23,7 +23,7 @@ impl BytesNeeded {
         }
     }
 
-    /// These blocks `n` times over.
+    /// `BytesNeeded` of these blocks `n` times over.
     pub fn times(self, n: u32) -> BytesNeeded
         requires some { 1 ≤ n }
         requires few { n * self.blocks < 2 ^ 32 }
@@ -37,7 +37,7 @@ impl BytesNeeded {
         }
     }
 
-    /// The blocks of both.
+    /// `BytesNeeded` of the blocks of both.
     pub fn and(self, other: BytesNeeded) -> BytesNeeded
         requires few { self.blocks + other.blocks < 2 ^ 32 }
         requires fits { self.total + other.total < 2 ^ 64 }

@@ -36,7 +36,7 @@ impl Model for Line {
 }
 
 impl Line {
-    /// An empty line.
+    /// An empty line of a reply.
     pub fn new() -> Line
         ensures { result ≡ [] }
     {
@@ -46,7 +46,7 @@ impl Line {
         }
     }
 
-    /// The bytes of the line.
+    /// The bytes of the reply's line.
     pub fn bytes(&self) -> &[u8]
         ensures value { result.now ≡ self.now }
         ensures fits { length self.now ≤ line_capacity }
@@ -54,7 +54,7 @@ impl Line {
         &self.buffer.as_slice()[..self.len]
     }
 
-    /// Appends the bytes. Fails with `Full` if and only if the line would pass 9,000 bytes.
+    /// Appends the bytes to the reply's line. Fails with `Full` if and only if the line would pass 9,000 bytes.
     pub fn push(&mut self, bytes: &[u8]) -> Result<(), Full>
         ensures { Pushes self.old bytes.now result self.new }
     {
@@ -68,8 +68,8 @@ impl Line {
         Ok(())
     }
 
-    /// Appends the number `n` in decimal. Fails with `Full` if and only if the line would pass
-    /// 9,000 bytes.
+    /// To a reply's line, appends the number `n` in decimal. Fails with `Full` if and only if the line would pass 9,000
+    /// bytes.
     pub fn push_number(&mut self, n: u64) -> Result<(), Full>
         ensures { Pushes self.old (decimal n) result self.new }
     {
@@ -95,7 +95,7 @@ impl Line {
         Ok(())
     }
 
-    /// Appends the word `v` of eight bytes in hex, as 16 lower-case digits, the most significant
+    /// To a reply's line, appends the word `v` of eight bytes in hex, as 16 lower-case digits, the most significant
     /// first. Fails with `Full` if and only if the line would pass 9,000 bytes.
     pub fn push_word(&mut self, v: u64) -> Result<(), Full>
         ensures { Pushes self.old (word_text v) result self.new }
@@ -103,7 +103,7 @@ impl Line {
         self.push_hex(&v.to_be_bytes())
     }
 
-    /// Empties the line.
+    /// Empties the reply's line.
     pub fn clear(&mut self)
         ensures { self.new ≡ [] }
     {

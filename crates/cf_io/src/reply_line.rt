@@ -12,7 +12,7 @@ use cf_base::Failed;
 /// The most bytes of a line's lead, which mode `compare` puts before each line.
 pub const MOST_LEAD: usize = 8;
 
-/// Empties the line, then appends its lead.
+/// Empties the reply's line, then appends its lead.
 pub fn begin_line(line: &mut Line, lead: &[u8])
     requires { length lead.now ≤ 8 }
     ensures { line.new ≡ lead.now }
@@ -21,7 +21,7 @@ pub fn begin_line(line: &mut Line, lead: &[u8])
     line.push(lead).unwrap();
 }
 
-/// Appends a text. The line must have room for it.
+/// To a reply's line, appends a text. The line must have room for it.
 pub fn push_text(line: &mut Line, text: &[u8])
     requires { length line.old + length text.now ≤ line_capacity }
     ensures { line.new ≡ line.old ++ text.now }
@@ -29,8 +29,8 @@ pub fn push_text(line: &mut Line, text: &[u8])
     line.push(text).unwrap();
 }
 
-/// Appends a text and the number `n` in decimal. The line must have room for the text and 20
-/// digits, the most that a number has.
+/// To a reply's line, appends a text and the number `n` in decimal. The line must have room for the text and 20 digits,
+/// the most that a number has.
 pub fn push_field(line: &mut Line, text: &[u8], n: u64)
     requires { length line.old + (length text.now + 20) ≤ line_capacity }
     ensures text { line.new ≡ line.old ++ with_number text.now n }

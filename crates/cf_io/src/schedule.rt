@@ -41,14 +41,14 @@ impl Schedule {
         }
     }
 
-    /// Whether the next call is one of those that fail.
+    /// By the schedule, whether the next call is one of those that fail.
     pub fn is_due(&self) -> bool
         ensures { result ≡ is_due self.now }
     {
         self.fails.contains(&self.call)
     }
 
-    /// How many bytes the next call moves if n could be moved: at most its entry in `cuts`, where 0
+    /// By the schedule, how many bytes the next call moves if n could be moved: at most its entry in `cuts`, where 0
     /// counts as 1. Without an entry it moves all n.
     pub fn count_moved(&self, n: usize) -> usize
         ensures { result ≡ count_moved self.now n }
@@ -59,7 +59,7 @@ impl Schedule {
         }
     }
 
-    /// Counts a call that failed.
+    /// In the schedule, counts a call that failed.
     pub fn go_wrong(&mut self)
         ensures grows { self.old.faults ≤ self.new.faults }
         ensures value { self.new ≡ gone_wrong self.old }
@@ -69,7 +69,7 @@ impl Schedule {
         self.failed = true;
     }
 
-    /// Counts a call that did not fail.
+    /// In the schedule, counts a call that did not fail.
     pub fn go_well(&mut self)
         ensures { self.new ≡ gone_well self.old }
     {

@@ -9,9 +9,9 @@ pub trait Sink {
     /// falls, and saturates; and whether its last call failed.
     ghost state: { Self → SinkState };
 
-    /// Writes a prefix of the bytes and returns its length: at least one byte, if there are any. A
-    /// call that fails leaves the bytes written unchanged and adds one to `faults`, which saturates. A call
-    /// that does not fail leaves `faults` unchanged.
+    /// `Sink`: writes a prefix of the bytes and returns its length: at least one byte, if there are any. A call that
+    /// fails leaves the bytes written unchanged and adds one to `faults`, which saturates. A call that does not fail
+    /// leaves `faults` unchanged.
     fn put(&mut self, bytes: &[u8]) -> Result<usize, Failed>
         ensures { PutsSome (state self.old) bytes.now result (state self.new) };
 }

@@ -17,7 +17,7 @@ pub struct NullSink;
 impl Sink for NullSink {
     ghost state = { λ _. record { written = None; faults = 0; last_failed = false } };
 
-    /// Drops the bytes, and returns how many there were.
+    /// `NullSink`: drops the bytes, and returns how many there were.
     fn put(&mut self, bytes: &[u8]) -> Result<usize, Failed>
         ensures { result ≡ Ok (length bytes.now) }
     {
@@ -71,7 +71,7 @@ impl MemSink {
         }
     }
 
-    /// The bytes written so far.
+    /// The bytes written to the `MemSink` so far.
     pub fn written(&self) -> &[u8]
         ensures { result.now ≡ self.now.written }
     {
@@ -82,7 +82,7 @@ impl MemSink {
 impl Sink for MemSink {
     ghost state = { λ s. record { written = Some s.written; faults = s.schedule.faults; last_failed = s.schedule.failed } };
 
-    /// Fails if the schedule lists this call, or if there are bytes and no room is left. Else keeps the
+    /// `MemSink`: fails if the schedule lists this call, or if there are bytes and no room is left. Else keeps the
     /// longest prefix of the bytes that the room and the schedule allow, and returns its length.
     fn put(&mut self, bytes: &[u8]) -> Result<usize, Failed>
         ensures grows { self.old.schedule.faults ≤ self.new.schedule.faults }

@@ -49,7 +49,7 @@ impl SureSource {
 impl Source for SureSource {
     ghost state = { λ s. record { rest = Some s.left; given = s.given; calls = s.calls; faults = 0; last_failed = false } };
 
-    /// Copies the bytes left to the start of `buf`, or the first of them if not all fit, and returns how
+    /// `SureSource`: copies the bytes left to the start of `buf`, or the first of them if not all fit, and returns how
     /// many it copied.
     fn take(&mut self, buf: &mut [u8]) -> Result<usize, Failed>
         // The bytes of `buf` after the copied ones stay.
@@ -115,7 +115,7 @@ impl Source for MemSource {
       last_failed = s.schedule.failed;
     } };
 
-    /// Fails if the schedule lists this call; `buf` stays then. Else copies the first bytes left to the
+    /// `MemSource`: fails if the schedule lists this call; `buf` stays then. Else copies the first bytes left to the
     /// start of `buf`, as far as the buffer and the schedule allow, and returns how many it copied.
     fn take(&mut self, buf: &mut [u8]) -> Result<usize, Failed>
         ensures grows { self.old.schedule.faults ≤ self.new.schedule.faults }
@@ -179,7 +179,7 @@ impl LoopSource {
 impl Source for LoopSource {
     ghost state = { λ s. record { rest = None; given = s.given; calls = s.calls; faults = 0; last_failed = false } };
 
-    /// Fills `buf` with the next bytes of the endless pattern, and returns its length.
+    /// `LoopSource`: fills `buf` with the next bytes of the endless pattern, and returns its length.
     fn take(&mut self, buf: &mut [u8]) -> Result<usize, Failed>
         ensures full { result ≡ Ok (length buf.old) }
         ensures source { self.new ≡ loop_after self.old (length buf.old) }
@@ -193,7 +193,7 @@ impl Source for LoopSource {
     }
 }
 
-/// Copies the first n of these bytes to the start of `buf`; the rest of the buffer stays.
+/// For a source, copies the first n of these bytes to the start of `buf`; the rest of the buffer stays.
 fn copy_first(bytes: &[u8], n: usize, buf: &mut [u8])
     requires some { n ≤ length bytes.now }
     requires room { n ≤ length buf.old }

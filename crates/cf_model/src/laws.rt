@@ -33,12 +33,11 @@ ghost use Rattle.cf_model.specs.Steps.{ReadsBytes, ResizesObject, WritesBytes, e
 
 use block_model::free_order::lists_stay_lists_of_the_blocks;
 
-/// The state of a heap that was just opened keeps the rules (`KeepsRules`). With pages its words
-/// are zeros, and it has no order or the opening one (clause `pages`). With blocks word 0 is the
-/// header of the one free block, and the words from 2 on are zeros. Word 1 may be any word if the
-/// state has no order (`blocks`). If it has the opening order, word 1 links the block with no other
-/// (`linked`). So each kind has such words, without an order (`there`) and with the opening one
-/// (`ordered`).
+/// The state of a manager's heap that was just opened keeps the rules (`KeepsRules`). With pages its words are zeros,
+/// and it has no order or the opening one (clause `pages`). With blocks word 0 is the header of the one free block, and
+/// the words from 2 on are zeros. Word 1 may be any word if the state has no order (`blocks`). If it has the opening
+/// order, word 1 links the block with no other (`linked`). So each kind has such words, without an order (`there`) and
+/// with the opening one (`ordered`).
 pub fn an_empty_heap_keeps_the_rules()
     ensures pages { (kind : Kind) (p : Profile) (order : Option Order) → IsPaged kind → AreInRange p → IsOpeningOrder kind p order
         → KeepsRules (ordered_heap kind p (replicate (region_words p) 0) order) }
@@ -66,7 +65,7 @@ pub fn a_promise_is_an_opening_order()
         → new ≡ ordered_heap old.kind (profile_of s) new.words (Some (opening_order old.kind (profile_of s))) }
 {}
 
-/// A read of the bytes that were just written returns them, and a write changes no other object.
+/// On any manager, a read of the bytes that were just written returns them, and a write changes no other object.
 pub fn what_is_written_is_read()
     ensures same { (old new : HeapState) (position : Position) (bytes out : List ℕ)
         → WritesBytes old position bytes new → ReadsBytes new position (length bytes) out → out ≡ bytes }
@@ -75,14 +74,14 @@ pub fn what_is_written_is_read()
         → (q : ℕ) → q ≢ position.number → get new.held q ≡ get old.held q }
 {}
 
-/// After a free that succeeds, the freed handle isn't live.
+/// On any manager, after a free that succeeds, the freed handle isn't live.
 pub fn what_is_freed_is_gone()
     ensures { (old new : HeapState) (h : ℕ) (freed : Freed)
         → FreesObject old h freed new → get new.held h ≡ None }
 {}
 
-/// In the non-moving manager, a free and a resize, refused or not, leave each other object in its
-/// physical blocks, and leave the words there unchanged. This follows from their other clauses.
+/// In any non-moving `Manager`, a free and a resize, refused or not, leave each other object in its physical blocks,
+/// and leave the words there unchanged. This follows from their other clauses.
 pub fn blocks_of_others_stay()
     ensures free { (old new : HeapState) (h : ℕ) (freed : Freed) → old.kind ≡ NonMoving
         → KeepsRules old → KeepsRules new → FreesObject old h freed new → BlocksStay old h new }
@@ -92,8 +91,8 @@ pub fn blocks_of_others_stay()
         → KeepsRules old → KeepsRules new → ChangesCost old new → BlocksStay old h new }
 {}
 
-/// A call that succeeds has no cause for a refusal, so each refusal happens if and only if its
-/// cause holds. A malloc has at most one cause.
+/// A manager's call that succeeds has no cause for a refusal, so each refusal happens if and only if its cause holds. A
+/// malloc has at most one cause.
 pub fn refusals_come_exactly_by_their_causes()
     ensures malloc { (old new : HeapState) (asked : Request) (e : Refusal)
         → AddsObject old asked new → ¬ IsRefusedBy old asked.length e }
@@ -109,7 +108,8 @@ pub fn refusals_come_exactly_by_their_causes()
         → ResizesObject old asked done new → ¬ IsResizeFault old asked e }
 {}
 
-/// With blocks, a malloc and a free keep each object in a block of its own, and each used block has an object.
+/// On managers with blocks, a malloc and a free keep each object in a block of its own, and each used block has an
+/// object.
 /// `m` are the objects before the call, `old` and `new` the blocks before and after it. `rule` is the free-list
 /// rule, and the region has `words` words. The malloc adds an object of n bytes under the number h at the
 /// address `place`; the free removes object h, which is x.
@@ -124,8 +124,8 @@ pub fn blocks_stay_owned()
         → AreOwned (remove m h) (released old x.place) }
 {}
 
-/// With blocks, the words of the region determine the blocks (clause `blocks`). The words and the
-/// objects' addresses determine the objects (`objects`).
+/// On managers with blocks, the words of the region determine the blocks (clause `blocks`). The words and the objects'
+/// addresses determine the objects (`objects`).
 pub fn the_words_show_blocks_and_objects()
     ensures blocks { (s : HeapState) → AreInRange s.profile → AreObjects s → KeepsTiling s
         → read_blocks (region_words s.profile) s.words 0 (region_words s.profile) ≡ s.tiling }
@@ -133,11 +133,11 @@ pub fn the_words_show_blocks_and_objects()
         → read_objects s.words (places s.held) ≡ s.held }
 {}
 
-/// With blocks, a malloc adds an object of n bytes under the number h at the address `place`. `m` are the
+/// On managers with blocks, a malloc adds an object of n bytes under the number h at the address `place`. `m` are the
 /// objects before it, `old` and `new` the blocks, `was` and `now` the words before and after it. `rule` is the
-/// free-list rule, and the region has `count` words. Let each block have its header afterwards, the free blocks
-/// be cleared, and the contents of the other used blocks be unchanged. Let the new block have its object's
-/// header in word 1, then zeros. Then the words are those of the blocks and of the objects with the new one.
+/// free-list rule, and the region has `count` words. Let each block have its header afterwards, the free blocks be
+/// cleared, and the contents of the other used blocks be unchanged. Let the new block have its object's header in word
+/// 1, then zeros. Then the words are those of the blocks and of the objects with the new one.
 pub fn a_carve_keeps_the_words()
     ensures { (rule : FreeLists) (count : ℕ) (m : Held) (old new : List Block) (h n place : ℕ) (was now : List ℕ)
         → IsTiling count old → AreOwned m old → get m h ≡ None
@@ -152,7 +152,7 @@ pub fn a_carve_keeps_the_words()
         → AreTilingWords (content_word (insert m h (zeros_at place n))) new now }
 {}
 
-/// With pages, each malloc, free and resize that succeeds is a step of the model of objects on pages:
+/// On managers with pages, each malloc, free and resize that succeeds is a step of the model of objects on pages:
 /// `PlacesObject`, `RemovesObject` or `RefitsObject`.
 pub fn calls_are_the_steps_of_pages()
     ensures malloc { (old new : HeapState) (asked : Request) → IsPaged old.kind → AddsObject old asked new

@@ -76,24 +76,24 @@ pub trait Manager: StepBounds + Drop {
     fn kind(&self) -> Kind
         ensures { result ≡ (state self.now).kind };
 
-    /// Whether the heap is open. An open heap keeps the rules of its kind.
+    /// Whether a manager's heap is open. An open heap keeps the rules of its kind.
     fn is_open(&self) -> bool
         ensures value { result ≡ (state self.now).is_open }
         ensures rules { IsTrue result → KeepsRules (state self.now) };
 
-    /// Opens an empty heap with these settings, whatever was there before. Only this call
-    /// allocates. At `OutOfMemory` the manager is closed, and may be opened again. A manager that
-    /// promised an order promises one afterwards, open or closed.
+    /// On any manager, opens an empty heap with these settings, whatever was there before. Only this call allocates. At
+    /// `OutOfMemory` the manager is closed, and may be opened again. A manager that promised an order promises one
+    /// afterwards, open or closed.
     fn open_heap(&mut self, s: &Settings) -> Result<(), OutOfMemory>
         ensures ok { OnOk result (IsEmptyHeap (state self.old).kind s.now (state self.new)) }
         ensures rules { OnOk result (KeepsRules (state self.new)) }
         ensures err { OnErr result (IsClosed (state self.old) (state self.new)) }
         ensures promise { KeepsPromise (state self.old) (state self.new) };
 
-    /// Adds an object of `bytes` bytes, all zero, under a handle that wasn't live. Refused, in this order:
-    /// `Size` if it needs more than a page; `Proxy` if every proxy is in use; `Space` if its class has no slot
-    /// left or, with blocks, if no free list that is searched for its size has a block. A refusal changes only
-    /// the cost. At most 64 steps with pages, 25 with blocks.
+    /// On any manager, adds an object of `bytes` bytes, all zero, under a handle that wasn't live. Refused, in this
+    /// order: `Size` if it needs more than a page; `Proxy` if every proxy is in use; `Space` if its class has no slot
+    /// left or, with blocks, if no free list that is searched for its size has a block. A refusal changes only the
+    /// cost. At most 64 steps with pages, 25 with blocks.
     fn malloc(&mut self, bytes: u32, steps: &mut Steps) -> Result<Handle, Refusal>
         requires open { IsTrue (state self.old).is_open }
         requires room { steps.old ≤ 2 ^ 63 }
@@ -104,11 +104,10 @@ pub trait Manager: StepBounds + Drop {
         ensures most { ByOwn Self.most (λ b. RoseAtMost steps.old steps.new (b.malloc result)) }
         ensures cost { steps.new ≡ steps.old + (state self.new).cost };
 
-    /// Removes an object, and returns the words of its slot or block. Refused if the handle isn't live. With
-    /// pages, another object of the class moves to the freed address if the class would else pass its bound on
-    /// partly full pages (`MustMove`). `moved` is that object. A refusal changes only the cost. With pages at
-    /// most 96 steps plus twice the words of the slot; with blocks at most 41 plus the words of the block, 1 if
-    /// refused.
+    /// On any manager, removes an object, and returns the words of its slot or block. Refused if the handle isn't live.
+    /// With pages, another object of the class moves to the freed address if the class would else pass its bound on
+    /// partly full pages (`MustMove`). `moved` is that object. A refusal changes only the cost. With pages at most 96
+    /// steps plus twice the words of the slot; with blocks at most 41 plus the words of the block, 1 if refused.
     fn free(&mut self, h: Handle, steps: &mut Steps) -> Result<Freed, NotLive>
         requires open { IsTrue (state self.old).is_open }
         requires room { steps.old ≤ 2 ^ 63 }
@@ -120,10 +119,9 @@ pub trait Manager: StepBounds + Drop {
         ensures cost { steps.new ≡ steps.old + (state self.new).cost }
         ensures blocks { BlocksStayIn (state self.old).kind (state self.old) h.0 (state self.new) };
 
-    /// Writes bytes into an object from byte `at` on, and changes nothing else. Refused, in this
-    /// order: `Unknown` if the handle isn't live; `Range` if the bytes pass the end of the object.
-    /// A refusal changes nothing. At most 16 steps plus three for each word that holds at least one
-    /// of the bytes.
+    /// On any manager, writes bytes into an object from byte `at` on, and changes nothing else. Refused, in this order:
+    /// `Unknown` if the handle isn't live; `Range` if the bytes pass the end of the object. A refusal changes nothing.
+    /// At most 16 steps plus three for each word that holds at least one of the bytes.
     fn write(
         &mut self,
         h: Handle,
@@ -138,9 +136,8 @@ pub trait Manager: StepBounds + Drop {
         ensures bound { RoseAtMost steps.old steps.new (access_bound at (length bytes.now)) }
         ensures most { ByOwn Self.most (λ b. RoseBy steps.old steps.new (b.access at (length bytes.now) result)) };
 
-    /// Fills `out` with the bytes of an object from byte `at` on. Refused as `write` is; then `out`
-    /// stays unchanged. At most 16 steps plus three for each word that holds at least one of the
-    /// bytes.
+    /// On any manager, fills `out` with the bytes of an object from byte `at` on. Refused as `write` is; then `out`
+    /// stays unchanged. At most 16 steps plus three for each word that holds at least one of the bytes.
     fn read(&self, h: Handle, at: u32, out: &mut [u8], steps: &mut Steps) -> Result<(), AccessFault>
         requires open { IsTrue (state self.now).is_open }
         requires room { steps.old ≤ 2 ^ 63 }
@@ -149,13 +146,12 @@ pub trait Manager: StepBounds + Drop {
         ensures bound { RoseAtMost steps.old steps.new (access_bound at (length out.old)) }
         ensures most { ByOwn Self.most (λ b. RoseBy steps.old steps.new (b.access at (length out.old) result)) };
 
-    /// Changes an object's length: its first bytes stay, and added bytes are zeros. With pages the
-    /// object stays in its slot if its class stays. Otherwise it takes a slot of the new class, and
-    /// its old slot is freed, into which another object may move; `moved` is that object. Refused,
-    /// in this order: `Unknown` if the handle isn't live; `Kind` with blocks; `Size` if the object
-    /// would need more than a page; `Space` if the class changes and the new one has no slot left.
-    /// A refusal changes only the cost, with blocks nothing. With pages at most 160 steps plus
-    /// three times the words of the larger slot, 160 if refused; with blocks 1.
+    /// On any manager, changes an object's length: its first bytes stay, and added bytes are zeros. With pages the
+    /// object stays in its slot if its class stays. Otherwise it takes a slot of the new class, and its old slot is
+    /// freed, into which another object may move; `moved` is that object. Refused, in this order: `Unknown` if the
+    /// handle isn't live; `Kind` with blocks; `Size` if the object would need more than a page; `Space` if the class
+    /// changes and the new one has no slot left. A refusal changes only the cost, with blocks nothing. With pages at
+    /// most 160 steps plus three times the words of the larger slot, 160 if refused; with blocks 1.
     fn resize(&mut self, h: Handle, bytes: u32, steps: &mut Steps) -> Result<Resized, ResizeFault>
         requires open { IsTrue (state self.old).is_open }
         requires room { steps.old ≤ 2 ^ 63 }
@@ -167,9 +163,9 @@ pub trait Manager: StepBounds + Drop {
         ensures cost { RoseByCost (state self.old).kind steps.old steps.new (state self.new).cost }
         ensures blocks { BlocksStayIn (state self.old).kind (state self.old) h.0 (state self.new) };
 
-    /// Sets the bound of the class whose slots have `slot_words` words to `k`: how many of its
-    /// pages may be partly full, 1 to 64. No object may be live. Returns false, and changes
-    /// nothing, if there is no such class.
+    /// On any manager, sets the bound of the class whose slots have `slot_words` words to `k`: how many of its pages
+    /// may be partly full, 1 to 64. No object may be live. Returns false, and changes nothing, if there is no such
+    /// class.
     fn set_bound(&mut self, slot_words: u32, k: u32) -> bool
         requires open { IsTrue (state self.old).is_open }
         requires empty { (state self.old).held ≡ map.empty }
@@ -179,14 +175,14 @@ pub trait Manager: StepBounds + Drop {
         ensures bound { state self.new ≡ with_bound (state self.old) (class_with (state self.old).kind (state self.old) slot_words) k }
         ensures rules { KeepsRules (state self.new) };
 
-    /// The address of the object: the index of the first word of its slot or block in the region or,
+    /// On any manager, the address of the object: the index of the first word of its slot or block in the region or,
     /// with a block table, among the virtual words. None if the handle isn't live.
     fn place(&self, h: Handle, steps: &mut Steps) -> Option<u32>
         requires { IsTrue (state self.now).is_open }
         ensures value { result ≡ place_of (state self.now) h.0 }
         ensures steps { RoseBy steps.old steps.new 1 };
 
-    /// The word of the region at the index `word`; none if that is beyond the region's end. With a
+    /// On any manager, the word of the region at the index `word`; none if that is beyond the region's end. With a
     /// block table the index counts virtual words.
     fn peek(&self, word: u32, steps: &mut Steps) -> Option<u64>
         requires { IsTrue (state self.now).is_open }
@@ -194,26 +190,26 @@ pub trait Manager: StepBounds + Drop {
         ensures rules { KeepsRules (state self.now) }
         ensures steps { RoseBy steps.old steps.new (peek_steps (state self.now).kind result) };
 
-    /// The number of the physical block that holds block i of the object's slot. Blocks have four
-    /// words, and i counts from 0. None if the kind isn't `NonMoving`, the handle isn't live, or
-    /// the slot has no block i.
+    /// On any manager, the number of the physical block that holds block i of the object's slot. Blocks have four
+    /// words, and i counts from 0. None if the kind isn't `NonMoving`, the handle isn't live, or the slot has no block
+    /// i.
     fn block(&self, h: Handle, i: u32, steps: &mut Steps) -> Option<u32>
         requires { IsTrue (state self.now).is_open }
         ensures value { result ≡ block_in (state self.now).kind (state self.now) h.0 i }
         ensures steps { RoseBy steps.old steps.new (block_steps (state self.now).kind (map.get (state self.now).held h.0) result) };
 
-    /// The number of size classes; 0 with blocks.
+    /// A manager's number of size classes; 0 with blocks.
     fn classes(&self) -> u32
         requires { IsTrue (state self.now).is_open }
         ensures { result ≡ classes_in (state self.now).kind (state self.now) };
 
-    /// The figures of class c, counted from 0; none if there is no such class.
+    /// A manager's figures of class c, counted from 0; none if there is no such class.
     fn figures(&self, c: u32) -> Option<Figures>
         requires { IsTrue (state self.now).is_open }
         ensures { result ≡ figures_in (state self.now) c };
 
-    /// The figures of the whole heap. With blocks this takes time linear in the free blocks,
-    /// because it searches for the largest one; `usage` doesn't.
+    /// A manager's figures of the whole heap. With blocks this takes time linear in the free blocks, because it
+    /// searches for the largest one; `usage` doesn't.
     fn totals(&self, steps: &mut Steps) -> Totals
         requires { IsTrue (state self.now).is_open }
         ensures value { result ≡ totals_in (state self.now).kind (state self.now) }
@@ -221,13 +217,13 @@ pub trait Manager: StepBounds + Drop {
         ensures most { ByOwn Self.most (λ b. RoseAtMost steps.old steps.new (b.totals result)) }
         ensures exact { ByOwn Self.most (λ b. RoseBy steps.old steps.new (b.totals_exact (state self.now))) };
 
-    /// The number of bytes of an object; none if the handle isn't live.
+    /// On any manager, the number of bytes of an object; none if the handle isn't live.
     fn length(&self, h: Handle, steps: &mut Steps) -> Option<u32>
         requires { IsTrue (state self.now).is_open }
         ensures value { result ≡ length_of (state self.now) h.0 }
         ensures steps { RoseBy steps.old steps.new (length_steps (state self.now).kind result) };
 
-    /// What a malloc of `bytes` bytes would return now, without the handle: `Ok`, or its refusal.
+    /// What a manager's malloc of `bytes` bytes would return now, without the handle: `Ok`, or its refusal.
     fn has_room(&self, bytes: u32, steps: &mut Steps) -> Result<(), Refusal>
         requires { IsTrue (state self.now).is_open }
         ensures ok { IfOk result (λ u. (e : Refusal) → ¬ IsRefusedBy (state self.now) bytes e) }
@@ -242,8 +238,8 @@ pub trait Manager: StepBounds + Drop {
         requires { IsTrue (state self.now).is_open }
         ensures { result ≡ usage_in (state self.now).kind (state self.now) };
 
-    /// The steps that the last malloc or free since the opening added to its ledger, refused or
-    /// not; with pages also the last resize. 0 before the first one.
+    /// On any manager, the steps that the last malloc or free since the opening added to its ledger, refused or not;
+    /// with pages also the last resize. 0 before the first one.
     fn cost(&self) -> u64
         requires { IsTrue (state self.now).is_open }
         ensures { result ≡ (state self.now).cost };

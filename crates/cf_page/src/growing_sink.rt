@@ -1,4 +1,4 @@
-//! A sink in memory that grows with what is written.
+//! `GrowingSink`, a sink in memory that grows with what is written.
 ghost use Rattle.std.specs.Prelude.{◌≡◌, Some, [], false};
 
 use cf_base::Failed;
@@ -15,7 +15,7 @@ pub struct GrowingSink {
 }
 
 impl GrowingSink {
-    /// An empty sink, before its first call.
+    /// An empty growing sink, before its first call.
     pub fn new(alloc: Global) -> GrowingSink
         ensures bytes { result.bytes.items ≡ [] }
         ensures faults { result.faults ≡ 0 }
@@ -32,7 +32,7 @@ impl GrowingSink {
 impl Sink for GrowingSink {
     ghost state = { λ s. record { written = Some s.bytes.items; faults = s.faults; last_failed = s.failed } };
 
-    /// Writes all the bytes, and returns their number.
+    /// `GrowingSink`: writes all the bytes, and returns their number.
     fn put(&mut self, bytes: &[u8]) -> Result<usize, Failed> {
         match self.bytes.extend_from_slice(bytes) {
             Ok(()) => {

@@ -15,7 +15,8 @@ use std::rt::Memory;
 use tlsf_heap::TlsfHeap;
 use top_call::run_arguments;
 
-/// Runs the tool with these arguments and this script on a closed manager of each kind, as the program does.
+/// For the page, runs the tool with these arguments and this script on a closed manager of each kind, as the program
+/// does.
 /// Writes the output to the start of `out` if it fits, and returns the status and the length of the output.
 /// `None` if an allocation fails: then `out` stays as it was.
 pub fn play(
@@ -47,7 +48,7 @@ pub fn play(
     play_on(memory, alloc, words, script, out, &mut managers)
 }
 
-/// Appends a closed manager of the kind. Fails only if an allocation does.
+/// For the page, appends a closed manager of the kind. Fails only if an allocation does.
 fn add<H: Manager>(kind: Kind, managers: &mut Vec<H>, manager: H) -> Result<(), AllocError>
     requires { H.state manager ≡ closed_state kind }
     ensures { OnOk result (map (λ m. H.state m) managers.new.items ≡ map (λ m. H.state m) managers.old.items ++ closed_state kind ∷ []) }
@@ -58,7 +59,7 @@ fn add<H: Manager>(kind: Kind, managers: &mut Vec<H>, manager: H) -> Result<(), 
     }
 }
 
-/// `play` on the given managers, one of each kind, which were never open.
+/// For the page, `play` on the given managers, one of each kind, which were never open.
 fn play_on<H: Manager>(
     memory: Memory,
     alloc: Global,
@@ -84,7 +85,7 @@ fn play_on<H: Manager>(
     Some((status, sink.bytes.len()))
 }
 
-/// Copies the output to the start of `out` if it fits.
+/// For the page, copies the output to the start of `out` if it fits.
 fn show(output: &[u8], out: &mut [u8])
     ensures { out.new ≡ shown_in output.now out.old }
 {

@@ -13,8 +13,8 @@ use cf_base::ResizeFault;
 use cf_model::{FREE_BOUND, MALLOC_BOUND, Manager, RESIZE_BOUND};
 use step_ledger::Steps;
 
-/// `m`: makes an object of `bytes` bytes, which `id` then names. If the id is live already, the reply is `live`;
-/// if the heap refuses the malloc, it is `refused` and the cause. Then no id and no object changes.
+/// `m`: on a manager, makes an object of `bytes` bytes, which `id` then names. If the id is live already, the reply is
+/// `live`; if the heap refuses the malloc, it is `refused` and the cause. Then no id and no object changes.
 pub(crate) fn malloc<H: Manager>(
     records: &mut Records,
     heap: &mut H,
@@ -40,7 +40,7 @@ pub(crate) fn malloc<H: Manager>(
     }
 }
 
-/// `f`: frees the object of an id; `unknown` if the id isn't live.
+/// `f`: on a manager, frees the object of an id; `unknown` if the id isn't live.
 pub(crate) fn free<H: Manager>(
     records: &mut Records,
     heap: &mut H,

@@ -19,10 +19,10 @@ use frag_report::{frag_line, walk_lines};
 use script_reader::CommandRef;
 use step_ledger::Steps;
 
-/// Does command `c` and writes its reply to `out`. Each line begins with `lead` and is passed to the sink as a
-/// whole. Returns the outcome of the reply. If the sink fails, the result is `Failed`: the command has taken
-/// effect, and a prefix of its reply was written. `line`, `buffer` and `text` are scratch: `line` for a line of
-/// any reply, and, for `r` alone, `buffer` for the bytes read and `text` for the line that shows them.
+/// For a `Session`, does command `c` and writes its reply to `out`. Each line begins with `lead` and is passed to the
+/// sink as a whole. Returns the outcome of the reply. If the sink fails, the result is `Failed`: the command has taken
+/// effect, and a prefix of its reply was written. `line`, `buffer` and `text` are scratch: `line` for a line of any
+/// reply, and, for `r` alone, `buffer` for the bytes read and `text` for the line that shows them.
 // All commands are in one match: if the compiler knows a caller's command, it inlines that branch alone.
 pub(crate) fn answer<H: Manager, K: Sink>(
     records: &mut Records,

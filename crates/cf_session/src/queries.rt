@@ -58,8 +58,8 @@ pub(crate) fn read<H: Manager, K: Sink>(
     }
 }
 
-/// Fills the start of `text` with the lead, `=`, the bytes in hexadecimal and a line feed, and returns how many
-/// bytes of `text` these take.
+/// For `r`, fills the start of `text` with the lead, `=`, the bytes in hexadecimal and a line feed, and returns how
+/// many bytes of `text` these take.
 fn spell_bytes(text: &mut [u8], lead: &[u8], bytes: &[u8]) -> usize
     requires text { length text.old ≡ 8202 }
     requires few { length bytes.now ≤ CHUNK }

@@ -16,7 +16,7 @@ pub(crate) struct Records {
 }
 
 impl Records {
-    /// Records in which no id is live. Allocates the table of all ids; fails only if memory runs out.
+    /// A session's records in which no id is live. Allocates the table of all ids; fails only if memory runs out.
     pub(crate) fn new(alloc: Global) -> Result<Records, OutOfMemory>
         ensures { IfOk result (λ r. session_of r ≡ fresh_session) }
     {

@@ -11,7 +11,8 @@ use crate::short::{OneLine, Short};
 use cf_base::Failed;
 use cf_io::{Line, Sink, begin_line, push_text, put_all, put_line};
 
-/// The result of a command: `outcome` if `written`, the result of writing its reply, is `Ok`, else `Failed`.
+/// For a reply, the result of a command: `outcome` if `written`, the result of writing its reply, is `Ok`, else
+/// `Failed`.
 pub fn ended(written: Result<(), Failed>, outcome: Outcome) -> Result<Outcome, Failed>
     ensures { IsEnded written outcome result }
 {

@@ -47,8 +47,8 @@ impl Model for Session {
 }
 
 impl Session {
-    /// A session in which no id is live. The runtime value `rt` makes its meter. Allocates the table of all
-    /// 65,536 ids; fails only if memory runs out.
+    /// A `Session` in which no id is live. The runtime value `rt` makes its meter. Allocates the table of
+    /// all 65,536 ids; fails only if memory runs out.
     pub fn start(rt: &HostRuntime, alloc: Global) -> Result<Session, OutOfMemory>
         ensures { IfOk result (λ s. s ≡ fresh_session) }
     {
@@ -69,8 +69,8 @@ impl Session {
         })
     }
 
-    /// Does command `c` on the heap and writes its reply to `out`; each line begins with `lead` and is passed
-    /// to the sink as a whole. Returns the outcome of the reply. If the sink fails, the result is `Failed`: the
+    /// `Session`: does command `c` on the heap and writes its reply to `out`; each line begins with `lead` and is
+    /// passed to the sink as a whole. Returns the outcome of the reply. If the sink fails, the result is `Failed`: the
     /// command has taken effect, and a prefix of its reply was written.
     pub fn apply<H: Manager, K: Sink>(
         &mut self,
@@ -96,7 +96,7 @@ impl Session {
         self.apply_ref(heap, c.as_ref(), lead, out)
     }
 
-    /// `apply` for a command whose bytes (those of a write) are borrowed from the caller's buffer, in a run in
+    /// `Session::apply` for a command whose bytes (those of a write) are borrowed from the caller's buffer, in a run in
     /// progress.
     pub fn apply_ref<H: Manager, K: Sink>(
         &mut self,
@@ -128,14 +128,14 @@ impl Session {
         )
     }
 
-    /// How many times a call moved an object to another's slot since the start; saturates at `2^64 - 1`.
+    /// In a session, how many times a call moved an object to another's slot since the start; saturates at `2^64 - 1`.
     pub fn moves(&self) -> u64
         ensures { result ≡ self.now.moves }
     {
         self.records.counters.moves
     }
 
-    /// The words of all slots to which calls moved an object since the start; saturates at `2^64 - 1`.
+    /// In a session, the words of all slots to which calls moved an object since the start; saturates at `2^64 - 1`.
     pub fn words(&self) -> u64
         ensures { result ≡ self.now.words }
     {

@@ -38,7 +38,7 @@ pub enum Short {
 }
 
 impl Short {
-    /// The text of the reply, with a line feed at its end.
+    /// The text of the short reply, with a line feed at its end.
     pub(crate) fn text_line(self) -> &'static [u8]
         ensures text { result.now ≡ short_text self ++ 10 ∷ [] }
         ensures short { length result.now ≤ 20 }
@@ -59,7 +59,7 @@ impl Short {
         }
     }
 
-    /// The outcome of the reply: `Good` for `ok`, `Refused` for a text that begins with `refused`, else `Other`.
+    /// The outcome of the short reply: `Good` for `ok`, `Refused` for a text that begins with `refused`, else `Other`.
     pub(crate) fn outcome(self) -> Outcome
         ensures { result ≡ outcome_in (short_text self) }
     {
@@ -80,7 +80,7 @@ impl Short {
     }
 }
 
-/// The reply to a malloc that a heap refused.
+/// The short reply to a malloc that a heap refused.
 pub fn refusal_reply(refusal: Refusal) -> Short
     ensures { short_text result ≡ malloc_text (Err refusal) }
 {
@@ -91,7 +91,7 @@ pub fn refusal_reply(refusal: Refusal) -> Short
     }
 }
 
-/// The reply to a read or a write that a heap refused.
+/// The short reply to a read or a write that a heap refused.
 pub fn fault_reply(fault: AccessFault) -> Short
     ensures { short_text result ≡ write_text (Err fault) }
 {

@@ -40,7 +40,7 @@ impl Counts {
         })
     }
 
-    /// How many pages are in the list `which` of class `c`.
+    /// By the counts, how many pages are in the list `which` of class `c`.
     pub(crate) fn of(&self, c: u32, which: Which) -> u32
         requires { list_number c which < length self.now }
         ensures { result ≡ slice_index self.now (list_number c which) }

@@ -171,7 +171,7 @@ impl ClassLists {
 }
 
 impl Links {
-    /// Makes `nodes` nodes, each a ring by itself.
+    /// For linked page lists, makes `nodes` nodes, each a ring by itself.
     fn new(alloc: Global, nodes: u32) -> Result<Links, AllocError>
         ensures next { IfOk result (λ links. links.next ≡ range_with_len 0 nodes) }
         ensures previous { IfOk result (λ links. links.previous ≡ range_with_len 0 nodes) }

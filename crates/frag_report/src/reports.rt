@@ -59,7 +59,7 @@ pub fn frag_line<H: Manager, K: Sink>(
     put_line(line, out)
 }
 
-/// Writes the report on pages: a line for each class with live objects, then the line of totals, from
+/// For `walk`, writes the report on pages: a line for each class with live objects, then the line of totals, from
 /// `totals`, which the caller got from the heap.
 fn put_pages<H: Manager, K: Sink>(
     heap: &H,
@@ -87,7 +87,7 @@ fn put_pages<H: Manager, K: Sink>(
     }
 }
 
-/// Writes a line for each class with live objects, in rising order of the slot sizes.
+/// For `walk`, writes a line for each class with live objects, in rising order of the slot sizes.
 fn put_classes<H: Manager, K: Sink>(
     heap: &H,
     lead: &[u8],
@@ -112,7 +112,7 @@ fn put_classes<H: Manager, K: Sink>(
     Ok(())
 }
 
-/// Writes the line of a class with these figures; nothing if the class has no live object.
+/// For `walk`, writes the line of a class with these figures; nothing if the class has no live object.
 pub fn put_class<K: Sink>(
     figures: &Figures,
     lead: &[u8],
@@ -134,7 +134,7 @@ pub fn put_class<K: Sink>(
     put_line(line, out)
 }
 
-/// Writes the last line of a report on pages: how many objects are live, and how many pages are in use and
+/// For `walk`, writes the last line of a report on pages: how many objects are live, and how many pages are in use and
 /// free.
 pub fn put_total<K: Sink>(
     live: u32,
@@ -155,7 +155,7 @@ pub fn put_total<K: Sink>(
     put_line(line, out)
 }
 
-/// Writes the line on blocks: how many are used, how many are free, and the words of the largest free one.
+/// For `walk`, writes the line on blocks: how many are used, how many are free, and the words of the largest free one.
 fn put_blocks<K: Sink>(
     totals: &Totals,
     lead: &[u8],

@@ -39,7 +39,7 @@ impl Generator {
         }
     }
 
-    /// Makes the next command, which owns the bytes of a write.
+    /// From the seed, makes the next command, which owns the bytes of a write.
     pub fn next_command(&mut self) -> Command
         ensures value { result ≡ command_of_word (mix_u64 self.old).0 }
         ensures rest { self.new ≡ next_state self.old }
@@ -50,9 +50,9 @@ impl Generator {
         self.next_ref(&mut bytes).to_command()
     }
 
-    /// Makes the next command from the next word. Its low 12 bits are the id, and the three bits above them
-    /// choose one of eight cases: three make an object, two free one, one writes the word's eight bytes, and two
-    /// read eight bytes. The bytes of a write are put into `bytes`, from which the command borrows them.
+    /// Makes the next command from the next random word. Its low 12 bits are the id, and the three bits above them
+    /// choose one of eight cases: three make an object, two free one, one writes the word's eight bytes, and two read
+    /// eight bytes. The bytes of a write are put into `bytes`, from which the command borrows them.
     pub fn next_ref<'a>(&mut self, bytes: &'a mut [u8; 8]) -> CommandRef<'a>
         ensures value { owned_command result ≡ command_of_word (mix_u64 self.old).0 }
         ensures rest { self.new ≡ next_state self.old }

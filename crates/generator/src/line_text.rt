@@ -58,7 +58,7 @@ fn push_command(line: &mut Line, c: &Command)
     }
 }
 
-/// Writes the token `word`, a space and the number `a` into an empty buffer.
+/// For a script's line, writes the token `word`, a space and the number `a` into an empty buffer.
 fn push_one(line: &mut Line, word: &[u8], a: u64)
     requires empty { line.old ≡ [] }
     requires word { length word.now ≤ 5 }
@@ -69,7 +69,7 @@ fn push_one(line: &mut Line, word: &[u8], a: u64)
     push_field(line, b" ", a);
 }
 
-/// Writes the token `word` and the numbers `a` and `b`, separated by spaces, into an empty buffer.
+/// For a script's line, writes the token `word` and the numbers `a` and `b`, separated by spaces, into an empty buffer.
 fn push_two(line: &mut Line, word: &[u8], a: u64, b: u64)
     requires empty { line.old ≡ [] }
     requires word { length word.now ≤ 5 }
@@ -80,7 +80,8 @@ fn push_two(line: &mut Line, word: &[u8], a: u64, b: u64)
     push_field(line, b" ", b);
 }
 
-/// Writes the token `word` and the numbers `a`, `b` and `c`, separated by spaces, into an empty buffer.
+/// For a script's line, writes the token `word` and the numbers `a`, `b` and `c`, separated by spaces, into an empty
+/// buffer.
 fn push_three(line: &mut Line, word: &[u8], a: u64, b: u64, c: u64)
     requires empty { line.old ≡ [] }
     requires word { length word.now ≤ 5 }
@@ -91,8 +92,8 @@ fn push_three(line: &mut Line, word: &[u8], a: u64, b: u64, c: u64)
     push_field(line, b" ", c);
 }
 
-/// Appends a space and the bytes, two lower-case hexadecimal digits each. They fit, since the buffer has at most
-/// 47 bytes before and there are at most 4,096 bytes.
+/// To a script's line, appends a space and the bytes, two lower-case hexadecimal digits each. They fit, since the
+/// buffer has at most 47 bytes before and there are at most 4,096 bytes.
 fn push_bytes(line: &mut Line, bytes: &[u8])
     requires line { length line.old ≤ 47 }
     requires bytes { length bytes.now ≤ 4096 }

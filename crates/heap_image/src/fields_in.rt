@@ -20,9 +20,9 @@ pub(crate) enum Filled {
     Failed,
 }
 
-/// Fills the buffer with the next bytes of the source, by repeated calls of `take`. Stops when the buffer is
-/// full (`Whole`), the input ends (`Cut`) or a call fails (`Failed`), and returns which of the three it was.
-/// After `Cut` and `Failed` nothing is claimed of the bytes in the buffer.
+/// Fills the buffer with the next bytes of an image's source, by repeated calls of `take`. Stops when the buffer is
+/// full (`Whole`), the input ends (`Cut`) or a call fails (`Failed`), and returns which of the three it was. After
+/// `Cut` and `Failed` nothing is claimed of the bytes in the buffer.
 pub(crate) fn fill<S: Source>(source: &mut S, buffer: &mut [u8]) -> Filled
     ensures fills { FillsBuffer (feed_of (S.state source.old)) buffer.new result (feed_of (S.state source.new)) }
     ensures source { SourceFailsIf (is_unfilled result) (S.state source.old) (S.state source.new) }

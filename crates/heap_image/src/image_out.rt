@@ -90,8 +90,8 @@ fn put_header<K: Sink>(s: &Settings, live: u32, line: &mut Line, out: &mut K) ->
     put_all(out, line.bytes())
 }
 
-/// The length in bytes of the live object with the handle `h`: the upper half of its header, the word at its
-/// address.
+/// For an image, the length in bytes of the live object with the handle `h`: the upper half of its header, the word at
+/// its address.
 pub fn length_of<H: Manager>(heap: &H, h: Handle, meter: &mut Meter) -> u32
     requires moving { (H.state heap.now).kind ≡ Moving }
     requires open { IsTrue (H.state heap.now).is_open }
@@ -110,7 +110,8 @@ pub fn length_of<H: Manager>(heap: &H, h: Handle, meter: &mut Meter) -> u32
     (header >> 32) as u32
 }
 
-/// Writes the `n` bytes of the live object with the handle `h`, at most 4,096 at a time, through `buffer`.
+/// For an image, writes the `n` bytes of the live object with the handle `h`, at most 4,096 at a time, through
+/// `buffer`.
 /// Returns `Failed` only if the sink failed; then a prefix of the bytes was written.
 fn put_bytes<H: Manager, K: Sink>(
     heap: &H,

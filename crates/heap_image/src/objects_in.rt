@@ -28,9 +28,9 @@ pub(crate) struct Entry {
     pub length: u32,
 }
 
-/// Reads the next entry of the source and makes its object. The id must be at least `next`; `at` is the
-/// offset of the entry in the image, and `buffer` takes up to 4,096 bytes of the object at a time. Fails
-/// with `Bad` or `Read` as `load` does, and then the heap holds the same objects as before.
+/// Reads the next entry of the image's source and makes its object. The id must be at least `next`; `at` is the offset
+/// of the entry in the image, and `buffer` takes up to 4,096 bytes of the object at a time. Fails with `Bad` or `Read`
+/// as `load` does, and then the heap holds the same objects as before.
 ///
 /// In clause `entry`, `go` is any function that decodes the bytes after the entry.
 pub(crate) fn read_entry<S: Source, H: Manager, N: Namer>(
@@ -103,8 +103,8 @@ fn read_object<S: Source, H: Manager, N: Namer>(
     }
 }
 
-/// Makes an object of `n` zero bytes under the id. Returns false, and makes none, if it doesn't fit a page, or
-/// if all objects with it need more pages than the heap has.
+/// While loading, makes an object of `n` zero bytes under the id. Returns false, and makes none, if it doesn't fit a
+/// page, or if all objects with it need more pages than the heap has.
 fn make_object<H: Manager, N: Namer>(heap: &mut H, names: &mut N, id: u16, n: u32) -> bool
     requires loading { IsLoading (run_at (N.state names.old) (H.state heap.old)) }
     requires fresh { map.get (live_objects (run_at (N.state names.old) (H.state heap.old))) id ≡ None }
@@ -162,7 +162,7 @@ fn fill_object<S: Source, H: Manager, N: Namer>(
     Ok(())
 }
 
-/// Writes these bytes into the object of an id, from byte `at` of the object on.
+/// While loading, writes these bytes into the object of an id, from byte `at` of the object on.
 fn write_object_bytes<H: Manager, N: Namer>(
     heap: &mut H,
     names: &mut N,
@@ -183,7 +183,7 @@ fn write_object_bytes<H: Manager, N: Namer>(
     names.write(heap, id, at, bytes);
 }
 
-/// Frees the live object of an id.
+/// While loading, frees the live object of an id.
 fn free_object<H: Manager, N: Namer>(heap: &mut H, names: &mut N, id: u16)
     requires loading { IsLoading (run_at (N.state names.old) (H.state heap.old)) }
     requires live { (v : List ℕ) × (map.get (live_objects (run_at (N.state names.old) (H.state heap.old))) id ≡ Some v) }

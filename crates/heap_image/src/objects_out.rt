@@ -24,8 +24,8 @@ pub trait ObjectWriter {
     /// The bytes that are written for an object, by its id and its bytes.
     ghost text: { ℕ → List ℕ → List ℕ };
 
-    /// Writes the live object with the handle `h`, whose id is `id`. `buffer` takes up to 4,096 of its bytes
-    /// at a time, in `line` other output is put together, and `meter` counts the steps of the heap's calls.
+    /// `ObjectWriter`: writes the live object with the handle `h`, whose id is `id`. `buffer` takes up to 4,096 of its
+    /// bytes at a time, in `line` other output is put together, and `meter` counts the steps of the heap's calls.
     /// Returns `Failed` only if the sink failed; then a prefix of the object's text was written.
     fn put_object<H: Manager, K: Sink>(
         &self,

@@ -40,7 +40,7 @@ fn is_mark(bytes: &[u8]) -> bool
     bytes == b"CFI1".as_slice()
 }
 
-/// Whether a heap may have `pages` pages: 1 to 4,096.
+/// Whether an image's heap may have `pages` pages: 1 to 4,096.
 fn are_pages(pages: u32) -> bool
     ensures { result ≡ is_within 1 4096 pages }
 {

@@ -10,14 +10,14 @@ use crate::of_kind::OfKind;
 use c_base::{DONE, NphCounted};
 use cf_base::{Handle, Refusal, ResizeFault};
 
-/// Counts one more, but at most `2^64 - 1`.
+/// For C, counts one more, but at most `2^64 - 1`.
 pub(crate) fn count(n: &mut u64)
     ensures { n.new ≡ one_more n.old }
 {
     *n = n.saturating_add(1);
 }
 
-/// Counts the bytes asked for and what is free in the heap as it now is.
+/// For C, counts the bytes asked for and what is free in the heap as it now is.
 pub(crate) fn count_peaks<H: OfKind>(heap: &H, counts: &mut NphCounted)
     requires { IsOpenOfKind H.of_kind (H.state heap.now) }
     ensures { counts.new ≡ with_peaks counts.old (H.state heap.now) }
@@ -32,7 +32,7 @@ pub(crate) fn count_peaks<H: OfKind>(heap: &H, counts: &mut NphCounted)
     }
 }
 
-/// Counts a move, if an object moved.
+/// For C, counts a move, if an object moved.
 pub(crate) fn count_move(counts: &mut NphCounted, moved: Option<Handle>)
     ensures { counts.new ≡ with_move counts.old moved }
 {
@@ -41,7 +41,7 @@ pub(crate) fn count_move(counts: &mut NphCounted, moved: Option<Handle>)
     }
 }
 
-/// Counts a resize that succeeded: as `count_peaks` and `count_move`.
+/// For C, counts a resize that succeeded: as `count_peaks` and `count_move`.
 pub(crate) fn count_resized<H: OfKind>(heap: &H, counts: &mut NphCounted, moved: Option<Handle>)
     requires { IsOpenOfKind H.of_kind (H.state heap.now) }
     ensures { counts.new ≡ with_move (with_peaks counts.old (H.state heap.now)) moved }
@@ -50,7 +50,7 @@ pub(crate) fn count_resized<H: OfKind>(heap: &H, counts: &mut NphCounted, moved:
     count_move(counts, moved);
 }
 
-/// Counts a refused malloc.
+/// For C, counts a refused malloc.
 pub(crate) fn count_refusal(counts: &mut NphCounted, cause: Refusal)
     ensures { (s : HeapState) → counts.new ≡ malloc_counts counts.old (Err cause) s }
 {
@@ -61,7 +61,7 @@ pub(crate) fn count_refusal(counts: &mut NphCounted, cause: Refusal)
     }
 }
 
-/// Counts a refused resize.
+/// For C, counts a refused resize.
 pub(crate) fn count_resize_fault(counts: &mut NphCounted, cause: ResizeFault)
     ensures { (s : HeapState) → counts.new ≡ resize_counts counts.old (Err cause) s }
 {
@@ -76,7 +76,7 @@ pub(crate) fn count_resize_fault(counts: &mut NphCounted, cause: ResizeFault)
 }
 
 impl<H: OfKind> Held<H> {
-    /// Writes what is counted since the opening into `counts`; counts no steps. Always returns `DONE`.
+    /// For C, writes what is counted since the opening into `counts`; counts no steps. Always returns `DONE`.
     pub fn counts(&mut self, counts: &mut NphCounted) -> i32
         ensures { IsCountsCall self.old result counts.new self.new }
     {

@@ -123,8 +123,8 @@ impl<H: OfKind> Held<H> {
         }
     }
 
-    /// Changes an object's length to `bytes` bytes. Writes into `resized` the words of its slot before and
-    /// after, and the handle of the other object that moved, or `NONE`. Returns `DONE`, or the code of the
+    /// Changes the length of a held manager's object to `bytes` bytes. Writes into `resized` the words of its slot
+    /// before and after, and the handle of the other object that moved, or `NONE`. Returns `DONE`, or the code of the
     /// refusal: `UNKNOWN`, `KIND`, `SIZE` or `SPACE`. After a refusal `resized` is unchanged.
     pub fn resize(&mut self, handle: u32, bytes: u32, resized: &mut NphResized) -> i32
         ensures { IsResizeCall H.most self.old handle bytes resized.old result resized.new self.new }
@@ -198,8 +198,8 @@ impl<H: OfKind> Held<H> {
         }
     }
 
-    /// Writes the address of an object into `place`, in words from the start of the region. Returns `DONE`, or
-    /// `UNKNOWN` if the handle isn't live; then `place` is unchanged.
+    /// Writes the address of a held manager's object into `place`, in words from the start of the region. Returns
+    /// `DONE`, or `UNKNOWN` if the handle isn't live; then `place` is unchanged.
     pub fn place(&mut self, handle: u32, place: &mut u32) -> i32
         ensures { IsPlaceCall self.old handle place.old result place.new self.new }
     {
@@ -216,7 +216,7 @@ impl<H: OfKind> Held<H> {
         }
     }
 
-    /// Returns the code that a malloc of `bytes` bytes would return now; makes no object.
+    /// Returns the code that the held manager's malloc of `bytes` bytes would return now; makes no object.
     pub fn has_room(&mut self, bytes: u32) -> i32
         ensures { IsRoomCall H.most self.old bytes result self.new }
     {
@@ -229,8 +229,8 @@ impl<H: OfKind> Held<H> {
         }
     }
 
-    /// Writes the figures of a class, numbered from 0, into `figures`; counts no steps. Returns `DONE`, or
-    /// `UNKNOWN` if there is no such class; then `figures` is unchanged.
+    /// Writes the held manager's figures of a class, numbered from 0, into `figures`; counts no steps. Returns `DONE`,
+    /// or `UNKNOWN` if there is no such class; then `figures` is unchanged.
     pub fn figures(&mut self, class: u32, figures: &mut NphClass) -> i32
         ensures { IsFiguresCall self.old class figures.old result figures.new self.new }
     {
@@ -249,7 +249,7 @@ impl<H: OfKind> Held<H> {
         }
     }
 
-    /// Writes the figures of the whole heap into `totals`. Always returns `DONE`.
+    /// Writes the held manager's figures of the whole heap into `totals`. Always returns `DONE`.
     pub fn totals(&mut self, totals: &mut NphHeapTotals) -> i32
         ensures { IsTotalsCall H.most self.old result totals.new self.new }
     {
@@ -268,7 +268,8 @@ impl<H: OfKind> Held<H> {
         DONE
     }
 
-    /// Writes the steps of the last call that counts them into `steps`; 0 if there was none. Always returns `DONE`.
+    /// Writes the steps of the held manager's last call that counts them into `steps`; 0 if there was none. Always
+    /// returns `DONE`.
     pub fn last_steps(&mut self, steps: &mut u64) -> i32
         ensures { IsStepsCall self.old result steps.new self.new }
     {
@@ -276,7 +277,7 @@ impl<H: OfKind> Held<H> {
         DONE
     }
 
-    /// The largest handle that a number has.
+    /// The largest handle that a held manager's number has.
     pub(crate) fn last_handle(&self) -> u32
         ensures { result ≡ largest self.now.handles }
     {

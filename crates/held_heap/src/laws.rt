@@ -21,7 +21,7 @@ ghost use Rattle.held_heap.specs.PagesNeeded.{AreLeastPages, CCall, CallRun};
 ghost use Rattle.c_base.specs.declared.answers.NphFreed.{NphFreed};
 ghost use Rattle.c_base.specs.declared.answers.NphResized.{NphResized};
 
-/// An opened heap keeps the rules of the handles, and each call keeps them.
+/// A held manager's opened heap keeps the rules of the handles, and each call keeps them.
 pub fn every_call_keeps_the_handles()
     ensures opened { (kind : Kind) (p : Profile) (last : ℕ) (new : HeldState) → IsFreshHeap kind p last new → KeepsHandles new }
     ensures malloc { (most : Option Bounds) (old new : HeldState) (bytes before after : ℕ) (code : ℤ)
@@ -36,14 +36,15 @@ pub fn every_call_keeps_the_handles()
     ensures others { (old new : HeldState) → new.heap ≡ old.heap → new.handles ≡ old.handles → KeepsHandles old → KeepsHandles new }
 {}
 
-/// The handle of a malloc that returns 0 named no object before, names the new one, and is no other object's.
+/// The handle of a held manager's malloc that returns 0 named no object before, names the new one, and is no other
+/// object's.
 pub fn a_malloc_gives_a_new_handle()
     ensures { (most : Option Bounds) (old new : HeldState) (bytes before after : ℕ) → IsMallocCall most old bytes before (pos 0) after new
         → KeepsHandles old → IsNewHandle old after new }
 {}
 
-/// A call on a handle that names no object returns 4 (`UNKNOWN`) and changes nothing, but for the cost that a free or a
-/// resize records.
+/// On a held manager, a call on a handle that names no object returns 4 (`UNKNOWN`) and changes nothing, but for the
+/// cost that a free or a resize records.
 pub fn a_stale_handle_is_refused()
     ensures free { (most : Option Bounds) (old new : HeldState) (handle : ℕ) (before after : NphFreed) (code : ℤ)
         → IsFreeCall most old handle before code after new → KeepsHandles old → number_in old.handles handle ≡ none

@@ -37,7 +37,7 @@ pub struct LooseHeld {
     pub(crate) counts: NphCounted,
 }
 
-/// Borrows all words of the moving heap's region.
+/// For a loan, borrows all words of the moving heap's region.
 fn all_of(heap: &mut OpenHeap, memory: Memory) -> &mut [u64]
     ensures* writes_back { sem 𝓛 (LendsAllOf heap.entry result) }
     ensures value { result.now ≡ heap.old.region }
@@ -47,7 +47,7 @@ fn all_of(heap: &mut OpenHeap, memory: Memory) -> &mut [u64]
     heap.region.payload_mut(0, n, meter.steps())
 }
 
-/// Borrows all words of the region of a moving heap that is open.
+/// For a loan, borrows all words of the region of a moving heap that is open.
 fn all_in(inner: &mut Option<OpenHeap>, memory: Memory) -> &mut [u64]
     requires open { IsSome inner.old }
     ensures* writes_back { sem 𝓛 (LendsAllIn inner.entry result) }

@@ -67,7 +67,7 @@ pub struct LooseTag {
     pub(crate) counts: NphCounted,
 }
 
-/// Borrows all words of the region.
+/// For a loan, borrows all words of the blocks' region.
 fn all_of_blocks(blocks: &mut LooseBlocks, memory: Memory) -> &mut [u64]
     ensures* writes_back { sem 𝓛 (LendsAllOfBlocks blocks.entry result) }
     ensures value { result.now ≡ blocks.old.region }
@@ -77,7 +77,7 @@ fn all_of_blocks(blocks: &mut LooseBlocks, memory: Memory) -> &mut [u64]
     blocks.region.payload_mut(0, n, meter.steps())
 }
 
-/// Borrows all words of the region of an open heap.
+/// Borrows all words of the region of an open heap with blocks.
 fn all_of_open(heap: &mut LooseOpen, memory: Memory) -> &mut [u64]
     ensures* writes_back { sem 𝓛 (LendsAllOfOpen heap.entry result) }
     ensures value { result.now ≡ heap.old.blocks.region }
@@ -85,7 +85,7 @@ fn all_of_open(heap: &mut LooseOpen, memory: Memory) -> &mut [u64]
     all_of_blocks(&mut heap.blocks, memory)
 }
 
-/// Borrows all words of the region of a heap with blocks that is open.
+/// For a loan, borrows all words of the region of a heap with blocks that is open.
 fn all_in(inner: &mut Option<LooseOpen>, memory: Memory) -> &mut [u64]
     requires open { IsSome inner.old }
     ensures* writes_back { sem 𝓛 (LendsAllIn inner.entry result) }

@@ -19,7 +19,7 @@ pub fn kind(kind: Kind) -> u32
     }
 }
 
-/// In how many blocks of four words the n words from word i on are.
+/// For a step bound, in how many blocks of four words the n words from word i on are.
 fn blocks_of(i: u64, n: u64) -> u64
     requires { i + n < 2 ^ 62 }
     ensures { result ≡ blocks_of i n }
@@ -27,7 +27,7 @@ fn blocks_of(i: u64, n: u64) -> u64
     n.min((i % 4 + n + 3) / 4)
 }
 
-/// How many words of an object hold one of its `count` bytes from byte `at` on.
+/// For a step bound, how many words of an object hold one of its `count` bytes from byte `at` on.
 fn words_touched(at: u32, count: u32) -> u64
     ensures value { result ≡ words_touched at count }
     ensures few { result < 2 ^ 32 }
@@ -78,7 +78,7 @@ pub fn most_resize(kind: Kind, bytes: u32, old: u32, new: u32) -> u64
     }
 }
 
-/// A read or a write of `count` bytes from byte `at` of an object on. If it succeeds it takes just these.
+/// A read or a write of `count` bytes from byte `at` of a held manager's object on. If it succeeds it takes just these.
 pub fn most_access(kind: Kind, at: u32, count: u32) -> u64
     ensures { IsMostAccess (bounds_of kind) at count result }
 {
@@ -89,7 +89,7 @@ pub fn most_access(kind: Kind, at: u32, count: u32) -> u64
     }
 }
 
-/// The test whether a malloc would be refused.
+/// The test whether this kind's malloc would be refused.
 pub fn most_has_room(kind: Kind) -> u64
     ensures { IsMostRoom (bounds_of kind) result }
 {

@@ -134,7 +134,7 @@ impl NphHeap {
         }
     }
 
-    /// Closes the heap and frees its memory; does nothing if the heap isn't open.
+    /// Closes C's non-moving heap and frees its memory; does nothing if the heap isn't open.
     pub fn close(&mut self, memory: Memory)
         ensures { held_in self.new ≡ closed_by (held_in self.old) }
     {

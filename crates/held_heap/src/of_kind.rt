@@ -17,12 +17,12 @@ pub trait OfKind: Manager {
     /// The kind of every manager of this type.
     ghost of_kind: { Kind };
 
-    /// The free pages; with blocks, the bytes outside used blocks. Costs no step.
+    /// For C's counts, the free pages; with blocks, the bytes outside used blocks. Costs no step.
     fn free_left(&self) -> u64
         requires { IsOpenOfKind of_kind (Self.state self.now) }
         ensures { result ≡ free_left (Self.state self.now) };
 
-    /// The words of an object's slot or block; none if the handle isn't live.
+    /// For C, the words of an object's slot or block; none if the handle isn't live.
     fn words_of(&self, h: Handle, steps: &mut Steps) -> Option<u32>
         requires { IsOpenOfKind of_kind (Self.state self.now) }
         ensures value { result ≡ slot_words_of of_kind (Self.state self.now) h.0 }

@@ -10,8 +10,8 @@ use paged_heap::{PageKind, PagedHeap};
 use step_ledger::Meter;
 
 impl<H: OfKind> Held<H> {
-    /// Writes the words of an object's slot or block into `words`: those that a free of it would return. Returns `DONE`, or
-    /// `UNKNOWN` if the handle isn't live; then `words` is unchanged.
+    /// For a held manager, writes the words of an object's slot or block into `words`: those that a free of it would
+    /// return. Returns `DONE`, or `UNKNOWN` if the handle isn't live; then `words` is unchanged.
     pub fn slot_words(&mut self, handle: u32, words: &mut u32) -> i32
         ensures { IsSlotWordsCall H.of_kind self.old handle words.old result words.new self.new }
     {
@@ -30,8 +30,8 @@ impl<H: OfKind> Held<H> {
 }
 
 impl<A: PageKind> Held<PagedHeap<A>> {
-    /// Writes the class of an object of `bytes` bytes, numbered from 0, into `class`. Returns `DONE`, or `SIZE` if it needs
-    /// more than a page; then `class` is unchanged.
+    /// For a held manager, writes the class of an object of `bytes` bytes, numbered from 0, into `class`. Returns
+    /// `DONE`, or `SIZE` if it needs more than a page; then `class` is unchanged.
     pub fn class_of(&mut self, bytes: u32, class: &mut u32) -> i32
         ensures { IsClassCall self.old bytes class.old result class.new self.new }
     {

@@ -12,7 +12,8 @@ use cf_base::Handle;
 use cf_model::Manager;
 use step_ledger::{Meter, Steps};
 
-/// The first live object whose number is at least `from` and below `count`. Costs one step for each number that it looks at.
+/// For a walk, the first live object whose number is at least `from` and below `count`. Costs one step for each number
+/// that it looks at.
 fn next_live<H: Manager>(heap: &H, from: u32, count: u32, steps: &mut Steps) -> Option<Handle>
     requires open { IsTrue (H.state heap.now).is_open }
     ensures found { IsNextLive (H.state heap.now).held from count result }

@@ -27,7 +27,8 @@ impl Counters {
         }
     }
 
-    /// If an object moved (`moved`), adds one to `moves` and `slot_words`, the words of its slot, to `words`.
+    /// For a session, if an object moved (`moved`), adds one to `moves` and `slot_words`, the words of its slot, to
+    /// `words`.
     /// Old and new slot are of one class. Both counters saturate at `2^64 - 1`.
     pub fn count_move(&mut self, moved: Option<Handle>, slot_words: u32)
         ensures { self.new ≡ with_move self.old moved slot_words }

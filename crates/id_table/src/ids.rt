@@ -45,7 +45,7 @@ impl IdTable {
         }
     }
 
-    /// How many ids are live.
+    /// How many ids are live in the table.
     pub fn live(&self) -> u32
         ensures count { result ≡ map.len self.now }
         ensures kept { AreWithin self.now }
@@ -53,14 +53,14 @@ impl IdTable {
         self.live
     }
 
-    /// Whether no id is live.
+    /// Whether no id is live in the table.
     pub fn is_empty(&self) -> bool
         ensures { IsTrue result ↔ (self.now ≡ map.empty) }
     {
         self.live == 0
     }
 
-    /// The handle of the object with this id; none if the id isn't live.
+    /// In an `IdTable`, the handle of the object with this id; none if the id isn't live.
     pub fn handle(&self, id: u16) -> Option<Handle>
         ensures found { option_map (λ (h : AHandle). h.0) result ≡ map.get self.now id }
         ensures kept { AreWithin self.now }
@@ -71,7 +71,8 @@ impl IdTable {
         }
     }
 
-    /// Makes `h` the handle of an id, in place of its old handle, if it had one. The id is live after it.
+    /// In an `IdTable`, makes `h` the handle of an id, in place of its old handle, if it had one. The id is live after
+    /// it.
     pub fn bind(&mut self, id: u16, h: Handle)
         ensures { self.new ≡ map.insert self.old id h.0 }
     {
@@ -80,7 +81,7 @@ impl IdTable {
         self.numbers[id as usize] = Some(h.0);
     }
 
-    /// Removes the handle of an id, if it has one. The id isn't live after it.
+    /// In an `IdTable`, removes the handle of an id, if it has one. The id isn't live after it.
     pub fn unbind(&mut self, id: u16)
         ensures { self.new ≡ map.remove self.old id }
     {
@@ -90,7 +91,7 @@ impl IdTable {
     }
 }
 
-/// n entries without a handle. Fails only if memory runs out.
+/// n entries for ids without a handle. Fails only if memory runs out.
 fn vacancies(alloc: Global, n: usize) -> Result<Vec<Option<u32>>, AllocError>
     ensures { IfOk result (λ numbers. numbers.items ≡ vacant n) }
 {

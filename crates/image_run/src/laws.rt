@@ -20,8 +20,8 @@ ghost use Rattle.script_laws.specs.Histories.{AreAlike, AreFurther};
 use heap_image::{an_image_determines_its_objects, an_image_is_read_back};
 use script_laws::equal_objects_get_equal_replies;
 
-/// Only images are read. `images`: bytes that are accepted are the image of some objects under some settings,
-/// byte for byte. `exactly`: bytes decode to the settings `p` and the objects `o` if and only if they are the
+/// In mode `load`, only images are read. `images`: bytes that are accepted are the image of some objects under some
+/// settings, byte for byte. `exactly`: bytes decode to the settings `p` and the objects `o` if and only if they are the
 /// image of these. So an image that is read and written again has the same bytes.
 pub fn only_images_are_read()
     ensures images { (bytes : List ℕ) → AreBytes bytes → IsHeapImage bytes

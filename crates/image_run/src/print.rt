@@ -64,7 +64,7 @@ pub fn print_script<H: Manager, K: Sink>(
     put_objects(&Lines, heap, session, &mut line, out, meter)
 }
 
-/// Writes the `heap` line of the settings `s`, with the bound 1 in place of that of `s`.
+/// For mode `load`, writes the `heap` line of the settings `s`, with the bound 1 in place of that of `s`.
 fn put_heap<K: Sink>(s: &Settings, line: &mut Line, out: &mut K) -> Result<(), Failed>
     ensures { Writes (K.state out.old) (opening_line (profile_of s.now)) result (K.state out.new) }
 {
@@ -76,7 +76,7 @@ fn put_heap<K: Sink>(s: &Settings, line: &mut Line, out: &mut K) -> Result<(), F
     put_line(line, out)
 }
 
-/// Writes the `m` line that makes an object of `n` bytes for `id`.
+/// For mode `load`, writes the `m` line that makes an object of `n` bytes for `id`.
 fn put_malloc<K: Sink>(id: u16, n: u32, line: &mut Line, out: &mut K) -> Result<(), Failed>
     ensures { Writes (K.state out.old) (line_of (Malloc id n)) result (K.state out.new) }
 {
@@ -86,8 +86,8 @@ fn put_malloc<K: Sink>(id: u16, n: u32, line: &mut Line, out: &mut K) -> Result<
     put_line(line, out)
 }
 
-/// Writes `w` lines for the `n` bytes of object `h`, which `id` names, at most 4,096 bytes each. `buffer` is
-/// scratch, for the bytes of one line.
+/// For mode `load`, writes `w` lines for the `n` bytes of object `h`, which `id` names, at most 4,096 bytes each.
+/// `buffer` is scratch, for the bytes of one line.
 fn put_writes<H: Manager, K: Sink>(
     heap: &H,
     id: u16,
@@ -122,7 +122,7 @@ fn put_writes<H: Manager, K: Sink>(
     Ok(())
 }
 
-/// Writes the `w` line that writes `bytes` into the object of `id` from byte `at` on.
+/// For mode `load`, writes the `w` line that writes `bytes` into the object of `id` from byte `at` on.
 fn put_write<K: Sink>(
     id: u16,
     at: u32,

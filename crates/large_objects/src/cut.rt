@@ -52,7 +52,7 @@ fn is_within(bytes: u32, words: u32) -> bool
     1 + (bytes as u64).div_ceil(8) <= words as u64
 }
 
-/// `count` if `yes` is true, else 0.
+/// For counts of parts, `count` if `yes` is true, else 0.
 fn count_if(count: u32, yes: bool) -> u64
     ensures { result ≡ count * cond yes 1 0 }
 {

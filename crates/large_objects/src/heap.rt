@@ -55,7 +55,7 @@ impl<H: Manager> Model for LargeHeap<H> {
 }
 
 impl<H: Manager> LargeHeap<H> {
-    /// A closed heap over this manager. Allocates nothing.
+    /// A closed heap of long objects over this manager. Allocates nothing.
     pub fn new(alloc: Global, heap: H) -> LargeHeap<H>
         requires { IsPaged (H.state heap).kind }
         ensures closed { result.is_open ≡ false }
@@ -71,8 +71,8 @@ impl<H: Manager> LargeHeap<H> {
         }
     }
 
-    /// The memory that `open_heap` asks for, if the inner manager asks for `inner` with these settings. The bytes of the
-    /// `LargeHeap` itself, which its owner keeps, aren't counted.
+    /// The memory that `LargeHeap::open_heap` asks for, if the inner manager asks for `inner` with these settings. The
+    /// bytes of the `LargeHeap` itself, which its owner keeps, aren't counted.
     pub fn bytes_needed(inner: BytesNeeded, s: &Settings) -> BytesNeeded
         requires few { inner.blocks < 2 ^ 31 }
         requires fits { inner.total < 2 ^ 63 }
@@ -81,7 +81,7 @@ impl<H: Manager> LargeHeap<H> {
         inner.and(BytesNeeded::block(8 * u64::from(s.proxies)))
     }
 
-    /// Lends the inner manager.
+    /// Lends the inner manager of long objects.
     pub fn inner(&self) -> &H
         ensures { H.state result.now ≡ self.now.inner }
     {
@@ -96,7 +96,8 @@ impl<H: Manager> LargeHeap<H> {
         self.is_open
     }
 
-    /// Opens an empty heap with the settings `s`, whose bound is 1; an open heap loses its objects.
+    /// `LargeHeap`: opens an empty heap of long objects with the settings `s`, whose bound is 1; an open heap loses its
+    /// objects.
     /// Allocates all memory: that of the inner manager, and a table with a length for each proxy. After
     /// `OutOfMemory` the heap is closed, and the inner manager is unchanged or closed; the heap may be
     /// opened again. A manager that promised an order promises one afterwards.
@@ -168,10 +169,10 @@ impl<H: Manager> LargeHeap<H> {
         }
     }
 
-    /// Writes bytes into an object from byte `at` on; no other object changes. It fails with `Unknown` if
-    /// the handle isn't that of an object, with `Range` if the bytes pass the object's end, and then
-    /// changes nothing. Exactly the steps of one write for a short object. For a long one, exactly those of a read
-    /// of four bytes and of a write for each part that gets bytes. None if refused.
+    /// Writes bytes into an object, long or short, from byte `at` on; no other object changes. It fails with `Unknown`
+    /// if the handle isn't that of an object, with `Range` if the bytes pass the object's end, and then changes
+    /// nothing. Exactly the steps of one write for a short object. For a long one, exactly those of a read of four
+    /// bytes and of a write for each part that gets bytes. None if refused.
     pub fn write(
         &mut self,
         h: Handle,
@@ -229,7 +230,7 @@ impl<H: Manager> LargeHeap<H> {
         }
     }
 
-    /// Makes an object of `bytes` zero bytes, for which the heap has room, and returns its handle.
+    /// Makes a long or short object of `bytes` zero bytes, for which the heap has room, and returns its handle.
     fn make_object(&mut self, bytes: u32, steps: &mut Steps) -> Handle
         requires open { IsTrue self.old.is_open }
         requires room { HasLargeRoom self.old bytes }
@@ -244,7 +245,7 @@ impl<H: Manager> LargeHeap<H> {
         h
     }
 
-    /// Frees the live object h, which has `bytes` bytes.
+    /// Frees the live long or short object h, which has `bytes` bytes.
     fn release_object(&mut self, h: Handle, bytes: u32, steps: &mut Steps)
         requires open { IsTrue self.old.is_open }
         requires found { option_map length (get self.old.objects h.0) ≡ Some bytes }
@@ -258,7 +259,7 @@ impl<H: Manager> LargeHeap<H> {
         self.lengths[h.0 as usize] = None;
     }
 
-    /// The length of an object in bytes; none if the handle isn't that of an object. It counts no step.
+    /// The length of a long or short object in bytes; none if the handle isn't that of an object. It counts no step.
     pub fn length_of(&self, h: Handle) -> Option<u32>
         requires { IsTrue self.now.is_open }
         ensures value { result ≡ option_map length (get self.now.objects h.0) }
@@ -270,8 +271,8 @@ impl<H: Manager> LargeHeap<H> {
         }
     }
 
-    /// Checks that the object h has `count` bytes from byte `at` on, and returns its length in bytes. It fails
-    /// with `Unknown` if the handle isn't that of an object, with `Range` if the bytes pass the object's end.
+    /// Checks that the long or short object h has `count` bytes from byte `at` on, and returns its length in bytes. It
+    /// fails with `Unknown` if the handle isn't that of an object, with `Range` if the bytes pass the object's end.
     fn length_for(&self, h: Handle, at: u32, count: usize) -> Result<u32, AccessFault>
         requires { IsTrue self.now.is_open }
         ensures found { IfOk result (λ n. option_map length (get self.now.objects h.0) ≡ Some n) }
@@ -290,7 +291,7 @@ impl<H: Manager> LargeHeap<H> {
     }
 }
 
-/// Resets the meter if its count is above 2 ^ 62, for an inner manager needs a count of at most 2 ^ 63.
+/// `LargeHeap`: resets the meter if its count is above 2 ^ 62, for an inner manager needs a count of at most 2 ^ 63.
 fn make_room(meter: &mut Meter)
     ensures count { meter.new ≡ first_count meter.old }
     ensures low { meter.new ≤ 2 ^ 62 }
@@ -300,8 +301,8 @@ fn make_room(meter: &mut Meter)
     }
 }
 
-/// A table with an entry for each proxy, in which no handle has a length. It returns `AllocError` if the
-/// allocation fails.
+/// For long objects, a table with an entry for each proxy, in which no handle has a length. It returns `AllocError` if
+/// the allocation fails.
 fn no_lengths(alloc: Global, proxies: u32) -> Result<Vec<Option<u32>>, AllocError>
     ensures { IfOk result (λ lengths. lengths.items ≡ vacant proxies) }
 {

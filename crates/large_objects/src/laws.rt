@@ -14,9 +14,9 @@ ghost use Rattle.large_objects.specs.LargeCosts.{moving_costs, object_free_steps
 ghost use Rattle.large_objects.specs.LargeSteps.{GivesLarge, IsLargeFault, IsRefusedLarge, ReadsLarge, WritesLarge, part_bytes_in};
 ghost use Rattle.large_objects.specs.InnerObjects.{inner_live, part_count};
 
-/// Clause `malloc`: if a malloc of n bytes makes an object, no cause of a refusal held before it. Clause
-/// `one_cause`: at most one cause holds at a time. So a malloc is refused with a cause if and only if the
-/// cause holds. Clause `write`: if a write is done, no cause of a fault held before it.
+/// Clause `malloc`: if a malloc of n bytes, long or short, makes an object, no cause of a refusal held before it.
+/// Clause `one_cause`: at most one cause holds at a time. So a malloc is refused with a cause if and only if the cause
+/// holds. Clause `write`: if a write is done, no cause of a fault held before it.
 pub fn refusals_come_exactly_by_their_causes()
     ensures malloc { (old new : LargeState) (h n : ℕ) (e : Refusal)
         → GivesLarge old h n new → ¬ IsRefusedLarge old n e }
@@ -40,8 +40,8 @@ pub fn parts_are_as_many_as_needed()
     ensures few { (u n : ℕ) → 0 < u → u * part_count u n < n + u }
 {}
 
-/// Clause `same`: after a write, a read of the same number of bytes from the same position returns the written
-/// bytes. Clause `others`: a write changes no other object.
+/// Clause `same`: after a write to any object, a read of the same number of bytes from the same position returns the
+/// written bytes. Clause `others`: a write changes no other object.
 pub fn what_is_written_is_read()
     ensures same { (old new : LargeState) (position : Position) (bytes out : List ℕ)
         → WritesLarge old position bytes new → ReadsLarge new position (length bytes) out → out ≡ bytes }

@@ -14,7 +14,7 @@ use cf_base::Handle;
 use cf_model::Manager;
 use step_ledger::Steps;
 
-/// Makes an object of `bytes` zero bytes, for which the manager has room, and returns its handle. The
+/// Makes a long or short object of `bytes` zero bytes, for which the manager has room, and returns its handle. The
 /// object is one inner object if it fits a page, else a spine and its parts.
 pub(crate) fn make<H: Manager>(
     inner: &mut H,

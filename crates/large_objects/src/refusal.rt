@@ -18,8 +18,8 @@ use cf_model::Manager;
 use step_ledger::Steps;
 
 impl<H: Manager> LargeHeap<H> {
-    /// Why the heap would refuse a malloc of `bytes` bytes; `None` if it would not. The causes are tested
-    /// in the order `Size`, `Proxy`, `Space`, and nothing changes.
+    /// Why the heap of long objects would refuse a malloc of `bytes` bytes; `None` if it would not. The causes are
+    /// tested in the order `Size`, `Proxy`, `Space`, and nothing changes.
     pub(crate) fn refusal(&self, bytes: u32, steps: &mut Steps) -> Option<Refusal>
         requires { IsTrue self.now.is_open }
         ensures cause { MatchOption result (HasLargeRoom self.now bytes) (λ e. IsRefusedLarge self.now bytes e) }

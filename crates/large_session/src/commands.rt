@@ -41,8 +41,8 @@ pub(crate) fn malloc<H: Manager>(
     }
 }
 
-/// `f`: frees the object of a live id. The reply is `ok`; or `unknown` if the id isn't live, and then nothing
-/// changes.
+/// `f`: frees the object, long or short, of a live id. The reply is `ok`; or `unknown` if the id isn't live, and then
+/// nothing changes.
 pub(crate) fn free<H: Manager>(
     ids: &mut IdTable,
     heap: &mut LargeHeap<H>,
@@ -63,8 +63,8 @@ pub(crate) fn free<H: Manager>(
     Short::Done
 }
 
-/// `w`: writes these bytes into the object of a live id, from byte `at` on. The reply is `ok`; or `unknown` if
-/// the id isn't live, or `range` if the bytes pass the object's end, and then nothing changes.
+/// `w`: writes these bytes into the object, long or short, of a live id, from byte `at` on. The reply is `ok`; or
+/// `unknown` if the id isn't live, or `range` if the bytes pass the object's end, and then nothing changes.
 pub(crate) fn write<H: Manager>(
     ids: &IdTable,
     heap: &mut LargeHeap<H>,
@@ -85,8 +85,8 @@ pub(crate) fn write<H: Manager>(
     }
 }
 
-/// `r`: fills `buffer` with bytes of the object of a live id, from byte `at` on. The reply in `line` is `=` and
-/// the bytes in hexadecimal; or `unknown` if the id isn't live, or `range` if the bytes pass the object's end.
+/// `r`: fills `buffer` with bytes of the object, long or short, of a live id, from byte `at` on. The reply in `line` is
+/// `=` and the bytes in hexadecimal; or `unknown` if the id isn't live, or `range` if the bytes pass the object's end.
 pub(crate) fn read<H: Manager>(
     ids: &IdTable,
     heap: &LargeHeap<H>,

@@ -21,9 +21,9 @@ pub fn reads_give_what_was_written()
         → RunsLarge kind None items replies new → AreReadsOf None items replies }
 {}
 
-/// Over a manager of any kind with pages a run can begin with any settings in their ranges, and then is in
-/// progress. In each state of a run in progress every command that a script can contain has a reply, and the
-/// run is in progress after it.
+/// Over a manager of any kind with pages a run on long objects can begin with any settings in their ranges, and then is
+/// in progress. In each state of a run in progress every command that a script can contain has a reply, and the run is
+/// in progress after it.
 pub fn each_command_has_its_turn()
     ensures begins { (kind : Kind) (p : Profile) → IsPaged kind → AreInRange p
         → (new : LargeRun) × BeginsLarge kind p new }
@@ -34,8 +34,8 @@ pub fn each_command_has_its_turn()
         → LargeStep old command reply new → IsGoingLarge new }
 {}
 
-/// Clause `there`: there is a run over the items of any bytes `given`, where `ended` is whether the script ends
-/// after them. Clause `on`: each run over a prefix of these items can be continued to the last one.
+/// Clause `there`: there is a run on long objects over the items of any bytes `given`, where `ended` is whether the
+/// script ends after them. Clause `on`: each run over a prefix of these items can be continued to the last one.
 pub fn a_long_run_can_always_go_on()
     ensures there { (kind : Kind) (given : List ℕ) (ended : Bool) → IsPaged kind
         → (replies : List Reply) × (new : Option LargeRun) × RunsLarge kind None (items given ended) replies new }
@@ -45,8 +45,8 @@ pub fn a_long_run_can_always_go_on()
         → (more : List Reply) × (new : Option LargeRun) × RunsLarge kind None (items given ended) (replies ++ more) new }
 {}
 
-/// If the sink fails, what it got before is a prefix of the output of a run over the whole script, whose bytes
-/// are `all`.
+/// On long objects, if the sink fails, what it got before is a prefix of the output of a run over the whole script,
+/// whose bytes are `all`.
 pub fn what_was_cut_is_a_prefix()
     ensures { (from to : LargeRun) (call : Effects) (all : List ℕ) → IsPaged from.heap.inner.kind
         → (w : WroteInPart large_heap from (items_within all) call to)
@@ -64,13 +64,13 @@ pub fn the_large_headline()
         → MeetsLarge kind items replies → MeetsLarge kind items others → others ≡ replies }
 {}
 
-/// The claim excludes wrong replies: the right ones meet it, and nine wrong ones don't. The script, on eight
-/// pages of 512 bytes: a malloc of 600 bytes; a write of two bytes across the end of a part; a malloc of 90
-/// bytes; a read of the two bytes; `walk`; `frag`; and a malloc of 4,000 bytes, which needs more pages than are
-/// free. The claim holds for the right replies (`right`). It fails for `refused size` to a malloc that fits
-/// (`size`), for no replies at all (`silent`), for a reply too few (`missing`) or too many (`over`), for a read
-/// of zeros (`other`), for a `walk` that counts the long object as one object (`whole`), for a `frag` without
-/// the bytes of the spine (`spine`) or of its slot (`slots`), and for `ok` to the last malloc (`pages`).
+/// In mode `large`, the claim excludes wrong replies: the right ones meet it, and nine wrong ones don't. The script, on
+/// eight pages of 512 bytes: a malloc of 600 bytes; a write of two bytes across the end of a part; a malloc of 90
+/// bytes; a read of the two bytes; `walk`; `frag`; and a malloc of 4,000 bytes, which needs more pages than are free.
+/// The claim holds for the right replies (`right`). It fails for `refused size` to a malloc that fits (`size`), for no
+/// replies at all (`silent`), for a reply too few (`missing`) or too many (`over`), for a read of zeros (`other`), for
+/// a `walk` that counts the long object as one object (`whole`), for a `frag` without the bytes of the spine (`spine`)
+/// or of its slot (`slots`), and for `ok` to the last malloc (`pages`).
 pub fn wrong_large_replies_fall_short()
     ensures right { MeetsSmallLarge (small_large_replies (codes "ok") (codes "=aabb") small_walk
         (codes "frag asked 698 taken 752 held 1536") (codes "refused space")) }

@@ -25,8 +25,8 @@ pub struct LargeHandler {
 }
 
 impl LargeHandler {
-    /// A handler with a new session, in which no id is live. Allocates the table of all 65,536 ids, and fails
-    /// with `OutOfMemory` if there is no memory for it.
+    /// A handler of mode `large` with a new session, in which no id is live. Allocates the table of all 65,536 ids, and
+    /// fails with `OutOfMemory` if there is no memory for it.
     pub fn start(memory: Memory, alloc: Global) -> Result<LargeHandler, OutOfMemory>
         ensures { IfOk result (λ p. p.session ≡ map.empty) }
     {

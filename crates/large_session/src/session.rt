@@ -54,9 +54,8 @@ impl LargeSession {
         })
     }
 
-    /// Does the command c on the heap, builds its reply in `line`, and writes it to the sink `out`. If the
-    /// sink fails, the result is `Failed`: the command has taken effect, and a prefix of its reply was
-    /// written.
+    /// Does the command c on the heap of long objects, builds its reply in `line`, and writes it to the sink `out`. If
+    /// the sink fails, the result is `Failed`: the command has taken effect, and a prefix of its reply was written.
     pub fn apply<H: Manager, K: Sink>(
         &mut self,
         heap: &mut LargeHeap<H>,
@@ -76,7 +75,7 @@ impl LargeSession {
         self.apply_ref(heap, c.as_ref(), line, out, meter)
     }
 
-    /// The same as `apply`, for a command whose bytes are borrowed.
+    /// The same as `LargeSession::apply`, for a command whose bytes are borrowed.
     pub fn apply_ref<H: Manager, K: Sink>(
         &mut self,
         heap: &mut LargeHeap<H>,
@@ -112,8 +111,8 @@ impl LargeSession {
     }
 }
 
-/// Does a command other than `walk` and `frag`, and builds the text of its reply in `line`. `buffer` gets the
-/// bytes of a read. The reply to a command of another mode is `none`.
+/// Does a command other than `walk` and `frag` on long objects, and builds the text of its reply in `line`. `buffer`
+/// gets the bytes of a read. The reply to a command of another mode is `none`.
 fn build_reply<H: Manager>(
     ids: &mut IdTable,
     heap: &mut LargeHeap<H>,

@@ -24,11 +24,11 @@ pub enum Missed {
     Malloc(SliceRefusal),
 }
 
-/// Does one cycle: frees the last frame, calls `step` `slices` times for the job that the free left,
-/// and makes the next frame, of `bytes` zeros. Returns its handle, or the call that was refused and its
-/// cause. The bytes of every other object are unchanged. If `slices` is at least twice the number of
-/// slices of a page, the malloc is never refused as `Busy`. The cycle takes at most 40 + q + n(15 + q)
-/// steps, where n is `slices` and q the quantum in words.
+/// Does one cycle of the control loop: frees the last frame, calls `step` `slices` times for the job that the free
+/// left, and makes the next frame, of `bytes` zeros. Returns its handle, or the call that was refused and its cause.
+/// The bytes of every other object are unchanged. If `slices` is at least twice the number of slices of a page, the
+/// malloc is never refused as `Busy`. The cycle takes at most 40 + q + n(15 + q) steps, where n is `slices` and q the
+/// quantum in words.
 pub fn next_frame(
     heap: &mut SlicedHeap,
     last: Handle,

@@ -17,9 +17,9 @@ use moving_heap::MovingHeap;
 use std::alloc::Global;
 use step_ledger::Meter;
 
-/// Opens a moving heap of two pages of 512 bytes, with bound k = 1 and eight proxies, and makes one object,
-/// which begins with the bytes ca fe (hexadecimal). Returns the heap and the object's handle, or `None`
-/// if out of memory.
+/// An example: opens a moving heap of two pages of 512 bytes, with bound k = 1 and eight proxies, and makes one object,
+/// which begins with the bytes ca fe (hexadecimal). Returns the heap and the object's handle, or `None` if out of
+/// memory.
 pub fn first_object(rt: &HostRuntime, alloc: Global) -> Option<(MovingHeap, Handle)>
     ensures { IfSome result (λ r. HoldsOne r.0.state r.1.0 (0xca ∷ 0xfe ∷ [])) }
 {
@@ -30,7 +30,7 @@ pub fn first_object(rt: &HostRuntime, alloc: Global) -> Option<(MovingHeap, Hand
     Some((heap, object))
 }
 
-/// Makes an object of 176 bytes on any manager, and writes `bytes` as its first two. Returns its handle, or
+/// An example: makes an object of 176 bytes on any manager, and writes `bytes` as its first two. Returns its handle, or
 /// the refusal of the malloc.
 pub fn store<M: Manager>(
     heap: &mut M,
@@ -49,7 +49,7 @@ pub fn store<M: Manager>(
     Ok(object)
 }
 
-/// Reads the first two bytes of an object, frees it, and returns the bytes. Fails if the handle is not live
+/// An example: reads the first two bytes of an object, frees it, and returns the bytes. Fails if the handle is not live
 /// or the object has fewer than two bytes; then it is not freed.
 pub fn read_and_free<M: Manager>(
     heap: &mut M,

@@ -62,7 +62,7 @@ impl Openable for HeldImages {
         MovingHeap::bytes_needed(s).and(own)
     }
 
-    /// Opens a heap in which no id is live.
+    /// For C, opens a heap in which no id is live.
     fn open(memory: Memory, s: &Settings, _last: u32) -> Option<Box<HeldImages, Global>> {
         let alloc = Global::new(memory);
         let Ok(names) = Names::new(memory, alloc) else {
@@ -82,15 +82,15 @@ impl Openable for HeldImages {
         Box::new(alloc, held).ok()
     }
 
-    /// 0: objects have no handles.
+    /// 0: objects with ids have no handles.
     fn last(&self) -> u32 {
         0
     }
 }
 
 impl HeldImages {
-    /// Opens a heap in a block of its own with the settings and the objects of an image, and with the bound `k`. Fails with `Bad` if
-    /// the bytes are no image, and with `OutOfMemory`.
+    /// Opens C's heap in a block of its own with the settings and the objects of an image, and with the bound `k`.
+    /// Fails with `Bad` if the bytes are no image, and with `OutOfMemory`.
     pub(crate) fn load(memory: Memory, bytes: &[u8], k: u32) -> Result<Box<HeldImages>, LoadFault>
         requires least { 1 ≤ k }
         requires most { k ≤ 64 }
@@ -129,7 +129,7 @@ impl HeldImages {
         }
     }
 
-    /// The number of the object that an id names; `NONE` if no object has the id.
+    /// For C, the number of the object that an id names; `NONE` if no object has the id.
     fn number(&self, id: u32) -> u32
         ensures { result ≡ number_by (map.get self.now.session.ids id) }
     {
@@ -143,8 +143,8 @@ impl HeldImages {
         }
     }
 
-    /// Makes an object of `bytes` zeros under the id. Returns `DONE`; else `UNKNOWN` if the id is 65,536 or more, `LIVE` if an
-    /// object has it already, or the code of the refused malloc: `SIZE`, `PROXY` or `SPACE`.
+    /// For C, makes an object of `bytes` zeros under the id. Returns `DONE`; else `UNKNOWN` if the id is 65,536 or
+    /// more, `LIVE` if an object has it already, or the code of the refused malloc: `SIZE`, `PROXY` or `SPACE`.
     pub fn make(&mut self, id: u32, bytes: u32) -> i32
         ensures { IsMakeCall self.old id bytes result self.new }
     {
@@ -166,7 +166,7 @@ impl HeldImages {
         }
     }
 
-    /// Frees the object that C names by the id. Returns `DONE`, or `UNKNOWN` if no object has the id.
+    /// `HeldImages`: frees the object that C names by the id. Returns `DONE`, or `UNKNOWN` if no object has the id.
     pub fn free(&mut self, id: u32) -> i32
         ensures { IsFreeCall self.old id result self.new }
     {
@@ -179,8 +179,8 @@ impl HeldImages {
         DONE
     }
 
-    /// Writes the bytes into the object of the id, from its byte `at` on. Returns `DONE`; `UNKNOWN` if no object has the id, or
-    /// `RANGE` if the bytes pass the object's end.
+    /// For C, writes the bytes into the object of the id, from its byte `at` on. Returns `DONE`; `UNKNOWN` if no object
+    /// has the id, or `RANGE` if the bytes pass the object's end.
     pub fn write(&mut self, id: u32, at: u32, bytes: &[u8]) -> i32
         ensures { IsWriteCall self.old id at bytes.now result self.new }
     {
@@ -192,8 +192,8 @@ impl HeldImages {
         }
     }
 
-    /// Fills `out` with the bytes of the object of the id, from its byte `at` on. Returns `DONE`; `UNKNOWN` if no object has the
-    /// id, or `RANGE` if the bytes pass the object's end, and then `out` is unchanged.
+    /// For C, fills `out` with the bytes of the object of the id, from its byte `at` on. Returns `DONE`; `UNKNOWN` if
+    /// no object has the id, or `RANGE` if the bytes pass the object's end, and then `out` is unchanged.
     pub fn read(&mut self, id: u32, at: u32, out: &mut [u8]) -> i32
         ensures { IsReadCall self.old id at out.old result out.new self.new }
     {
@@ -205,8 +205,8 @@ impl HeldImages {
         }
     }
 
-    /// Writes the length in bytes of the object of the id into `bytes`. Returns `DONE`, or `UNKNOWN` if no object has the id;
-    /// then `bytes` is unchanged.
+    /// For C, writes the length in bytes of the object of the id into `bytes`. Returns `DONE`, or `UNKNOWN` if no
+    /// object has the id; then `bytes` is unchanged.
     pub fn length(&mut self, id: u32, bytes: &mut u32) -> i32
         ensures { IsLengthCall self.old id bytes.old result bytes.new self.new }
     {
@@ -221,7 +221,7 @@ impl HeldImages {
         }
     }
 
-    /// The bytes of the heap's image: 20, six for each object, and those of the objects.
+    /// For C, the bytes of the heap's image: 20, six for each object, and those of the objects.
     fn image_length(&self) -> u64
         ensures { result ≡ length (heap_image self.now) }
     {
@@ -231,7 +231,7 @@ impl HeldImages {
         20 + 6 * u64::from(totals.live) + totals.asked
     }
 
-    /// Writes the bytes of the heap's image into `bytes`. Always returns `DONE`.
+    /// For C, writes the bytes of the heap's image into `bytes`. Always returns `DONE`.
     pub fn image_bytes(&mut self, bytes: &mut u64) -> i32
         ensures { IsImageBytesCall self.old result bytes.new self.new }
     {
@@ -239,8 +239,8 @@ impl HeldImages {
         DONE
     }
 
-    /// Writes the heap's image to the start of `out`, and its length into `written`. Returns `DONE`, or `RANGE` if the image is
-    /// longer than `out`; then nothing is written.
+    /// For C, writes the heap's image to the start of `out`, and its length into `written`. Returns `DONE`, or `RANGE`
+    /// if the image is longer than `out`; then nothing is written.
     pub fn save(&mut self, out: &mut [u8], written: &mut u64) -> i32
         ensures { IsSaveCall self.old (record { out = out.old; written = written.old }) result (record { out = out.new; written = written.new }) self.new }
     {
@@ -253,7 +253,7 @@ impl HeldImages {
         DONE
     }
 
-    /// Fills a slice of the image's length with the image.
+    /// For C, fills a slice of the image's length with the image.
     fn fill(&self, out: &mut [u8])
         requires { length out.old ≡ length (heap_image self.now) }
         ensures { out.new ≡ heap_image self.now }
@@ -267,7 +267,7 @@ impl HeldImages {
         self.save_to(&mut sink);
     }
 
-    /// Writes the image to a sink over a slice of the image's length.
+    /// For C, writes the image to a sink over a slice of the image's length.
     fn save_to(&self, sink: &mut SliceSink<'_>)
         requires none { sink.old.at ≡ 0 }
         requires exact { length sink.old.bytes.now ≡ length (heap_image self.now) }

@@ -52,9 +52,10 @@ impl NphHeap {
         unsafe { &mut *(self as *mut NphHeap as *mut ClosableHeap<HeldImages>) }
     }
 
-    /// Opens a heap with the settings and the objects of an image, and with the bound `k`. Returns `DONE`; else the heap is unchanged,
-    /// and the code is `OPEN` if it is open already, `BOUND` if `k` isn't 1 to 64, `IMAGE` if the bytes are no image, or `MEMORY`.
-    /// After `IMAGE`, and only then, `offset` is where the bytes break a rule of images.
+    /// `NphHeap`: opens a heap with the settings and the objects of an image, and with the bound `k`. Returns `DONE`;
+    /// else the heap is unchanged, and the code is `OPEN` if it is open already, `BOUND` if `k` isn't 1 to 64, `IMAGE`
+    /// if the bytes are no image, or `MEMORY`. After `IMAGE`, and only then, `offset` is where the bytes break a rule
+    /// of images.
     pub fn load(&mut self, memory: Memory, bytes: &[u8], k: u32, offset: &mut u64) -> i32
         ensures { IsLoadCall (held_in self.old) bytes.now k offset.old result offset.new (held_in self.new) }
     {

@@ -14,7 +14,7 @@ ghost use Rattle.norphuen_images.specs.State.{IsNamed};
 
 use heap_image::{an_image_is_read_back, equal_objects_have_one_image, live_objects_have_an_image};
 
-/// A call that returns 0 changes the objects by id as its name says, and no other.
+/// From C, a call that returns 0 changes the objects by id as its name says, and no other.
 pub fn the_calls_change_the_objects_by_id()
     ensures make { (p : Profile) (old new : RunState) (id bytes : ℕ) → IsNamed p old → IsMakeCall old id bytes (pos 0) new
         → live_objects new ≡ insert (live_objects old) id (replicate bytes 0) }
@@ -26,8 +26,8 @@ pub fn the_calls_change_the_objects_by_id()
         → (v : List ℕ) × (get (live_objects old) id ≡ Some v) × (after ≡ take (length before) (drop from v)) }
 {}
 
-/// A saved image is loaded again, with any bound k from 1 to 64: the new heap has the same settings, but with the bound k, and the same
-/// objects by id. Only memory can be lacking.
+/// From C, a saved image is loaded again, with any bound k from 1 to 64: the new heap has the same settings, but with
+/// the bound k, and the same objects by id. Only memory can be lacking.
 pub fn a_saved_heap_is_loaded_again()
     ensures { (p : Profile) (s kept : RunState) (before after : Saved) (last k offset offset2 : ℕ) (code : ℤ) (new : CallerHeap RunState)
         → IsNamed p s → IsSaveCall s before (pos 0) after kept → 1 ≤ k → k ≤ 64
@@ -37,8 +37,8 @@ pub fn a_saved_heap_is_loaded_again()
     an_image_is_read_back();
 }
 
-/// Two heaps with the same settings, whatever their bounds, and with the same bytes under each id, are saved as the same bytes, whatever
-/// their histories.
+/// From C, two heaps with the same settings, whatever their bounds, and with the same bytes under each id, are saved as
+/// the same bytes, whatever their histories.
 pub fn equal_objects_are_saved_as_one_image()
     ensures { (p q : Profile) (one other kept kept2 : RunState) (before before2 after after2 : Saved) → IsNamed p one → IsNamed q other
         → at_bound_one q ≡ at_bound_one p → ((id : ℕ) → bytes_of other id ≡ bytes_of one id)

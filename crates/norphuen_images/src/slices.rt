@@ -43,7 +43,8 @@ pub(crate) struct SliceSink<'a> {
 impl Sink for SliceSink<'_> {
     ghost state = { sink_seen };
 
-    /// Copies the bytes behind those written, or the first of them if not all fit, and returns how many it copied.
+    /// Copies the bytes into C's slice behind those written, or the first of them if not all fit, and returns how many
+    /// it copied.
     fn put(&mut self, bytes: &[u8]) -> Result<usize, Failed> {
         let all = &mut *self.bytes;
         let at = self.at;

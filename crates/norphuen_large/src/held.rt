@@ -77,8 +77,8 @@ impl Openable for Held {
 impl Held {
     ghost use Rattle.norphuen_large.specs.Calls.{IsFiguresCall, IsFreeCall, IsLengthCall, IsMallocCall, IsReadCall, IsStepsCall, IsTotalsCall, IsWriteCall};
 
-    /// Makes an object of `bytes` zeros, long or short, and writes its handle into `handle`. Returns `DONE`, or the
-    /// code of the refusal: `SIZE`, `PROXY` or `SPACE`. After a refusal `handle` is unchanged.
+    /// For C, makes an object of `bytes` zeros, long or short, and writes its handle into `handle`. Returns `DONE`, or
+    /// the code of the refusal: `SIZE`, `PROXY` or `SPACE`. After a refusal `handle` is unchanged.
     pub fn malloc(&mut self, bytes: u32, handle: &mut u32) -> i32
         ensures { IsMallocCall self.old bytes handle.old result handle.new self.new }
     {
@@ -142,8 +142,8 @@ impl Held {
         }
     }
 
-    /// Writes the object's length in bytes, also if long, into `bytes`. Returns `DONE`, or `UNKNOWN` if the handle
-    /// isn't live; then `bytes` is unchanged.
+    /// For C, writes the object's length in bytes, also if long, into `bytes`. Returns `DONE`, or `UNKNOWN` if the
+    /// handle isn't live; then `bytes` is unchanged.
     pub fn length(&mut self, handle: u32, bytes: &mut u32) -> i32
         ensures { IsLengthCall self.old handle bytes.old result bytes.new self.new }
     {
@@ -156,8 +156,8 @@ impl Held {
         }
     }
 
-    /// Writes the figures of a class, numbered from 0, into `figures`; each part and each spine counts as an object. Returns `DONE`,
-    /// or `UNKNOWN` if there is no such class; then `figures` is unchanged.
+    /// Writes C's figures of a class, numbered from 0, into `figures`; each part and each spine counts as an object.
+    /// Returns `DONE`, or `UNKNOWN` if there is no such class; then `figures` is unchanged.
     pub fn figures(&mut self, class: u32, figures: &mut NphClass) -> i32
         ensures { IsFiguresCall self.old class figures.old result figures.new self.new }
     {
@@ -172,7 +172,8 @@ impl Held {
         }
     }
 
-    /// Writes the figures of the whole heap into `totals`; each part and each spine counts as an object. Always returns `DONE`.
+    /// Writes C's figures of the whole heap into `totals`; each part and each spine counts as an object. Always returns
+    /// `DONE`.
     pub fn totals(&mut self, totals: &mut NphHeapTotals) -> i32
         ensures { IsTotalsCall self.old result totals.new self.new }
     {
@@ -185,7 +186,8 @@ impl Held {
         DONE
     }
 
-    /// Writes the steps of the last call on long objects into `steps`; 0 if there was none. Always returns `DONE`.
+    /// For C, writes the steps of the last call on long objects into `steps`; 0 if there was none. Always returns
+    /// `DONE`.
     pub fn last_steps(&mut self, steps: &mut u64) -> i32
         ensures { IsStepsCall self.old result steps.new self.new }
     {

@@ -18,7 +18,8 @@ pub fn every_call_keeps_the_handles()
     ensures others { (old new : HeldState) → new.heap ≡ old.heap → new.handles ≡ old.handles → KeepsHandles old → KeepsHandles new }
 {}
 
-/// The handle of a malloc that returns 0 named no object before, and names the new one, whose bytes are zero.
+/// On long objects, the handle of a malloc that returns 0 named no object before, and names the new one, whose bytes
+/// are zero.
 pub fn a_malloc_gives_a_new_handle()
     ensures { (old new : HeldState) (bytes before after : ℕ) → IsMallocCall old bytes before (pos 0) after new → KeepsHandles old
         → IsNewHandle old bytes after new }
@@ -37,7 +38,8 @@ pub fn a_stale_handle_is_refused()
         → KeepsHandles old → number_in old.handles handle ≡ none → (code ≡ pos 4) × (after ≡ before) }
 {}
 
-/// After a write that returns 0, a read of as many bytes from the same byte of the object returns 0 and gives the bytes written.
+/// On long objects, after a write that returns 0, a read of as many bytes from the same byte of the object returns 0
+/// and gives the bytes written.
 pub fn a_read_gives_what_was_written()
     ensures { (old mid new : HeldState) (handle from : ℕ) (bytes before after : List ℕ) (code : ℤ) → IsWriteCall old handle from bytes (pos 0) mid
         → IsReadCall mid handle from before code after new → length before ≡ length bytes → (code ≡ pos 0) × (after ≡ bytes) }

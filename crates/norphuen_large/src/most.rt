@@ -4,7 +4,8 @@ ghost use Rattle.std.specs.Prelude.{◌≡◌, ◌+◌, ◌/◌, ◌^◌, ◌<�
 ghost use Rattle.large_objects.specs.InnerObjects.{part_count};
 ghost use Rattle.norphuen_large.specs.Most.{IsMostAccess, IsMostFree, IsMostMalloc, part_of, slot_cap};
 
-/// The words of a page of `page_bytes` bytes. For bytes that no page has, the words of the least or of the largest page.
+/// For long objects, the words of a page of `page_bytes` bytes. For bytes that no page has, the words of the least or
+/// of the largest page.
 fn page_words(page_bytes: u32) -> u32
     ensures value { 64 ≤ page_bytes / 8 → page_bytes / 8 ≤ 16384 → result ≡ page_bytes / 8 }
     ensures least { 64 ≤ result }
@@ -13,7 +14,7 @@ fn page_words(page_bytes: u32) -> u32
     (page_bytes / 8).max(64).min(16384)
 }
 
-/// The number of parts of an object of `bytes` bytes, which is longer than a page of `words` words.
+/// For a step bound, the number of parts of an object of `bytes` bytes, which is longer than a page of `words` words.
 fn parts(words: u32, bytes: u32) -> u32
     requires least { 64 ≤ words }
     requires most { words ≤ 16384 }
@@ -23,7 +24,7 @@ fn parts(words: u32, bytes: u32) -> u32
     bytes.div_ceil(8 * (words - 1))
 }
 
-/// The most words of the slot of an object of `bytes` bytes in a page of `words` words.
+/// For long objects, the most words of the slot of an object of `bytes` bytes in a page of `words` words.
 fn slot_words(words: u32, bytes: u64) -> u64
     requires { bytes < 2 ^ 35 }
     ensures value { result ≡ slot_cap words bytes }
@@ -35,7 +36,7 @@ fn slot_words(words: u32, bytes: u64) -> u64
         .min(u64::from(words))
 }
 
-/// A malloc of `bytes` bytes.
+/// A malloc of `bytes` bytes, long or short.
 pub fn most_malloc(page_bytes: u32, bytes: u32) -> u64
     ensures { IsMostMalloc page_bytes bytes result }
 {
@@ -46,7 +47,7 @@ pub fn most_malloc(page_bytes: u32, bytes: u32) -> u64
     19 + 18 * u64::from(parts(words, bytes))
 }
 
-/// A free of an object of `bytes` bytes.
+/// A free of a long or short object of `bytes` bytes.
 pub fn most_free(page_bytes: u32, bytes: u32) -> u64
     ensures { IsMostFree page_bytes bytes result }
 {

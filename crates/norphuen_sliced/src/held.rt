@@ -44,8 +44,8 @@ impl Held {
     ghost use Rattle.c_base.specs.Handles.{largest};
     ghost use Rattle.norphuen_sliced.specs.Calls.{IsClassCall, IsFiguresCall, IsFreeCall, IsFreshHeap, IsLeftCall, IsLengthCall, IsMallocCall, IsMovingCall, IsPlaceCall, IsReadCall, IsRoomCall, IsSlotWordsCall, IsStepCall, IsStepsCall, IsTotalsCall, IsWriteCall};
 
-    /// Opens a sliced heap without objects, with slices of at most `quantum` words, in a block of its own. Its handles
-    /// are larger than `last`. Returns `None` if out of memory.
+    /// For C, opens a sliced heap without objects, with slices of at most `quantum` words, in a block of its own. Its
+    /// handles are larger than `last`. Returns `None` if out of memory.
     pub fn open(memory: Memory, s: &Settings, quantum: u32, last: u32) -> Option<Box<Held>>
         requires least { 1 ≤ quantum }
         requires most { quantum ≤ 16384 }
@@ -64,8 +64,8 @@ impl Held {
         Box::new(alloc, held).ok()
     }
 
-    /// Makes an object of `bytes` zeros in the sliced heap and writes its handle into `handle`. Returns `DONE`, or the
-    /// code of the refusal: `SIZE`, `PROXY`, `SPACE` or `BUSY`. After a refusal `handle` is unchanged.
+    /// For C, makes an object of `bytes` zeros in the sliced heap and writes its handle into `handle`. Returns `DONE`,
+    /// or the code of the refusal: `SIZE`, `PROXY`, `SPACE` or `BUSY`. After a refusal `handle` is unchanged.
     pub fn malloc(&mut self, bytes: u32, handle: &mut u32) -> i32
         ensures { IsMallocCall self.old bytes handle.old result handle.new self.new }
     {
@@ -109,8 +109,8 @@ impl Held {
         DONE
     }
 
-    /// Writes into `words` how many words the pending job has yet to clear or move; 0 if none is pending. Always returns
-    /// `DONE`.
+    /// For C, writes into `words` how many words the pending job has yet to clear or move; 0 if none is pending. Always
+    /// returns `DONE`.
     pub fn left(&mut self, words: &mut u32) -> i32
         ensures { IsLeftCall self.old result words.new self.new }
     {
@@ -118,8 +118,8 @@ impl Held {
         DONE
     }
 
-    /// Writes into `handle` the handle of the object that the pending job moves; `NONE` if it moves none, or no job is
-    /// pending. Always returns `DONE`.
+    /// For C, writes into `handle` the handle of the object that the pending job moves; `NONE` if it moves none, or no
+    /// job is pending. Always returns `DONE`.
     pub fn moving(&mut self, handle: &mut u32) -> i32
         ensures { IsMovingCall self.old result handle.new self.new }
     {
@@ -127,8 +127,8 @@ impl Held {
         DONE
     }
 
-    /// Writes the bytes into an object, from its byte `at` on, also while a job moves it. Returns `DONE`; `UNKNOWN` if the
-    /// handle isn't live, or `RANGE` if the bytes pass the object's end, and then no object changes.
+    /// For C, writes the bytes into an object, from its byte `at` on, also while a job moves it. Returns `DONE`;
+    /// `UNKNOWN` if the handle isn't live, or `RANGE` if the bytes pass the object's end, and then no object changes.
     pub fn write(&mut self, handle: u32, at: u32, bytes: &[u8]) -> i32
         ensures { IsWriteCall self.old handle at bytes.now result self.new }
     {
@@ -142,8 +142,8 @@ impl Held {
         }
     }
 
-    /// Fills `out` with the bytes of an object from its byte `at` on, also while a job moves it. Returns `DONE`; `UNKNOWN` if
-    /// the handle isn't live, or `RANGE` if the bytes pass the object's end, and then `out` is unchanged.
+    /// For C, fills `out` with the bytes of an object from its byte `at` on, also while a job moves it. Returns `DONE`;
+    /// `UNKNOWN` if the handle isn't live, or `RANGE` if the bytes pass the object's end, and then `out` is unchanged.
     pub fn read(&mut self, handle: u32, at: u32, out: &mut [u8]) -> i32
         ensures { IsReadCall self.old handle at out.old result out.new self.new }
     {
@@ -157,8 +157,8 @@ impl Held {
         }
     }
 
-    /// Writes the length in bytes of a sliced heap's object into `bytes`. Returns `DONE`, or `UNKNOWN` if the handle
-    /// isn't live; then `bytes` is unchanged.
+    /// For C, writes the length in bytes of a sliced heap's object into `bytes`. Returns `DONE`, or `UNKNOWN` if the
+    /// handle isn't live; then `bytes` is unchanged.
     pub fn length(&mut self, handle: u32, bytes: &mut u32) -> i32
         ensures { IsLengthCall self.old handle bytes.old result bytes.new self.new }
     {
@@ -175,8 +175,8 @@ impl Held {
         }
     }
 
-    /// Writes the words of an object's slot into `words`: those that a free of it clears. Returns `DONE`, or `UNKNOWN` if the
-    /// handle isn't live; then `words` is unchanged.
+    /// For C's sliced heap, writes the words of an object's slot into `words`: those that a free of it clears. Returns
+    /// `DONE`, or `UNKNOWN` if the handle isn't live; then `words` is unchanged.
     pub fn slot_words(&mut self, handle: u32, words: &mut u32) -> i32
         ensures { IsSlotWordsCall self.old handle words.old result words.new self.new }
     {
@@ -193,8 +193,8 @@ impl Held {
         }
     }
 
-    /// Writes the sliced heap's class of an object of `bytes` bytes, numbered from 0, into `class`. Returns `DONE`, or
-    /// `SIZE` if it needs more than a page; then `class` is unchanged.
+    /// For C, writes the sliced heap's class of an object of `bytes` bytes, numbered from 0, into `class`. Returns
+    /// `DONE`, or `SIZE` if it needs more than a page; then `class` is unchanged.
     pub fn class_of(&mut self, bytes: u32, class: &mut u32) -> i32
         ensures { IsClassCall self.old bytes class.old result class.new self.new }
     {
@@ -210,8 +210,8 @@ impl Held {
         }
     }
 
-    /// Writes the figures of a class of the sliced heap, numbered from 0, into `figures`. A pending job's slot counts
-    /// as used. Returns `DONE`, or `UNKNOWN` if there is no such class; then `figures` is unchanged.
+    /// For C, writes the figures of a class of the sliced heap, numbered from 0, into `figures`. A pending job's slot
+    /// counts as used. Returns `DONE`, or `UNKNOWN` if there is no such class; then `figures` is unchanged.
     pub fn figures(&mut self, class: u32, figures: &mut NphClass) -> i32
         ensures { IsFiguresCall self.old class figures.old result figures.new self.new }
     {
@@ -224,8 +224,8 @@ impl Held {
         }
     }
 
-    /// Writes the figures of the whole sliced heap into `totals`. A pending job's slot counts as used and as taken.
-    /// Always returns `DONE`.
+    /// For C, writes the figures of the whole sliced heap into `totals`. A pending job's slot counts as used and as
+    /// taken. Always returns `DONE`.
     pub fn totals(&mut self, totals: &mut NphHeapTotals) -> i32
         ensures { IsTotalsCall self.old result totals.new self.new }
     {
@@ -247,7 +247,7 @@ impl Held {
         }
     }
 
-    /// Writes the steps of the sliced heap's last call into `steps`; 0 if there was none. Always returns `DONE`.
+    /// For C, writes the steps of the sliced heap's last call into `steps`; 0 if there was none. Always returns `DONE`.
     pub fn last_steps(&mut self, steps: &mut u64) -> i32
         ensures { IsStepsCall self.old result steps.new self.new }
     {
@@ -255,8 +255,8 @@ impl Held {
         DONE
     }
 
-    /// Writes the address of a sliced heap's object into `place`, in words from the start of the region. A job that
-    /// moves the object moves it there. Returns `DONE`, or `UNKNOWN` if the handle isn't live; then `place` is
+    /// For C, writes the address of a sliced heap's object into `place`, in words from the start of the region. A job
+    /// that moves the object moves it there. Returns `DONE`, or `UNKNOWN` if the handle isn't live; then `place` is
     /// unchanged.
     pub fn place(&mut self, handle: u32, place: &mut u32) -> i32
         ensures { IsPlaceCall self.old handle place.old result place.new self.new }
@@ -281,7 +281,7 @@ impl Held {
         self.heap.has_job()
     }
 
-    /// The largest handle that a number of the sliced heap has.
+    /// For C, the largest handle that a number of the sliced heap has.
     pub(crate) fn last_handle(&self) -> u32
         ensures { result ≡ largest self.now.handles }
     {
@@ -289,7 +289,7 @@ impl Held {
     }
 }
 
-/// The code of a sliced heap's refused malloc.
+/// For C, the code of a sliced heap's refused malloc.
 fn of_refusal(cause: SliceRefusal) -> i32
     ensures { result ≡ refusal_code cause }
 {
@@ -301,7 +301,7 @@ fn of_refusal(cause: SliceRefusal) -> i32
     }
 }
 
-/// The code of a refused free.
+/// For C, the code of a sliced heap's refused free.
 fn of_fault(cause: SliceFault) -> i32
     ensures { result ≡ fault_code cause }
 {

@@ -22,7 +22,7 @@ pub fn every_call_keeps_the_handles()
     ensures others { (old new : HeldState) → new.heap ≡ old.heap → new.handles ≡ old.handles → KeepsHandles old → KeepsHandles new }
 {}
 
-/// The handle of a malloc that returns 0 named no object before, and names the new one.
+/// The handle of a sliced heap's malloc that returns 0 named no object before, and names the new one.
 pub fn a_malloc_gives_a_new_handle()
     ensures { (old new : HeldState) (bytes before after : ℕ) → IsMallocCall old bytes before (pos 0) after new → KeepsHandles old
         → IsNewHandle old after new }

@@ -10,14 +10,14 @@ pub fn most_malloc() -> u64
     17
 }
 
-/// A free in a heap with this quantum.
+/// A free in a sliced heap with this quantum.
 pub fn most_free(quantum: u32) -> u64
     ensures { result ≡ most_free quantum }
 {
     23 + u64::from(quantum)
 }
 
-/// A slice in a heap with this quantum.
+/// A slice in a sliced heap with this quantum.
 pub fn most_step(quantum: u32) -> u64
     ensures { result ≡ most_step quantum }
 {

@@ -85,7 +85,8 @@ impl NphHeap {
         unsafe { &mut *(self as *mut NphHeap as *mut LendableHeap<Held, LooseHeld>) }
     }
 
-    /// Lends the words of the region (`NphHeap::lend`). If a job is pending, returns `BUSY`, and `words` is unchanged.
+    /// Lends the words of a sliced heap's region (`NphHeap::lend`). If a job is pending, returns `BUSY`, and `words` is
+    /// unchanged.
     pub fn lend(&mut self, words: &mut *mut u64) -> i32
         ensures { IsLendCall (held_in self.old) result (held_in self.new) words.old words.new }
     {
@@ -98,8 +99,8 @@ impl NphHeap {
         heap.lend(words)
     }
 
-    /// Writes into `needed` what `open` with these settings, and any quantum, asks for. Returns `DONE`, or the code of the
-    /// first setting out of range, and then `needed` is unchanged.
+    /// Writes into `needed` what `open` of a sliced heap with these settings, and any quantum, asks for. Returns
+    /// `DONE`, or the code of the first setting out of range, and then `needed` is unchanged.
     pub fn bytes_needed(pages: u32, page_bytes: u32, proxies: u32, needed: &mut NphNeeded) -> i32
         ensures { IsNeededCall pages page_bytes proxies result needed.old needed.new }
     {
@@ -112,9 +113,10 @@ impl NphHeap {
         }
     }
 
-    /// Opens a heap without objects, with these settings and slices of at most `quantum` words. Returns `DONE`; else, with
-    /// nothing changed, `LENT` or `OPEN` if the heap is lent or open already, the code of the first setting out of range,
-    /// `QUANTUM` if the quantum is not 1 to 16,384, or `MEMORY`. No other call of the heap allocates.
+    /// Opens C's sliced heap without objects, with these settings and slices of at most `quantum` words. Returns
+    /// `DONE`; else, with nothing changed, `LENT` or `OPEN` if the heap is lent or open already, the code of the first
+    /// setting out of range, `QUANTUM` if the quantum is not 1 to 16,384, or `MEMORY`. No other call of the heap
+    /// allocates.
     pub fn open(
         &mut self,
         memory: Memory,

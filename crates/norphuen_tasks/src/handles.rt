@@ -65,7 +65,7 @@ impl TaskHandles {
         ).times(TASKS))
     }
 
-    /// The handles of a task.
+    /// C's handles of a task.
     pub(crate) fn of_task(&self, task: u32) -> &Handles
         requires { task < 16 }
         ensures { result.now ≡ handles_by self.now task }
@@ -73,7 +73,7 @@ impl TaskHandles {
         &self.of[task as usize]
     }
 
-    /// Raises the handle of an object of a task that was freed.
+    /// Raises C's handle of an object of a task that was freed.
     #[tactic(auto, using(crate::proofs::Tables::read_is))]
     pub(crate) fn raise(&mut self, task: u32, handle: u32)
         requires { task < 16 }
@@ -83,7 +83,7 @@ impl TaskHandles {
         handles.raise(handle);
     }
 
-    /// The largest handle of all tasks.
+    /// `TaskHandles`: the largest handle of all tasks.
     pub(crate) fn largest(&self) -> u32
         ensures { result ≡ largest_of self.now }
     {

@@ -62,7 +62,7 @@ impl Openable for HeldTasks {
         QuotaHeap::bytes_needed(s).and(handles.and(BytesNeeded::block(HELD_BYTES)))
     }
 
-    /// Opens a heap in which no task has an object and all quotas are 0.
+    /// For C, opens a heap in which no task has an object and all quotas are 0.
     fn open(memory: Memory, s: &Settings, last: u32) -> Option<Box<HeldTasks, Global>> {
         let alloc = Global::new(memory);
         let handles = TaskHandles::new(alloc, s.proxies, last)?;
@@ -77,7 +77,7 @@ impl Openable for HeldTasks {
         Box::new(alloc, held).ok()
     }
 
-    /// The largest handle of all tasks.
+    /// `HeldTasks`: the largest handle of all tasks.
     fn last(&self) -> u32 {
         self.handles.largest()
     }
@@ -99,8 +99,8 @@ impl HeldTasks {
         }
     }
 
-    /// Makes an object of `bytes` zeros for a task and writes its handle into `handle`. Returns `DONE`, or the code of the refusal:
-    /// `SIZE`, `PROXY` or `SPACE`. After a refusal `handle` is unchanged.
+    /// For C, makes an object of `bytes` zeros for a task and writes its handle into `handle`. Returns `DONE`, or the
+    /// code of the refusal: `SIZE`, `PROXY` or `SPACE`. After a refusal `handle` is unchanged.
     pub fn malloc(&mut self, task: u32, bytes: u32, handle: &mut u32) -> i32
         ensures { IsOfTask task self.old result self.new (handle.new ≡ handle.old) (IsMallocCall self.old task bytes handle.old result handle.new self.new) }
     {
@@ -145,8 +145,8 @@ impl HeldTasks {
         }
     }
 
-    /// Writes the bytes into an object of a task, from its byte `at` on. Returns `DONE`; `UNKNOWN` if the handle isn't live in
-    /// this task, or `RANGE` if the bytes pass the object's end, and then no object changes.
+    /// For C, writes the bytes into an object of a task, from its byte `at` on. Returns `DONE`; `UNKNOWN` if the handle
+    /// isn't live in this task, or `RANGE` if the bytes pass the object's end, and then no object changes.
     pub fn write(&mut self, task: u32, handle: u32, at: u32, bytes: &[u8]) -> i32
         ensures { IsOfTask task self.old result self.new (Unit {0}) (IsWriteCall self.old task handle at bytes.now result self.new) }
     {
@@ -165,8 +165,8 @@ impl HeldTasks {
         }
     }
 
-    /// Fills `out` with the bytes of an object of a task from its byte `at` on. Returns `DONE`; `UNKNOWN` if the handle isn't live
-    /// in this task, or `RANGE` if the bytes pass the object's end, and then `out` is unchanged.
+    /// For C, fills `out` with the bytes of an object of a task from its byte `at` on. Returns `DONE`; `UNKNOWN` if the
+    /// handle isn't live in this task, or `RANGE` if the bytes pass the object's end, and then `out` is unchanged.
     pub fn read(&mut self, task: u32, handle: u32, at: u32, out: &mut [u8]) -> i32
         ensures { IsOfTask task self.old result self.new (out.new ≡ out.old) (IsReadCall self.old task handle at out.old result out.new self.new) }
     {
@@ -183,8 +183,8 @@ impl HeldTasks {
         }
     }
 
-    /// Writes the length in bytes of an object of a task into `bytes`. Returns `DONE`, or `UNKNOWN` if the handle isn't live in
-    /// this task; then `bytes` is unchanged.
+    /// For C, writes the length in bytes of an object of a task into `bytes`. Returns `DONE`, or `UNKNOWN` if the
+    /// handle isn't live in this task; then `bytes` is unchanged.
     pub fn length(&mut self, task: u32, handle: u32, bytes: &mut u32) -> i32
         ensures { IsOfTask task self.old result self.new (bytes.new ≡ bytes.old) (IsLengthCall self.old task handle bytes.old result bytes.new self.new) }
     {
@@ -204,7 +204,7 @@ impl HeldTasks {
         }
     }
 
-    /// Writes the figures of a task into `figures`. Returns `DONE`.
+    /// For C, writes the figures of a task into `figures`. Returns `DONE`.
     pub fn task(&mut self, task: u32, figures: &mut NphTask) -> i32
         ensures { IsOfTask task self.old result self.new (figures.new ≡ figures.old) (IsTaskCall self.old task result figures.new self.new) }
     {
@@ -219,8 +219,8 @@ impl HeldTasks {
         DONE
     }
 
-    /// Writes the figures of a class of a task, numbered from 0, into `figures`. Returns `DONE`, or `UNKNOWN` if there is no such
-    /// class; then `figures` is unchanged.
+    /// For C, writes the figures of a class of a task, numbered from 0, into `figures`. Returns `DONE`, or `UNKNOWN` if
+    /// there is no such class; then `figures` is unchanged.
     pub fn figures(&mut self, task: u32, class: u32, figures: &mut NphClass) -> i32
         ensures { IsOfTask task self.old result self.new (figures.new ≡ figures.old) (IsFiguresCall self.old task class figures.old result figures.new self.new) }
     {
@@ -236,7 +236,7 @@ impl HeldTasks {
         }
     }
 
-    /// Writes the number of the region's pages less the sum of all quotas into `pages`. Always returns `DONE`.
+    /// For C, writes the number of the region's pages less the sum of all quotas into `pages`. Always returns `DONE`.
     pub fn unassigned(&mut self, pages: &mut u32) -> i32
         ensures { IsUnassignedCall self.old result pages.new self.new }
     {
@@ -244,9 +244,10 @@ impl HeldTasks {
         DONE
     }
 
-    /// Tests whether the quota of a task is enough for its `needs`, without objects at first (`admit` of `quota_model`). Returns `DONE`
-    /// if it is: then no malloc within the needs is refused for space. Else `ENTRIES` if there are more than 64 needs, `SIZE` if an
-    /// object is larger than a page, `PROXIES` if the needs are more objects than the task has proxies, or `SPACE`.
+    /// For C, tests whether the quota of a task is enough for its `needs`, without objects at first (`admit` of
+    /// `quota_model`). Returns `DONE` if it is: then no malloc within the needs is refused for space. Else `ENTRIES` if
+    /// there are more than 64 needs, `SIZE` if an object is larger than a page, `PROXIES` if the needs are more objects
+    /// than the task has proxies, or `SPACE`.
     pub fn admit(&mut self, task: u32, needs: &[Need]) -> i32
         ensures { IsOfTask task self.old result self.new (Unit {0}) (IsAdmitCall self.old task needs.now result self.new) }
     {
@@ -260,8 +261,8 @@ impl HeldTasks {
         of_admission(admit(&self.heap.settings(), quota, needs))
     }
 
-    /// Writes into `pages` the least quota that is enough for a task with these `needs`. Returns `DONE`, or `ENTRIES`, `SIZE` or
-    /// `PROXIES` as `admit` does, and then `pages` is unchanged.
+    /// For C, writes into `pages` the least quota that is enough for a task with these `needs`. Returns `DONE`, or
+    /// `ENTRIES`, `SIZE` or `PROXIES` as `admit` does, and then `pages` is unchanged.
     pub fn least_quota(&mut self, needs: &[Need], pages: &mut u32) -> i32
         ensures { IsLeastCall self.old needs.now result pages.old pages.new self.new }
     {
@@ -281,7 +282,7 @@ impl HeldTasks {
         }
     }
 
-    /// Writes the steps of the last call on the tasks into `steps`; 0 if there was none. Always returns `DONE`.
+    /// For C, writes the steps of the last call on the tasks into `steps`; 0 if there was none. Always returns `DONE`.
     pub fn last_steps(&mut self, steps: &mut u64) -> i32
         ensures { IsStepsCall self.old result steps.new self.new }
     {
@@ -290,7 +291,7 @@ impl HeldTasks {
     }
 }
 
-/// The code of a refused quota.
+/// `HeldTasks`: the code of a refused quota.
 fn of_quota(cause: QuotaFault) -> i32
     ensures { result ≡ quota_code (Err cause) }
 {
@@ -300,7 +301,7 @@ fn of_quota(cause: QuotaFault) -> i32
     }
 }
 
-/// The code of an admission.
+/// `HeldTasks`: the code of an admission.
 fn of_admission(answer: Admission) -> i32
     ensures { result ≡ admission_code answer }
 {

@@ -56,10 +56,9 @@ pub fn live_objects_share_no_block()
         → block_of frames x.place i ≢ block_of frames y.place j }
 {}
 
-/// `words` are the words as objects see them, `physical` those of the region. The table (`frames`)
-/// names a physical block for block i / 4 of the slot of object `x`. Word `i` of the slot is word i
-/// modulo 4 of that block. So a call that keeps an object's blocks and bytes keeps its words in the
-/// region.
+/// By the block table, `words` are the words as objects see them, `physical` those of the region. The table (`frames`)
+/// names a physical block for block i / 4 of the slot of object `x`. Word `i` of the slot is word i modulo 4 of that
+/// block. So a call that keeps an object's blocks and bytes keeps its words in the region.
 pub fn slots_are_in_their_blocks()
     ensures { (p : Paging) (m : Held) (frames words physical : List ℕ) → AreFramed p m frames
         → IsSlotImage p m words → IsPhysical frames words physical

@@ -3,19 +3,19 @@
 ghost use Rattle.std.specs.Prelude.{ℕ, ◌≡◌, ◌+◌, ◌/◌, ◌<◌, ◌≤◌, ◌↔◌, IsTrue};
 ghost use Rattle.page_model.specs.Counts.{CanHold, can_hold, ceil_div, most_pages};
 
-/// Let no page be empty and at most one be partly full. Then `n` objects, `m` to a page, can be on
-/// `p` pages if and only if `p` is n / m, rounded up.
+/// For one class, let no page be empty and at most one be partly full. Then `n` objects, `m` to a page, can be on `p`
+/// pages if and only if `p` is n / m, rounded up.
 pub fn one_page_count_at_bound_one()
     ensures { (p n m : ℕ) → 0 < m → CanHold p n m 1 ↔ (p ≡ ceil_div n m) }
 {}
 
-/// Let no page be empty and at most `k` be partly full. If `n` objects, `m` to a page, are on `p`
-/// pages, then `p` is at most n / m + k, where n / m is rounded down.
+/// For one class, let no page be empty and at most `k` be partly full. If `n` objects, `m` to a page, are on `p` pages,
+/// then `p` is at most n / m + k, where n / m is rounded down.
 pub fn pages_are_within_the_bound()
     ensures { (p n m k : ℕ) → 0 < m → CanHold p n m k → p ≤ n / m + k }
 {}
 
-/// Let no page be empty and at most `k` be partly full. Then `n` objects, `m` to a page, can be on
+/// For one class, let no page be empty and at most `k` be partly full. Then `n` objects, `m` to a page, can be on
 /// `most_pages` pages (`reached`), and on no greater number `p` of pages (`greatest`).
 pub fn most_pages_is_the_greatest()
     ensures reached { (n m k : ℕ) → 0 < m → 0 < k → CanHold (most_pages n m k) n m k }

@@ -55,7 +55,7 @@ impl PagePool {
         BytesNeeded::block(4 * u64::from(n))
     }
 
-    /// How many pages are free.
+    /// How many pages the pool has free.
     pub fn left(&self) -> u32
         ensures len { result ≡ length self.now.free }
         ensures kept { IsPool self.now }

@@ -29,9 +29,9 @@ pub struct LeftSlot {
 }
 
 impl PageTables {
-    /// Leaves the slot `s`, whose object is freed or has moved away. If `moves`, the object of the
-    /// class that the tables choose moves there, and its own slot becomes free; returns its handle.
-    /// Else the slot is cleared and becomes free.
+    /// In page tables, leaves the slot `s`, whose object is freed or has moved away. If `moves`, the object of the
+    /// class that the tables choose moves there, and its own slot becomes free; returns its handle. Else the slot is
+    /// cleared and becomes free.
     #[inline(always)]
     pub fn leave_slot<A: Mapping>(
         &mut self,

@@ -5,7 +5,7 @@ ghost use Rattle.page_slots.specs.Tables.{address_in, page_at, slot_at, slots_in
 
 use size_classes::Classes;
 
-/// The number, on its page, of the slot of class c that holds an address.
+/// In page tables, the number, on its page, of the slot of class c that holds an address.
 pub(crate) fn slot_of(classes: &Classes, c: u32, address: u32) -> u32
     requires { c < length classes.now.sizes }
     ensures { result ≡ slot_at classes.now c address }
@@ -13,7 +13,7 @@ pub(crate) fn slot_of(classes: &Classes, c: u32, address: u32) -> u32
     classes.offset_of(address) / classes.slot_words(c)
 }
 
-/// The address of slot number `slot` of class c on a page.
+/// In page tables, the address of slot number `slot` of class c on a page.
 pub(crate) fn address_of(classes: &Classes, c: u32, page: u32, slot: u32) -> u32
     requires table { IsClassTable classes.now.page_words classes.now.sizes }
     requires class { c < length classes.now.sizes }

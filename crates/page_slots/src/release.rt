@@ -20,8 +20,8 @@ use slot_bitmap::SlotMaps;
 use step_ledger::Steps;
 
 impl PageTables {
-    /// Returns whether a free of the slot of class c at the address `at` must move an object: its
-    /// page is full and has several slots, and the class has reached `bound` partly full pages.
+    /// In page tables, returns whether a free of the slot of class c at the address `at` must move an object: its page
+    /// is full and has several slots, and the class has reached `bound` partly full pages.
     /// Costs one step.
     pub fn must_move(
         &self,
@@ -43,8 +43,8 @@ impl PageTables {
         used == self.maps.len(page) && used > 1 && lists.len(c, Which::NotFull) == bound
     }
 
-    /// Frees the used slot of class c at the address `at`, without a move. A page that is then
-    /// empty returns to the pool. A page that was full becomes the first partly full page.
+    /// In page tables, frees the used slot of class c at the address `at`, without a move. A page that is then empty
+    /// returns to the pool. A page that was full becomes the first partly full page.
     #[inline(always)]
     pub fn drop_slot(&mut self, lists: &mut ClassLists, c: u32, at: u32, steps: &mut Steps)
         requires tables { AreTables self.old.classes (tables_with self.old lists.old) }
@@ -64,8 +64,8 @@ impl PageTables {
         self.vacate(lists, c, which, page, slot, steps);
     }
 
-    /// Returns the address of the object that moves into a freed slot of class c: the one at the
-    /// lowest used slot of the first partly full page of the class. Changes nothing.
+    /// In page tables, returns the address of the object that moves into a freed slot of class c: the one at the lowest
+    /// used slot of the first partly full page of the class. Changes nothing.
     pub fn filler(&self, lists: &ClassLists, c: u32, steps: &mut Steps) -> u32
         requires tables { AreTables self.now.classes (tables_with self.now lists.now) }
         requires class { c < length self.now.classes.sizes }
@@ -100,7 +100,7 @@ impl PageTables {
         address
     }
 
-    /// Returns the first partly full page of class c, and the number of its lowest used slot.
+    /// In page tables, returns the first partly full page of class c, and the number of its lowest used slot.
     fn filling_slot(&self, lists: &ClassLists, c: u32, steps: &mut Steps) -> (u32, u32)
         requires class { c < lists.now.classes }
         requires some { 1 ≤ length (pages_in lists.now c Which.NotFull) }
@@ -119,9 +119,8 @@ impl PageTables {
         (page, slot)
     }
 
-    /// Frees the used slot number `slot` of a page that is in the list `which` of class c. A page
-    /// that is then empty leaves the list and returns to the pool; a page that was full joins the
-    /// partly full pages.
+    /// In page tables, frees the used slot number `slot` of a page that is in the list `which` of class c. A page that
+    /// is then empty leaves the list and returns to the pool; a page that was full joins the partly full pages.
     #[inline(always)]
     fn vacate(
         &mut self,
@@ -157,7 +156,7 @@ impl PageTables {
     }
 }
 
-/// Returns which list a page of a class is in: that of the full pages if all its slots are used.
+/// In page tables, returns which list a page of a class is in: that of the full pages if all its slots are used.
 /// Costs one step.
 fn list_of(maps: &SlotMaps, page: u32, steps: &mut Steps) -> Which
     requires { page < length maps.now.pages }
@@ -172,8 +171,8 @@ fn list_of(maps: &SlotMaps, page: u32, steps: &mut Steps) -> Which
     }
 }
 
-/// If the page is in the list of full pages of class c, moves it to the partly full pages; else
-/// does nothing. `which` is the list that it is in.
+/// In page tables, if the page is in the list of full pages of class c, moves it to the partly full pages; else does
+/// nothing. `which` is the list that it is in.
 fn move_if_full(lists: &mut ClassLists, c: u32, which: Which, page: u32, steps: &mut Steps)
     requires class { c < lists.old.classes }
     requires apart { AreApart lists.old }

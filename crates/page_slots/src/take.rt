@@ -16,9 +16,9 @@ use slot_bitmap::SlotMaps;
 use step_ledger::Steps;
 
 impl PageTables {
-    /// Takes a free slot of class c and returns its address: the lowest free slot of the first partly
-    /// full page of the class, else the first slot of the first page of the pool. Returns none if the
-    /// class has no partly full page and no page is free; then nothing changes.
+    /// In page tables, takes a free slot of class c and returns its address: the lowest free slot of the first partly
+    /// full page of the class, else the first slot of the first page of the pool. Returns none if the class has no
+    /// partly full page and no page is free; then nothing changes.
     #[inline(always)]
     pub fn take_slot(&mut self, lists: &mut ClassLists, c: u32, steps: &mut Steps) -> Option<u32>
         requires tables { AreTables self.old.classes (tables_with self.old lists.old) }
@@ -43,8 +43,8 @@ impl PageTables {
         Some(address_of(&self.classes, c, page, slot))
     }
 
-    /// Takes the first slot of the first page of the pool, which becomes a page of class c, and
-    /// returns its address. Returns none if no page is free; then nothing changes.
+    /// In page tables, takes the first slot of the first page of the pool, which becomes a page of class c, and returns
+    /// its address. Returns none if no page is free; then nothing changes.
     #[inline(always)]
     fn take_on_free_page(
         &mut self,
@@ -71,7 +71,7 @@ impl PageTables {
     }
 }
 
-/// Marks the lowest free slot of a page as used, and returns its number. At least one slot must be
+/// In the page tables, marks the lowest free slot of a page as used, and returns its number. At least one slot must be
 /// free.
 #[inline(always)]
 fn take_least(maps: &mut SlotMaps, page: u32, steps: &mut Steps) -> u32
@@ -88,8 +88,8 @@ fn take_least(maps: &mut SlotMaps, page: u32, steps: &mut Steps) -> u32
     slot
 }
 
-/// If all slots in the map of a page of class c are used, moves the page from the partly full pages
-/// to the full ones.
+/// In page tables, if all slots in the map of a page of class c are used, moves the page from the partly full pages to
+/// the full ones.
 #[inline(always)]
 fn leave_if_filled(maps: &SlotMaps, lists: &mut ClassLists, c: u32, page: u32, steps: &mut Steps)
     requires page { page < length maps.now.pages }
@@ -107,7 +107,7 @@ fn leave_if_filled(maps: &SlotMaps, lists: &mut ClassLists, c: u32, page: u32, s
     }
 }
 
-/// Adds a page of class c, which has `slots` slots and uses one, to a list of its class: to the full
+/// In page tables, adds a page of class c, which has `slots` slots and uses one, to a list of its class: to the full
 /// pages if that is its only slot, else to the partly full ones.
 #[inline(always)]
 fn join_with_one(lists: &mut ClassLists, c: u32, page: u32, slots: u32, steps: &mut Steps)

@@ -12,7 +12,7 @@ use class_lists::Which;
 use virtual_words::Mapping;
 
 impl OpenHeap {
-    /// The number of size classes.
+    /// With pages, the number of size classes.
     pub fn class_count<A: Mapping>(&self) -> u32
         requires { Holds A.kind self.now }
         ensures value { result ≡ classes (paging_at (seen A.kind self.now)) }
@@ -21,7 +21,7 @@ impl OpenHeap {
         self.tables.classes.len()
     }
 
-    /// The number of pages of class c, full or partly full.
+    /// With pages, the number of pages of class c, full or partly full.
     pub fn pages_of<A: Mapping>(&self, c: u32) -> u32
         requires kept { Holds A.kind self.now }
         requires class { c < classes (paging_at (seen A.kind self.now)) }
@@ -30,7 +30,7 @@ impl OpenHeap {
         self.lists.len(c, Which::Full) + self.lists.len(c, Which::NotFull)
     }
 
-    /// The number of partly full pages of class c.
+    /// With pages, the number of partly full pages of class c.
     pub fn not_full<A: Mapping>(&self, c: u32) -> u32
         requires kept { Holds A.kind self.now }
         requires class { c < classes (paging_at (seen A.kind self.now)) }
@@ -39,7 +39,7 @@ impl OpenHeap {
         self.lists.len(c, Which::NotFull)
     }
 
-    /// The number of pages in the pool, which are free.
+    /// With pages, the number of free pages.
     pub fn free_pages<A: Mapping>(&self) -> u32
         requires { Holds A.kind self.now }
         ensures value { result ≡ free_pages (paging_at (seen A.kind self.now)) (held_in (seen A.kind self.now)) }
@@ -61,7 +61,7 @@ impl OpenHeap {
         }
     }
 
-    /// The figures that `figures` returns for class c, which must be one of the heap's classes.
+    /// With pages, the figures of class c, which must be one of the heap's classes.
     fn figures_of<A: Mapping>(&self, c: u32) -> Figures
         requires kept { Holds A.kind self.now }
         requires class { c < classes (paging_at (seen A.kind self.now)) }
@@ -103,7 +103,7 @@ impl OpenHeap {
         8 * u64::from(self.settings.page_words) * u64::from(pages)
     }
 
-    /// The words of the largest free block, which is a page: 0 if `free`, the number of free pages, is 0.
+    /// With pages, the words of the largest free block, which is a page: 0 if `free`, the number of free pages, is 0.
     fn largest(&self, free: u32) -> u32
         ensures { result ≡ if nat_eq free 0 then 0 else self.now.settings.page_words }
     {

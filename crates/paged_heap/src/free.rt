@@ -20,11 +20,10 @@ use step_ledger::Steps;
 use virtual_words::Mapping;
 
 impl OpenHeap {
-    /// Frees an object; fails if the handle is not live, and then changes only `cost`. A full page of
-    /// several slots would become partly full: if its class already has as many partly full pages as
-    /// its bound, the object that the order lists next moves to the freed slot. Else the slot is
-    /// cleared. The next malloc uses the freed number. Sets `cost` to the steps of this call, which
-    /// the order and the result determine.
+    /// Frees an object on pages; fails if the handle is not live, and then changes only `cost`. A full page of several
+    /// slots would become partly full: if its class already has as many partly full pages as its bound, the object that
+    /// the order lists next moves to the freed slot. Else the slot is cleared. The next malloc uses the freed number.
+    /// Sets `cost` to the steps of this call, which the order and the result determine.
     pub fn free<A: Mapping>(&mut self, h: Handle, steps: &mut Steps) -> Result<Freed, NotLive>
         requires kept { Holds A.kind self.old }
         requires room { steps.old ≤ 2 ^ 63 }
@@ -41,8 +40,8 @@ impl OpenHeap {
         result
     }
 
-    /// Frees an object as `free` does, with or without a move of another one; fails if the handle
-    /// is not live. Leaves `cost` unchanged.
+    /// Frees an object on pages as `free` does, with or without a move of another one; fails if the handle is not live.
+    /// Leaves `cost` unchanged.
     fn free_inner<A: Mapping>(&mut self, h: Handle, steps: &mut Steps) -> Result<Freed, NotLive>
         requires { Holds A.kind self.old }
         ensures step { IsFreeStep (state_at A.kind self.old) h.0 result (state_at A.kind self.new) }
@@ -63,8 +62,8 @@ impl OpenHeap {
         Ok(self.free_object::<A>(h, place, length, c, moves, steps))
     }
 
-    /// Frees the object h of class c, which has `length` bytes and the address `place`. If `moves`,
-    /// another object of the class must move to its slot.
+    /// Frees the object h of class c on pages, which has `length` bytes and the address `place`. If `moves`, another
+    /// object of the class must move to its slot.
     fn free_object<A: Mapping>(
         &mut self,
         h: Handle,
@@ -105,8 +104,8 @@ impl OpenHeap {
         Freed { slot_words, moved }
     }
 
-    /// Takes an object of `bytes` bytes out of the counts: the live objects of class c, the bytes
-    /// asked, and the bytes taken, which are those of its slot of `slot_words` words. Costs no step.
+    /// With pages, takes an object of `bytes` bytes out of the counts: the live objects of class c, the bytes asked,
+    /// and the bytes taken, which are those of its slot of `slot_words` words. Costs no step.
     pub(crate) fn count_out(&mut self, c: u32, slot_words: u32, bytes: u32)
         requires words { slot_words ≡ slice_index self.old.tables.classes.sizes c }
         requires class { c < length self.old.tables.classes.sizes }

@@ -26,10 +26,10 @@ use step_ledger::Steps;
 use virtual_words::Mapping;
 
 impl OpenHeap {
-    /// Makes an object of `bytes` bytes, all zero, under the number and in the slot of its class
-    /// that the order lists next. Refused, in this order: `Size` if it needs more than a page,
-    /// `Proxy` if no number is free, `Space` if no slot is free; then only `cost` changes. Sets
-    /// `cost` to the steps of this call, which the order and the result determine.
+    /// With pages, makes an object of `bytes` bytes, all zero, under the number and in the slot of its class that the
+    /// order lists next. Refused, in this order: `Size` if it needs more than a page, `Proxy` if no number is free,
+    /// `Space` if no slot is free; then only `cost` changes. Sets `cost` to the steps of this call, which the order and
+    /// the result determine.
     pub fn malloc<A: Mapping>(&mut self, bytes: u32, steps: &mut Steps) -> Result<Handle, Refusal>
         requires kept { Holds A.kind self.old }
         requires room { steps.old ≤ 2 ^ 63 }
@@ -46,8 +46,7 @@ impl OpenHeap {
         result
     }
 
-    /// Makes an object as `malloc` does, or refuses it for the same causes. Leaves `cost`
-    /// unchanged.
+    /// Makes an object on pages as `malloc` does, or refuses it for the same causes. Leaves `cost` unchanged.
     fn malloc_inner<A: Mapping>(&mut self, bytes: u32, steps: &mut Steps) -> Result<Handle, Refusal>
         requires { Holds A.kind self.old }
         ensures step { IsMallocStep (state_at A.kind self.old) bytes result (state_at A.kind self.new) }
@@ -79,8 +78,8 @@ impl OpenHeap {
         }
     }
 
-    /// Returns the class of an object of `bytes` bytes, if a number and a slot of this class are
-    /// free. Else fails with the refusal that a malloc of `bytes` bytes returns.
+    /// With pages, returns the class of an object of `bytes` bytes, if a number and a slot of this class are free. Else
+    /// fails with the refusal that a malloc of `bytes` bytes returns.
     fn class_with_room<A: Mapping>(&self, bytes: u32, steps: &mut Steps) -> Result<u32, Refusal>
         requires { Holds A.kind self.now }
         ensures class { IfOk result (λ c. Some c ≡ class_of self.now.tables.classes.sizes bytes) }
@@ -102,8 +101,8 @@ impl OpenHeap {
         }
     }
 
-    /// Returns whether class c has a free slot: whether it has a partly full page, or a page is
-    /// free. Costs no step.
+    /// With pages, returns whether class c has a free slot: whether it has a partly full page, or a page is free. Costs
+    /// no step.
     pub(crate) fn has_slot(&self, c: u32) -> bool
         requires { c < self.now.lists.classes }
         ensures some { IsTrue result → HasSlot self.now.lists self.now.tables.pool c }
@@ -112,8 +111,8 @@ impl OpenHeap {
         self.lists.len(c, Which::NotFull) > 0 || self.tables.pool.left() > 0
     }
 
-    /// Binds the next free number to the address `place`, writes the header of an object of `bytes`
-    /// bytes there, and returns the number.
+    /// With pages, binds the next free number to the address `place`, writes the header of an object of `bytes` bytes
+    /// there, and returns the number.
     fn bind<A: Mapping>(&mut self, place: u32, bytes: u32, steps: &mut Steps) -> Handle
         requires laid { FitTable A.kind self.old.blocks self.old.region }
         requires some { map.len self.old.proxies.places ≢ self.old.proxies.limit }
@@ -140,8 +139,8 @@ impl OpenHeap {
         handle
     }
 
-    /// Adds an object of `bytes` bytes to the counts: the live objects of class c, the bytes asked,
-    /// and the bytes taken, which are those of its slot. Costs no step.
+    /// With pages, adds an object of `bytes` bytes to the counts: the live objects of class c, the bytes asked, and the
+    /// bytes taken, which are those of its slot. Costs no step.
     pub(crate) fn count_in(&mut self, c: u32, bytes: u32)
         requires class { c < length self.old.tables.classes.sizes }
         requires listed { c < length self.old.live }

@@ -257,7 +257,7 @@ impl<A: PageKind> PagedHeap<A> {
         }
     }
 
-    /// Sets the bound of the manager's settings and of each class to `k`, 1 to 64. Unlike at `set_bound`, objects
+    /// `PagedHeap`: sets the bound of the settings and of each class to `k`, 1 to 64. Unlike at `set_bound`, objects
     /// may be live, but no class may have more than `k` partly full pages. Costs no step.
     pub fn set_bounds(&mut self, k: u32)
         requires open { IsTrue self.old.state.is_open }
@@ -273,7 +273,7 @@ impl<A: PageKind> PagedHeap<A> {
         }
     }
 
-    /// The words of an object's slot, which a free of it clears; none if the handle is not live.
+    /// `PagedHeap`: the words of an object's slot, which a free of it clears; none if the handle is not live.
     pub fn slot_words(&self, h: Handle, steps: &mut Steps) -> Option<u32>
         requires { IsTrue self.now.state.is_open }
         ensures value { result ≡ option_map (slot_in A.kind self.now.state) (map.get self.now.state.held h.0) }
@@ -282,7 +282,8 @@ impl<A: PageKind> PagedHeap<A> {
         self.open().slot_words::<A>(h, steps)
     }
 
-    /// The class of an object of `bytes` bytes, counted from 0; none if it needs more than a page. Costs one step.
+    /// `PagedHeap`: the class of an object of `bytes` bytes, counted from 0; none if it needs more than a page. Costs
+    /// one step.
     pub fn class_of(&self, bytes: u32, steps: &mut Steps) -> Option<u32>
         requires { IsTrue self.now.state.is_open }
         ensures value { result ≡ class_of (paging_in self.now.state).sizes bytes }
@@ -291,7 +292,7 @@ impl<A: PageKind> PagedHeap<A> {
         self.open().class_of::<A>(bytes, steps)
     }
 
-    /// The number of pages of class c in the manager's heap, full or partly full.
+    /// `PagedHeap`: the number of pages of class c, full or partly full.
     pub fn pages_of(&self, c: u32) -> u32
         requires open { IsTrue self.now.state.is_open }
         requires class { c < classes_in self.now.state.kind self.now.state }
@@ -300,7 +301,7 @@ impl<A: PageKind> PagedHeap<A> {
         self.open().pages_of::<A>(c)
     }
 
-    /// The number of partly full pages of class c in the manager's heap.
+    /// `PagedHeap`: the number of partly full pages of class c.
     pub fn not_full(&self, c: u32) -> u32
         requires open { IsTrue self.now.state.is_open }
         requires class { c < classes_in self.now.state.kind self.now.state }
@@ -309,7 +310,7 @@ impl<A: PageKind> PagedHeap<A> {
         self.open().not_full::<A>(c)
     }
 
-    /// The number of free pages of the manager's heap.
+    /// `PagedHeap`: the number of free pages.
     pub fn free_pages(&self) -> u32
         requires { IsTrue self.now.state.is_open }
         ensures { result ≡ free_pages (paging_in self.now.state) self.now.state.held }
@@ -317,7 +318,7 @@ impl<A: PageKind> PagedHeap<A> {
         self.open().free_pages::<A>()
     }
 
-    /// Borrows the open heap with pages, for its figures and for calls that change nothing.
+    /// `PagedHeap`: borrows the open heap with pages, for its figures and for calls that change nothing.
     pub(crate) fn open(&self) -> &OpenHeap
         requires { IsTrue self.now.state.is_open }
         ensures kept { Holds A.kind result.now }

@@ -73,7 +73,7 @@ impl OpenHeap {
         words.and(lists.and(ProxyTable::bytes_needed(s.proxies)))
     }
 
-    /// Makes an open heap of this region and these tables, lists and proxies, each without objects.
+    /// Makes an open heap with pages of these parts, each without objects.
     fn empty<A: Mapping>(
         s: &Settings,
         region: Region,

@@ -19,7 +19,7 @@ use virtual_words::{Direct, Mapped, Mapping};
 
 /// A kind of manager with pages: what it does beside `Mapping` in its own way.
 pub trait PageKind: Mapping {
-    /// The kind: moving or non-moving.
+    /// The kind of this `PageKind`.
     fn kind() -> Kind
         ensures { result ≡ Self.kind };
 

@@ -99,8 +99,8 @@ fn find_words(heap: &OpenHeap, h: Handle, steps: &mut Steps) -> (bool, u32, u32)
     }
 }
 
-/// Lends `count` words of the region from word `first` on, for writing. After the borrow the region
-/// has the words that were written. Costs a step for each word.
+/// For a payload, lends `count` words of the region from word `first` on, for writing. After the borrow the region has
+/// the words that were written. Costs a step for each word.
 fn run_of<'a>(heap: &'a mut OpenHeap, first: u32, count: u32, steps: &mut Steps) -> &'a mut [u64]
     requires within { first + count ≤ length heap.old.region }
     ensures* writes_back { sem 𝓛 (LendsRun heap.entry first count result) }

@@ -24,11 +24,11 @@ use step_ledger::Steps;
 use virtual_words::Mapping;
 
 impl OpenHeap {
-    /// Changes an object's length to `bytes` bytes; added bytes are zeros. If its class changes, the
-    /// object moves to the slot of the new class that the order lists next. Its old slot is then freed
-    /// as `free` does. Fails, in this order, if the handle is not live, the length needs more than a
-    /// page, or the class changes and the new one has no free slot; then only `cost` changes. Sets
-    /// `cost` to the steps of this call, which the order, the lengths and the result determine.
+    /// With pages, changes an object's length to `bytes` bytes; added bytes are zeros. If its class changes, the object
+    /// moves to the slot of the new class that the order lists next. Its old slot is then freed as `free` does. Fails,
+    /// in this order, if the handle is not live, the length needs more than a page, or the class changes and the new
+    /// one has no free slot; then only `cost` changes. Sets `cost` to the steps of this call, which the order, the
+    /// lengths and the result determine.
     pub fn resize<A: Mapping>(
         &mut self,
         h: Handle,
@@ -127,9 +127,8 @@ impl OpenHeap {
         }
     }
 
-    /// Clears the bytes of an object from byte `keep` on, up to the end of the word that has its byte
-    /// `bytes - 1`. The object's header is the word `place`. Does nothing if `keep` is `bytes` or
-    /// more.
+    /// In a resize, clears the bytes of an object from byte `keep` on, up to the end of the word that has its byte
+    /// `bytes - 1`. The object's header is the word `place`. Does nothing if `keep` is `bytes` or more.
     pub(crate) fn zero_tail<A: Mapping>(
         &mut self,
         place: u32,

@@ -34,8 +34,8 @@ pub(crate) struct Change {
 }
 
 impl Change {
-    /// The number of words that the kept bytes of a resize fill, without the header. The kept bytes are
-    /// those that both the old and the new length have.
+    /// In a resize, the number of words that the kept bytes fill, without the header. The kept bytes are those that
+    /// both the old and the new length have.
     fn words(self) -> u32
         ensures { result ≡ kept_words self }
     {

@@ -162,7 +162,7 @@ pub extern "C" fn plan_is_budget_certified(
     )
 }
 
-/// The layout of the slots.
+/// For `tools/plan`, the layout of the slots.
 fn slots_if(in_blocks: bool) -> Layout
     ensures { result ≡ layout_if in_blocks }
 {

@@ -43,8 +43,8 @@ impl Model for ProxyTable {
 }
 
 impl ProxyTable {
-    /// Makes a table of `n` numbers, all free. Only this call allocates. It fails with
-    /// `OutOfMemory` if an allocation fails.
+    /// Makes a proxy table of `n` numbers, all free. Only this call allocates. It fails with `OutOfMemory` if an
+    /// allocation fails.
     pub fn new(alloc: Global, n: u32) -> Result<ProxyTable, OutOfMemory>
         ensures none { IfOk result (λ table. table ≡ no_proxies n) }
         ensures kept { IfOk result AreBelowLimit }
@@ -69,7 +69,7 @@ impl ProxyTable {
         BytesNeeded::block(8 * u64::from(n)).and(BytesNeeded::block(4 * u64::from(n)))
     }
 
-    /// How many numbers are live.
+    /// How many numbers are live in the table.
     pub fn live(&self) -> u32
         ensures count { result ≡ map.len self.now.places }
         ensures kept { AreBelowLimit self.now }
@@ -77,7 +77,7 @@ impl ProxyTable {
         self.places.len() as u32 - self.left
     }
 
-    /// Returns whether every number is live.
+    /// Returns whether every number of the table is live.
     pub fn is_full(&self) -> bool
         ensures value { IsTrue result ↔ (map.len self.now.places ≡ self.now.limit) }
         ensures kept { AreBelowLimit self.now }
@@ -85,7 +85,7 @@ impl ProxyTable {
         self.left == 0
     }
 
-    /// Returns the address of number `h`; none if it isn't live. Costs one step.
+    /// Returns the address of the table's number `h`; none if it isn't live. Costs one step.
     pub fn lookup(&self, h: Handle, steps: &mut Steps) -> Option<u32>
         ensures found { result ≡ map.get self.now.places h.0 }
         ensures kept { AreBelowLimit self.now }
@@ -100,9 +100,8 @@ impl ProxyTable {
         }
     }
 
-    /// Gives the first free number the address `addr`, which makes it live, and returns the number;
-    /// none if every number is live, and then nothing changes. Costs two steps, or one if it
-    /// returns none.
+    /// Gives the table's first free number the address `addr`, which makes it live, and returns the number; none if
+    /// every number is live, and then nothing changes. Costs two steps, or one if it returns none.
     pub fn bind(&mut self, addr: u32, steps: &mut Steps) -> Option<Handle>
         ensures none { IsNone result ↔ (map.len self.old.places ≡ self.old.limit) }
         ensures fresh { IfSome result (λ h. map.get self.old.places h.0 ≡ None) }
@@ -126,7 +125,7 @@ impl ProxyTable {
         Some(Handle(number))
     }
 
-    /// Changes the address of number `h`, which must be live, to `addr`. Costs one step.
+    /// Changes the address of the table's number `h`, which must be live, to `addr`. Costs one step.
     pub fn rebind(&mut self, h: Handle, addr: u32, steps: &mut Steps)
         requires live { IsSome (map.get self.old.places h.0) }
         ensures places { self.new ≡ with_place self.old h.0 addr }
@@ -137,7 +136,7 @@ impl ProxyTable {
         self.places.set(h.0 as usize, Some(addr), steps);
     }
 
-    /// Makes number `h`, which must be live, free; the next `bind` uses it. Costs two steps.
+    /// Makes the table's number `h`, which must be live, free; the next `bind` uses it. Costs two steps.
     pub fn release(&mut self, h: Handle, steps: &mut Steps)
         requires live { IsSome (map.get self.old.places h.0) }
         ensures places { self.new ≡ without_place self.old h.0 }
@@ -150,14 +149,14 @@ impl ProxyTable {
     }
 }
 
-/// Returns a list of `n` entries without an address.
+/// Returns a list of `n` proxy entries without an address.
 fn vacancies(alloc: Global, n: u32) -> Result<Vec<Option<u32>>, AllocError>
     ensures { IfOk result (λ places. places.items ≡ vacant n) }
 {
     vec![in alloc; None; n as usize]
 }
 
-/// Returns the numbers below `n`, the greatest first.
+/// For a proxy table, returns the numbers below `n`, the greatest first.
 fn falling(alloc: Global, n: u32) -> Result<Vec<u32>, AllocError>
     ensures { IfOk result (λ numbers. IsFalling n numbers.items) }
 {

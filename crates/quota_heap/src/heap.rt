@@ -1,5 +1,5 @@
-//! The heap that sixteen tasks share, closed or open, with its public calls: quotas, malloc, free, read, write,
-//! figures and `peek`. `OpenTasks` does all the work.
+//! `QuotaHeap`, the heap that sixteen tasks share, closed or open, with its public calls: quotas, malloc, free, read,
+//! write, lengths, figures and `peek`. `OpenTasks` does all the work.
 ghost use Rattle.std.specs.Prelude.{◌≡◌, ◌+◌, ◌^◌, ◌<◌, ◌≤◌, IsTrue, IfErr, IfOk, false, length, slice_get, sum};
 ghost use Rattle.std.specs.FinMap.{len};
 ghost use Rattle.step_ledger.specs.Counting.{RoseAtMost, RoseBy};
@@ -52,9 +52,9 @@ impl QuotaHeap {
         QuotaHeap { alloc, inner: None }
     }
 
-    /// Opens the heap of tasks with the settings `s`; an open heap is closed first. No task has an object,
-    /// and all quotas are 0. Each task gets as many proxies of its own as `s` has. Each class of a task has
-    /// bound 1, whatever bound `s` has. Fails if out of memory; the heap is closed then.
+    /// `QuotaHeap`: opens the heap of tasks with the settings `s`; an open heap is closed first. No task has an object,
+    /// and all quotas are 0. Each task gets as many proxies of its own as `s` has. Each class of a task has bound 1,
+    /// whatever bound `s` has. Fails if out of memory; the heap is closed then.
     pub fn open_heap(&mut self, s: &Settings) -> Result<(), OutOfMemory>
         ensures opened { IfOk result (λ done. self.new ≡ empty_state (profile_of s.now)) }
         ensures kept { IfOk result (λ done. KeepsTasks self.new) }
@@ -83,7 +83,7 @@ impl QuotaHeap {
         self.inner.is_some()
     }
 
-    /// The settings with which the heap of tasks was opened.
+    /// `QuotaHeap`: the settings with which the heap was opened.
     pub fn settings(&self) -> Settings
         requires { IsTrue self.now.is_open }
         ensures { profile_of result ≡ self.now.profile }
@@ -94,7 +94,7 @@ impl QuotaHeap {
         }
     }
 
-    /// A task's quota: the most pages that it may use.
+    /// A task's quota in a `QuotaHeap`: the most pages that it may use.
     pub fn quota(&self, task: u32) -> u32
         requires opened { IsTrue self.now.is_open }
         requires sixteen { task < 16 }
@@ -106,7 +106,7 @@ impl QuotaHeap {
         }
     }
 
-    /// The number of pages that hold objects of a task; it is at most the task's quota.
+    /// `QuotaHeap`: the number of pages that hold objects of a task; it is at most the task's quota.
     pub fn pages(&self, task: u32) -> u32
         requires opened { IsTrue self.now.is_open }
         requires sixteen { task < 16 }
@@ -120,7 +120,7 @@ impl QuotaHeap {
         }
     }
 
-    /// The number of live objects of a task.
+    /// `QuotaHeap`: the number of live objects of a task.
     pub fn live(&self, task: u32) -> u32
         requires opened { IsTrue self.now.is_open }
         requires sixteen { task < 16 }
@@ -132,7 +132,7 @@ impl QuotaHeap {
         }
     }
 
-    /// The number of pages that no task has as quota: the region's pages less the sum of all quotas.
+    /// `QuotaHeap`: the number of the region's pages less the sum of all quotas.
     pub fn unassigned(&self) -> u32
         requires opened { IsTrue self.now.is_open }
         ensures { result + sum self.now.quotas ≡ self.now.profile.pages }
@@ -143,9 +143,9 @@ impl QuotaHeap {
         }
     }
 
-    /// Sets the quota of a task to `pages` pages, if the region has them and the task uses no more. If it
-    /// fails, nothing changes. The causes, tested in this order: `Sum`, the quotas of all tasks would sum to
-    /// more pages than the region has; `Used`, the task already uses more than `pages` pages.
+    /// `QuotaHeap`: sets the quota of a task to `pages` pages. If it fails, nothing changes. The causes, tested in this
+    /// order: `Sum`, the quotas of all tasks would sum to more pages than the region has; `Used`, the task already uses
+    /// more than `pages` pages.
     pub fn set_quota(&mut self, task: u32, pages: u32) -> Result<(), QuotaFault>
         requires opened { IsTrue self.old.is_open }
         requires sixteen { task < 16 }
@@ -158,10 +158,10 @@ impl QuotaHeap {
         }
     }
 
-    /// Makes an object of `bytes` bytes, all zero, for a task, under a handle that was not live in this
-    /// task. If it fails, nothing changes. The causes, tested in this order: `Size`, the object is larger
-    /// than a page; `Proxy`, the task's proxies are all in use; `Space`, the task's objects with this one
-    /// need more pages than its quota.
+    /// `QuotaHeap`: makes an object of `bytes` bytes, all zero, for a task, under a handle that was not live in this
+    /// task. If it fails, nothing changes. The causes, tested in this order: `Size`, the object is larger than a page;
+    /// `Proxy`, the task's proxies are all in use; `Space`, the task's objects with this one need more pages than its
+    /// quota.
     pub fn malloc(&mut self, task: u32, bytes: u32, steps: &mut Steps) -> Result<Handle, Refusal>
         requires opened { IsTrue self.old.is_open }
         requires sixteen { task < 16 }
@@ -177,9 +177,9 @@ impl QuotaHeap {
         }
     }
 
-    /// Frees object `h` of a task. If its page was full and the task has a partly full page of the same
-    /// class, an object of that page moves to the freed slot. Returns the words of the slot, and which
-    /// object moved. Fails, with nothing changed, if the handle is not live in this task.
+    /// `QuotaHeap`: frees object `h` of a task. If its page was full and the task has a partly full page of the same
+    /// class, an object of that page moves to the freed slot. Returns the words of the slot, and which object moved.
+    /// Fails, with nothing changed, if the handle is not live in this task.
     pub fn free(&mut self, task: u32, h: Handle, steps: &mut Steps) -> Result<Freed, NotLive>
         requires opened { IsTrue self.old.is_open }
         requires sixteen { task < 16 }
@@ -195,9 +195,8 @@ impl QuotaHeap {
         }
     }
 
-    /// Writes `bytes` into object `h` of a task from byte `at` on. Fails, with nothing changed, with
-    /// `Unknown` if the handle is not live in this task, else with `Range` if the bytes pass the object's
-    /// end.
+    /// `QuotaHeap`: writes `bytes` into object `h` of a task from byte `at` on. Fails, with nothing changed, with
+    /// `Unknown` if the handle is not live in this task, else with `Range` if the bytes pass the object's end.
     pub fn write(
         &mut self,
         task: u32,
@@ -219,9 +218,9 @@ impl QuotaHeap {
         }
     }
 
-    /// Fills `out` with the bytes of object `h` of a task from byte `at` on. Fails, with `out` unchanged,
-    /// with `Unknown` if the handle is not live in this task, else with `Range` if `out` is longer than the
-    /// object's bytes from byte `at` on.
+    /// `QuotaHeap`: fills `out` with the bytes of object `h` of a task from byte `at` on. Fails, with `out` unchanged,
+    /// with `Unknown` if the handle is not live in this task, else with `Range` if `out` is longer than the object's
+    /// bytes from byte `at` on.
     pub fn read(
         &self,
         task: u32,
@@ -242,7 +241,7 @@ impl QuotaHeap {
         }
     }
 
-    /// The length of object `h` of a task in bytes. `None` if the handle is not live in this task.
+    /// `QuotaHeap`: the length of object `h` of a task in bytes. `None` if the handle is not live in this task.
     pub fn length(&self, task: u32, h: Handle, steps: &mut Steps) -> Option<u32>
         requires opened { IsTrue self.now.is_open }
         requires sixteen { task < 16 }
@@ -256,8 +255,8 @@ impl QuotaHeap {
         }
     }
 
-    /// The figures of class `c` of a task: the slot's words, the slots of a page, and how many live objects,
-    /// pages and partly full pages of the class the task has. `None` if the heap has no such class.
+    /// In a `QuotaHeap`, the figures of class `c` of a task: the slot's words, the slots of a page, and how many live
+    /// objects, pages and partly full pages of the class the task has. `None` if the heap has no such class.
     pub fn figures(&self, task: u32, c: u32) -> Option<Figures>
         requires opened { IsTrue self.now.is_open }
         requires sixteen { task < 16 }
@@ -269,7 +268,7 @@ impl QuotaHeap {
         }
     }
 
-    /// Returns the word of the tasks' region with the number `word`, or `None` past the region's end.
+    /// `QuotaHeap`: returns the word of the tasks' region with the number `word`, or `None` past the region's end.
     pub fn peek(&self, word: u32, steps: &mut Steps) -> Option<u64>
         requires opened { IsTrue self.now.is_open }
         requires room { steps.old ≤ 2 ^ 63 }

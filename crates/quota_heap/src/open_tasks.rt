@@ -1,5 +1,5 @@
-//! The body of an open heap of sixteen tasks, with all calls and their tests for refusals. Each call works on
-//! its task's own tables and on the pages that all tasks share.
+//! `OpenTasks`: the body of an open heap of sixteen tasks, with all calls and their tests for refusals. Each call works
+//! on its task's own tables and on the pages that all tasks share.
 ghost use Rattle.std.specs.Prelude.{◌≡◌, ℕ, ◌+◌, ◌^◌, ◌<◌, ◌≤◌, None, Some, IfNone, IfOk, IfSome, if◌then◌else◌, is_some, length, slice_get, slice_set, sum};
 ghost use Rattle.std.specs.FinMap.{get, len};
 ghost use Rattle.step_ledger.specs.Counting.{RoseBy};
@@ -68,7 +68,7 @@ impl OpenTasks {
         shared_pages.and(tasks_bytes(class_count(s.page_words, layout), s.pages, s.proxies))
     }
 
-    /// The quota of task `t` in pages.
+    /// `OpenTasks`: the quota of task `t` in pages.
     pub(crate) fn quota(&self, t: u32) -> u32
         requires kept { IsValid self.now }
         requires sixteen { t < 16 }
@@ -78,7 +78,7 @@ impl OpenTasks {
         task.quota
     }
 
-    /// Sets the quota of task `t` to `pages` pages. Fails, with nothing changed, with `Sum` if the quotas
+    /// `OpenTasks`: sets the quota of task `t` to `pages` pages. Fails, with nothing changed, with `Sum` if the quotas
     /// would sum to more pages than the region has, else with `Used` if the task uses more than `pages`.
     pub(crate) fn set_quota(&mut self, t: u32, pages: u32) -> Result<(), QuotaFault>
         requires kept { IsValid self.old }
@@ -97,7 +97,7 @@ impl OpenTasks {
         Ok(())
     }
 
-    /// The number of pages that hold objects of task `t`.
+    /// `OpenTasks`: the number of pages that hold objects of task `t`.
     pub(crate) fn pages(&self, t: u32) -> u32
         requires kept { IsValid self.now }
         requires sixteen { t < 16 }
@@ -107,7 +107,7 @@ impl OpenTasks {
         task.pages
     }
 
-    /// The number of live objects of task `t`.
+    /// `OpenTasks`: the number of live objects of task `t`.
     pub(crate) fn live(&self, t: u32) -> u32
         requires kept { IsValid self.now }
         requires sixteen { t < 16 }
@@ -117,7 +117,7 @@ impl OpenTasks {
         task.proxies.live()
     }
 
-    /// The number of the region's pages less `granted`, the sum of all quotas.
+    /// `OpenTasks`: the number of the region's pages less the sum of all quotas.
     pub(crate) fn unassigned(&self) -> u32
         requires kept { IsValid self.now }
         ensures { result + sum (state_of self.now).quotas ≡ self.now.shared_pages.settings.pages }
@@ -125,8 +125,8 @@ impl OpenTasks {
         self.shared_pages.settings.pages - self.granted
     }
 
-    /// Sets the quota of task `t` to `pages` pages, and the field `granted` to the parameter `granted`: the
-    /// sum of all quotas after the call.
+    /// In `OpenTasks`, sets the quota of task `t` to `pages` pages, and the field `granted` to the parameter `granted`:
+    /// the sum of all quotas after the call.
     fn grant(&mut self, t: u32, pages: u32, granted: u32)
         requires kept { IsValid self.old }
         requires sixteen { t < 16 }
@@ -140,9 +140,9 @@ impl OpenTasks {
         self.granted = granted;
     }
 
-    /// Makes an object of `bytes` bytes, all zero, for task `t`, and returns its handle. If it is refused,
-    /// nothing changes. The causes, tested in this order: `Size`, the object is larger than a page; `Proxy`,
-    /// the task's proxies are all in use; `Space`, the task would need more pages than its quota.
+    /// `OpenTasks`: makes an object of `bytes` bytes, all zero, for task `t`, and returns its handle. If it is refused,
+    /// nothing changes. The causes, tested in this order: `Size`, the object is larger than a page; `Proxy`, the task's
+    /// proxies are all in use; `Space`, the task would need more pages than its quota.
     pub(crate) fn malloc(
         &mut self,
         t: u32,
@@ -165,8 +165,8 @@ impl OpenTasks {
         Ok(self.shared_pages.malloc_inner(task, t, c, bytes, steps))
     }
 
-    /// Returns the cause for which a malloc of class `c` by task `t` is refused, `Proxy` or `Space`; `None`
-    /// if it isn't refused.
+    /// `OpenTasks`: returns the cause for which a malloc of class `c` by task `t` is refused, `Proxy` or `Space`;
+    /// `None` if it isn't refused.
     fn refusal(&self, t: u32, c: u32) -> Option<Refusal>
         requires kept { IsValid self.now }
         requires sixteen { t < 16 }
@@ -184,8 +184,8 @@ impl OpenTasks {
         None
     }
 
-    /// Frees object `h` of task `t`. If its class would then have two partly full pages, another object of the
-    /// task moves into the slot. Returns the words of the slot, and the handle of the object that moved, if one
+    /// `OpenTasks`: frees object `h` of task `t`. If its class would then have two partly full pages, another object of
+    /// the task moves into the slot. Returns the words of the slot, and the handle of the object that moved, if one
     /// did. Fails, with nothing changed, if the handle is not live in this task.
     pub(crate) fn free(&mut self, t: u32, h: Handle, steps: &mut Steps) -> Result<Freed, NotLive>
         requires kept { IsValid self.old }
@@ -201,8 +201,8 @@ impl OpenTasks {
         Ok(self.shared_pages.free_inner(owner, t, h, x, steps))
     }
 
-    /// Looks up object `h` of task `t`: its address, length and class. `None` if the handle is not live in
-    /// this task.
+    /// In `OpenTasks`, looks up object `h` of task `t`: its address, length and class. `None` if the handle is not live
+    /// in this task.
     fn object(&self, t: u32, h: Handle, steps: &mut Steps) -> Option<Found>
         requires kept { IsValid self.now }
         requires sixteen { t < 16 }
@@ -215,7 +215,7 @@ impl OpenTasks {
         self.shared_pages.object(task, h, steps)
     }
 
-    /// The length of object `h` of task `t` in bytes. `None` if the handle is not live in this task.
+    /// `OpenTasks`: the length of object `h` of task `t` in bytes. `None` if the handle is not live in this task.
     pub(crate) fn length(&self, t: u32, h: Handle, steps: &mut Steps) -> Option<u32>
         requires kept { IsValid self.now }
         requires sixteen { t < 16 }
@@ -226,7 +226,7 @@ impl OpenTasks {
         self.shared_pages.length(task, h, steps)
     }
 
-    /// Returns the address of object `h` of task `t`. Fails with `Unknown` if the handle is not live in
+    /// `OpenTasks`: returns the address of object `h` of task `t`. Fails with `Unknown` if the handle is not live in
     /// this task, and with `Range` if the object has fewer than `count` bytes from byte `at` on.
     fn find(
         &self,
@@ -245,7 +245,7 @@ impl OpenTasks {
         self.shared_pages.find(task, h, at, count, steps)
     }
 
-    /// Writes `bytes` into object `h` of task `t` from byte `at` on. Fails as `find` does, with nothing
+    /// `OpenTasks`: writes `bytes` into object `h` of task `t` from byte `at` on. Fails as `find` does, with nothing
     /// changed.
     pub(crate) fn write(
         &mut self,
@@ -273,7 +273,7 @@ impl OpenTasks {
         Ok(())
     }
 
-    /// Fills `out` with the bytes of object `h` of task `t` from byte `at` on. Fails as `find` does, with
+    /// `OpenTasks`: fills `out` with the bytes of object `h` of task `t` from byte `at` on. Fails as `find` does, with
     /// `out` unchanged.
     pub(crate) fn read(
         &self,
@@ -300,7 +300,7 @@ impl OpenTasks {
         Ok(())
     }
 
-    /// The figures of class `c` of task `t`; `None` if the heap has no such class.
+    /// `OpenTasks`: the figures of class `c` of task `t`; `None` if the heap has no such class.
     pub(crate) fn figures(&self, t: u32, c: u32) -> Option<Figures>
         requires kept { IsValid self.now }
         requires sixteen { t < 16 }
@@ -313,7 +313,7 @@ impl OpenTasks {
         }
     }
 
-    /// The figures of class `c` of task `t`; c must be one of the heap's classes. `live`, `pages` and
+    /// `OpenTasks`: the figures of class `c` of task `t`; c must be one of the heap's classes. `live`, `pages` and
     /// `not_full` count the task's live objects, pages and partly full pages of the class.
     fn figures_of(&self, t: u32, c: u32) -> Figures
         requires kept { IsValid self.now }
@@ -332,7 +332,8 @@ impl OpenTasks {
         }
     }
 
-    /// Returns the word of the region of `OpenTasks` with the number `word`, or `None` past the region's end.
+    /// `OpenTasks`: returns the word of the region with the number `word`, or `None` past the region's
+    /// end.
     pub(crate) fn peek(&self, word: u32, steps: &mut Steps) -> Option<u64>
         ensures value { result ≡ slice_get self.now.shared_pages.region word }
         ensures steps { RoseBy steps.old steps.new (peek_steps result) }

@@ -36,7 +36,7 @@ pub(crate) struct Found {
 }
 
 impl SharedPages {
-    /// Allocates the region and the tables for the settings `s`; all pages are free. Fails if out of memory.
+    /// Allocates the tasks' region and the tables for the settings `s`; all pages are free. Fails if out of memory.
     pub(crate) fn new(alloc: Global, s: &Settings) -> Result<SharedPages, OutOfMemory>
         ensures { IfOk result (λ g. AreFirstPages s.now g) }
     {
@@ -47,8 +47,8 @@ impl SharedPages {
         })
     }
 
-    /// Looks up object `h` of a task: its address, length and class. `None` if the handle is not live in
-    /// this task.
+    /// In `SharedPages`, looks up object `h` of a task: its address, length and class. `None` if the handle is not live
+    /// in this task.
     pub(crate) fn object(&self, task: &Task, h: Handle, steps: &mut Steps) -> Option<Found>
         requires shared_pages { ArePages self.now }
         requires kept { (t : ℕ) × IsTask self.now t task.now }
@@ -70,8 +70,7 @@ impl SharedPages {
         })
     }
 
-    /// Reads the length in bytes of object `h` of a task from its header. `None` if the handle is not live in
-    /// this task.
+    /// `SharedPages`: the length of object `h` of a task in bytes. `None` if the handle is not live in this task.
     pub(crate) fn length(&self, task: &Task, h: Handle, steps: &mut Steps) -> Option<u32>
         requires shared_pages { ArePages self.now }
         requires kept { (t : ℕ) × IsTask self.now t task.now }
@@ -84,8 +83,8 @@ impl SharedPages {
         Some(Header::unpack(self.region.read(place, steps)).length)
     }
 
-    /// Returns the address of object `h` of a task. Fails with `Unknown` if the handle is not live in this
-    /// task, and with `Range` if the object has fewer than `count` bytes from byte `at` on.
+    /// `SharedPages`: returns the address of object `h` of a task. Fails with `Unknown` if the handle is not live in
+    /// this task, and with `Range` if the object has fewer than `count` bytes from byte `at` on.
     pub(crate) fn find(
         &self,
         task: &Task,

@@ -39,8 +39,7 @@ pub fn admit(s: &Settings, quota: u32, needs: &[Need]) -> Admission
     }
 }
 
-/// The index of the first entry whose object is larger than a page of `page_words` words, if there
-/// is one.
+/// The index of the first declared entry whose object is larger than a page of `page_words` words, if there is one.
 pub fn first_large(page_words: u32, needs: &[Need]) -> Option<usize>
     ensures { result ≡ position (λ e. nat_lt page_words (need e.bytes)) needs.now }
 {
@@ -49,7 +48,7 @@ pub fn first_large(page_words: u32, needs: &[Need]) -> Option<usize>
         .position(|entry| page_words < need_of(entry.bytes))
 }
 
-/// The number of objects, of any length, that all entries declare together.
+/// For an admission, the number of objects, of any length, that all entries declare together.
 pub fn count_in_all(needs: &[Need]) -> u64
     requires few { length needs.now ≤ 64 }
     ensures { result ≡ declared_in_all needs.now }
@@ -57,7 +56,7 @@ pub fn count_in_all(needs: &[Need]) -> u64
     needs.iter().map(|entry| entry.count as u64).sum()
 }
 
-/// How many pages, with `slots` slots each, `count` objects need: the quotient, rounded up.
+/// For an admission, how many pages, with `slots` slots each, `count` objects need: the quotient, rounded up.
 pub fn pages_for(count: u64, slots: u64) -> u64
     requires some { 1 ≤ slots }
     requires few { count + slots < 2 ^ 63 }
@@ -66,10 +65,9 @@ pub fn pages_for(count: u64, slots: u64) -> u64
     (count + (slots - 1)) / slots
 }
 
-/// So far the objects of all classes need `pages` pages. One class, with `slots` slots to a page,
-/// has `had` of these objects. Returns how many pages all objects need after `more` objects of that
-/// class are added. If that exceeds `quota` pages, fails with how many of the added objects still
-/// fit.
+/// So far the declared objects of all classes need `pages` pages. One class, with `slots` slots to a page, has `had` of
+/// these objects. Returns how many pages all objects need after `more` objects of that class are added. If that exceeds
+/// `quota` pages, fails with how many of the added objects still fit.
 fn pages_with(quota: u64, pages: u64, had: u64, more: u64, slots: u64) -> Result<u64, u64>
     requires some { 1 ≤ slots }
     requires low { slots ≤ 4096 }
@@ -90,8 +88,8 @@ fn pages_with(quota: u64, pages: u64, had: u64, more: u64, slots: u64) -> Result
     Ok(others + pages_for(had + more, slots))
 }
 
-/// Returns the number of pages that all declared objects need. If it exceeds `quota`, fails with
-/// the number, counted from 1, of the first of their mallocs, in order, that is refused for space.
+/// For an admission, returns the number of pages that all declared objects need. If it exceeds `quota`, fails with the
+/// number, counted from 1, of the first of their mallocs, in order, that is refused for space.
 fn pages_within(s: &Settings, quota: u32, needs: &[Need]) -> Result<u32, u32>
     requires asked { CanBeAsked (profile_of s.now) needs.now }
     ensures pages { IfOk result (λ pages. pages ≡ pages_needed_by (task_paging (profile_of s.now)) (in_order needs.now)) }
@@ -103,7 +101,7 @@ fn pages_within(s: &Settings, quota: u32, needs: &[Need]) -> Result<u32, u32>
     count_pages(s, quota, &table[..classes], needs)
 }
 
-/// Does what `pages_within` does. `slot_sizes` has the words of a slot of each class.
+/// For an admission, does what `pages_within` does. `slot_sizes` has the words of a slot of each class.
 fn count_pages(s: &Settings, quota: u32, slot_sizes: &[u32], needs: &[Need]) -> Result<u32, u32>
     requires sized { slot_sizes.now ≡ sizes s.now.page_words Words }
     requires asked { CanBeAsked (profile_of s.now) needs.now }

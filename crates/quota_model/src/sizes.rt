@@ -13,7 +13,7 @@ use cf_base::{Layout, Settings, class_in};
 /// How many classes a page has at most.
 pub const CLASSES: usize = 67;
 
-/// Writes into `table` the slot sizes, in words, of pages with `page_words` words, in rising order.
+/// Writes into the fixed `table` the slot sizes, in words, of pages with `page_words` words, in rising order.
 /// Returns how many there are.
 pub fn fill_sizes(page_words: u32, layout: Layout, table: &mut [u32]) -> usize
     requires room { length table.old ≡ 67 }
@@ -49,7 +49,7 @@ fn fill_rising(unit: u32, first: u32, page: u32, table: &mut [u32]) -> usize
     count + 1
 }
 
-/// The class of an object of `bytes` bytes, which must fit a page. `slot_sizes` has the words of a
+/// By a fixed table, the class of an object of `bytes` bytes, which must fit a page. `slot_sizes` has the words of a
 /// slot of each class.
 pub(crate) fn class_at(s: &Settings, slot_sizes: &[u32], bytes: u32) -> usize
     requires sized { slot_sizes.now ≡ sizes s.now.page_words Words }
@@ -65,7 +65,7 @@ pub(crate) fn class_at(s: &Settings, slot_sizes: &[u32], bytes: u32) -> usize
     }
 }
 
-/// How many slots of the class a page has. `slot_sizes` has the words of a slot of each class.
+/// By a fixed table, how many slots of the class a page has. `slot_sizes` has the words of a slot of each class.
 pub(crate) fn slots_at(s: &Settings, slot_sizes: &[u32], class: usize) -> u32
     requires sized { slot_sizes.now ≡ sizes s.now.page_words Words }
     requires within { class < length slot_sizes.now }

@@ -55,8 +55,8 @@ pub fn reads_give_what_was_written()
     a_task_is_answered_from_its_own();
 }
 
-/// The replies to every script are a function of its lines, exactly one reply for each item. No handle,
-/// address or choice of the heap changes a reply.
+/// In mode `quota`, the replies to every script are a function of its lines, exactly one reply for each item. No
+/// handle, address or choice of the heap changes a reply.
 pub fn one_transcript_of_tasks()
     ensures run { (items : List Item) (replies : List Reply) (new : Option QuotaRun)
         → AreValidItems items → RunsQuotas None items replies new → MeetsTasks items replies }
@@ -66,8 +66,8 @@ pub fn one_transcript_of_tasks()
     a_task_is_answered_from_its_own();
 }
 
-/// A run can begin under any settings in their ranges. In each state of a run in progress every command
-/// that a script can contain has a reply, and the run is in progress after it.
+/// A run of tasks can begin under any settings in their ranges. In each state of a run in progress every command that a
+/// script can contain has a reply, and the run is in progress after it.
 pub fn each_command_has_its_turn()
     ensures begins { (p : Profile) → AreInRange p → (new : QuotaRun) × BeginsQuotas p new }
     ensures begun { (p : Profile) (new : QuotaRun) → BeginsQuotas p new → IsGoingQuotas new }
@@ -79,8 +79,8 @@ pub fn each_command_has_its_turn()
     a_page_is_there_for_each_quota();
 }
 
-/// There is a run over the items of any bytes, and each run over a prefix of them can be continued to the
-/// end.
+/// In mode `quota`, there is a run over the items of any bytes, and each run over a prefix of them can be continued to
+/// the end.
 pub fn a_run_of_tasks_can_always_go_on()
     ensures there { (given : List ℕ) (ended : Bool)
         → (replies : List Reply) × (new : Option QuotaRun) × RunsQuotas None (items given ended) replies new }
@@ -156,12 +156,12 @@ pub fn an_admitted_task_is_served()
         → AreServed task admitted.present later (drop (length before + 1) replies) }
 {}
 
-/// Wrong replies violate the claim, so it isn't empty. The scripts have two pages of 64 words and a quota of
-/// one page for task 0. The claim fails for a refusal of the quota line and of the malloc (`refused`); for a
-/// malloc that fits, with `refused space` (`room`), a reply without a line (`silent`), no reply (`missing`) or
-/// one reply too many (`over`); for `ok` to a malloc beyond the quota (`beyond`); for the bytes of another task
-/// (`foreign`); for `yes` to two objects that need a page each (`admitted`); and for `ok` to quotas of three
-/// pages (`sum`).
+/// In mode `quota`, wrong replies violate the claim, so it isn't empty. The scripts have two pages of 64 words and a
+/// quota of one page for task 0. The claim fails for a refusal of the quota line and of the malloc (`refused`); for a
+/// malloc that fits, with `refused space` (`room`), a reply without a line (`silent`), no reply (`missing`) or one
+/// reply too many (`over`); for `ok` to a malloc beyond the quota (`beyond`); for the bytes of another task
+/// (`foreign`); for `yes` to two objects that need a page each (`admitted`); and for `ok` to quotas of three pages
+/// (`sum`).
 pub fn wrong_task_replies_fall_short()
     ensures refused { ¬ MeetsTasks (items (codes "heap 2 512 1 8\nquota 0 1\nm 1 176\n") true)
         (said (codes "ok") ∷ said (codes "refused sum") ∷ said (codes "refused space") ∷ []) }

@@ -25,8 +25,8 @@ pub struct QuotaHandler {
 }
 
 impl QuotaHandler {
-    /// A handler with a new session and without settings. Allocates all memory of the session, and fails with
-    /// `OutOfMemory` if an allocation fails.
+    /// A handler of mode `quota` with a new session and without settings. Allocates all memory of the session, and
+    /// fails with `OutOfMemory` if an allocation fails.
     pub fn start(memory: Memory, alloc: Global) -> Result<QuotaHandler, OutOfMemory>
         ensures session { IfOk result (λ p. p.session ≡ first_session) }
         ensures settings { IfOk result (λ p. p.settings ≡ None) }

@@ -33,7 +33,7 @@ impl Model for Needs {
 }
 
 impl Needs {
-    /// Needs without entries.
+    /// A task's needs, without entries.
     pub(crate) fn new() -> Needs
         ensures { result ≡ [] }
     {
@@ -43,7 +43,7 @@ impl Needs {
         }
     }
 
-    /// The declared entries, the oldest first.
+    /// A task's declared entries, the oldest first.
     pub(crate) fn entries(&self) -> &[Need]
         ensures value { result.now ≡ self.now }
         ensures few { length self.now ≤ 64 }
@@ -51,7 +51,7 @@ impl Needs {
         &self.entries[..self.count]
     }
 
-    /// Adds an entry at the end and returns true; if there are 64, changes nothing and returns false.
+    /// Adds an entry at the needs' end and returns true; if there are 64, changes nothing and returns false.
     pub(crate) fn push(&mut self, entry: Need) -> bool
         ensures room { result ≡ nat_lt (length self.old) 64 }
         ensures value { self.new ≡ one_need_more self.old entry }

@@ -66,9 +66,9 @@ impl QuotaSession {
         })
     }
 
-    /// Resets the ledger to 0, does the command c on the heap, which is open with the settings `s`, and
-    /// writes its reply to the sink `out`. If the sink fails, the result is `Failed`: the command has taken
-    /// effect, and a prefix of its reply was written.
+    /// Resets the ledger to 0, does the command c on the heap of tasks, which is open with the settings `s`, and writes
+    /// its reply to the sink `out`. If the sink fails, the result is `Failed`: the command has taken effect, and a
+    /// prefix of its reply was written.
     pub fn apply<K: Sink>(
         &mut self,
         heap: &mut QuotaHeap,
@@ -92,8 +92,8 @@ impl QuotaSession {
         self.apply_ref(heap, s, c.as_ref(), out, meter.steps())
     }
 
-    /// `apply` for a command whose bytes are borrowed, and on a ledger that the caller keeps: the call doesn't
-    /// reset it, and raises it by at most `most_tasks_steps` of the command.
+    /// `QuotaSession::apply` for a command whose bytes are borrowed, and on a ledger that the caller keeps: the call
+    /// doesn't reset it, and raises it by at most `most_tasks_steps` of the command.
     pub fn apply_ref<K: Sink>(
         &mut self,
         heap: &mut QuotaHeap,
@@ -129,10 +129,10 @@ impl QuotaSession {
     }
 }
 
-/// Does the command c on the heap, which is open with the settings `s`, writes its reply to the sink
-/// `out`, and returns how the command ended (`Outcome`). `buffer` gets the bytes of a read,
-/// and `line` the text of each line of the reply. If the sink fails, the result is `Failed`: the command
-/// has taken effect, and a prefix of its reply was written.
+/// Does the command c on the heap of tasks, which is open with the settings `s`, writes its reply to the sink `out`,
+/// and returns how the command ended (`Outcome`). `buffer` gets the bytes of a read, and `line` the text of each line
+/// of the reply. If the sink fails, the result is `Failed`: the command has taken effect, and a prefix of its reply was
+/// written.
 fn answer<K: Sink>(
     records: &mut Records,
     heap: &mut QuotaHeap,
@@ -166,8 +166,8 @@ fn answer<K: Sink>(
     }
 }
 
-/// Does a command whose reply is one line, that is, any but `walk`, builds the text of the reply in `line`,
-/// and returns its outcome. `buffer` gets the bytes of a read.
+/// Does a command of mode `quota` whose reply is one line, that is, any but `walk`, builds the text of the reply in
+/// `line`, and returns its outcome. `buffer` gets the bytes of a read.
 fn build_reply(
     records: &mut Records,
     heap: &mut QuotaHeap,

@@ -30,7 +30,7 @@ unsafe impl Send for Block {}
 impl Block {
     ghost use Rattle.region.specs.BlockLoan.{LendsAll, LendsPartOf};
 
-    /// Allocates a block of `len` words, all zero; none if the allocation fails.
+    /// Allocates a region's block of `len` words, all zero; none if the allocation fails.
     pub(crate) fn new(alloc: &Global, len: usize) -> Option<Block>
         requires { len < 2 ^ 32 }
         ensures { IfSome result (λ b. b.items ≡ replicate len 0) }
@@ -45,13 +45,13 @@ impl Block {
         }
     }
 
-    /// Returns the memory to the allocator that it came from.
+    /// Returns the region's memory to the allocator that it came from.
     pub(crate) fn free(self, alloc: &Global) {
         let Block { at, len } = self;
         unsafe { alloc.deallocate(at as *mut u8, len * 8, 8) }
     }
 
-    /// Borrows all words for reading.
+    /// Borrows all words of the block for reading.
     pub(crate) fn words(&self) -> &[u64]
         ensures value { result.now ≡ self.now.items }
         ensures small { length result.now < 2 ^ 32 }
@@ -59,7 +59,7 @@ impl Block {
         unsafe { std::slice::from_raw_parts(self.at, self.len) }
     }
 
-    /// Borrows all words for writing.
+    /// Borrows all words of the block for writing.
     pub(crate) fn words_mut(&mut self) -> &mut [u64]
         ensures* writes_back { sem 𝓛 (LendsAll self.entry result) }
         ensures value { result.now ≡ self.old.items }
@@ -67,7 +67,7 @@ impl Block {
         unsafe { std::slice::from_raw_parts_mut(self.at, self.len) }
     }
 
-    /// Borrows the `n` words from index `i` on for writing.
+    /// Borrows the `n` words of the block from index `i` on for writing.
     pub(crate) fn run_mut(&mut self, i: usize, n: usize) -> &mut [u64]
         requires within { i + n ≤ length self.old.items }
         ensures* writes_back { sem 𝓛 (LendsPartOf self.entry i n result) }

@@ -18,14 +18,14 @@ pub struct Header {
 }
 
 impl Header {
-    /// Returns the header as a word.
+    /// Returns an object's header as a word.
     pub fn pack(self) -> u64
         ensures { result ≡ header_word self.handle.0 self.length }
     {
         u64::from(self.handle.0) + u64::from(self.length) * HALF
     }
 
-    /// Returns the two halves of any word as a header. Packing that header returns the word.
+    /// Returns the two halves of any word as an object's header. Packing that header returns the word.
     pub fn unpack(word: u64) -> Header
         ensures number { result.handle.0 ≡ word % 2 ^ 32 }
         ensures length { result.length ≡ word / 2 ^ 32 }

@@ -65,8 +65,8 @@ pub trait ModeHandler<H> {
         ensures plan { semantics.plan (state self.new heap.new) ≡ semantics.plan (state self.old heap.old) }
         ensures sink { SinkFailsIf (is_cut_reply result) (K.state sink.old) (K.state sink.new) };
 
-    /// Does a command on the open heap and writes its reply. If the sink fails, the command has taken effect,
-    /// and a prefix of its reply was written.
+    /// `ModeHandler`: does a command on the open heap and writes its reply. If the sink fails, the command has taken
+    /// effect, and a prefix of its reply was written.
     fn answer<K: Sink>(
         &mut self,
         heap: &mut H,

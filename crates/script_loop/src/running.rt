@@ -25,7 +25,7 @@ pub struct Script {
 }
 
 impl Script {
-    /// A script before its first chunk.
+    /// For the loop, a script before its first chunk.
     pub fn new() -> Script
         ensures reading { reading_in result ≡ fresh }
         ensures left { left_in result ≡ MOST_BYTES }

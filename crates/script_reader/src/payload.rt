@@ -41,7 +41,7 @@ impl Payload {
         }
     }
 
-    /// The bytes, from 1 to 4,096 of them.
+    /// The payload's bytes, from 1 to 4,096 of them.
     pub fn bytes(&self) -> &[u8]
         ensures value { result.now ≡ self.now }
         ensures some { 1 ≤ length self.now }

@@ -26,7 +26,7 @@ impl Model for PayloadBuffer {
 }
 
 impl PayloadBuffer {
-    /// An empty buffer.
+    /// An empty buffer for payloads.
     pub fn new() -> PayloadBuffer
         ensures { length result ≡ 0 }
     {

@@ -67,14 +67,14 @@ impl Classes {
         sizes.and(BytesNeeded::block(u64::from(page_words) + 1))
     }
 
-    /// The number of classes, at most 67.
+    /// The number of classes in the table, at most 67.
     pub fn len(&self) -> u32
         ensures { result ≡ length self.now.sizes }
     {
         self.sizes.len() as u32
     }
 
-    /// How many words a slot of class `c` has.
+    /// By `Classes`, how many words a slot of class `c` has.
     pub fn slot_words(&self, c: u32) -> u32
         requires { c < length self.now.sizes }
         ensures value { result ≡ slice_index self.now.sizes c }
@@ -84,7 +84,7 @@ impl Classes {
         self.sizes[c as usize]
     }
 
-    /// How many slots of class `c` a page has.
+    /// By `Classes`, how many slots of class `c` a page has.
     pub fn slots(&self, c: u32) -> u32
         requires { c < length self.now.sizes }
         ensures value { result ≡ slots self.now.page_words self.now.sizes c }
@@ -95,29 +95,29 @@ impl Classes {
         self.page_words / self.slot_words(c)
     }
 
-    /// How many words a page has.
+    /// By `Classes`, how many words a page has.
     pub fn page_words(&self) -> u32
         ensures { result ≡ self.now.page_words }
     {
         self.page_words
     }
 
-    /// The number of the page on which word `address` of the region is.
+    /// By `Classes`, the number of the page on which word `address` of the region is.
     pub fn page_of(&self, address: u32) -> u32
         ensures { result ≡ address / self.now.page_words }
     {
         address >> self.page_shift
     }
 
-    /// The index of word `address` of the region within its page.
+    /// By `Classes`, the index of word `address` of the region within its page.
     pub fn offset_of(&self, address: u32) -> u32
         ensures { result ≡ address % self.now.page_words }
     {
         address & (self.page_words - 1)
     }
 
-    /// The class of an object of `bytes` bytes: the one with the smallest slots that hold it and
-    /// its header; none if it needs more than a page. Costs one step.
+    /// By the table `Classes`, the class of an object of `bytes` bytes: the one with the smallest slots that hold it
+    /// and its header; none if it needs more than a page. Costs one step.
     pub fn class_of(&self, bytes: u32, steps: &mut Steps) -> Option<u32>
         ensures found { result ≡ class_of self.now.sizes bytes }
         ensures none { IsNone result ↔ (self.now.page_words < need bytes) }

@@ -112,7 +112,7 @@ pub fn is_budget_certificate(
     are_least(s.pages, &heap, prices, budget, levels, opened)
 }
 
-/// Whether the certificate is one for a heap of `pages` pages.
+/// Whether the budget's certificate is one for a heap of `pages` pages.
 fn are_least(
     pages: u32,
     heap: &HeapClasses,
@@ -186,7 +186,7 @@ fn is_level(heap: &HeapClasses, prices: &[u32], level: u32) -> bool
     true
 }
 
-/// Whether the gaps beside class i are at most `most` in all.
+/// Whether the budget's gaps beside class i are at most `most` in all.
 fn gaps_fit(
     heap: &HeapClasses,
     prices: &[u32],
@@ -231,7 +231,7 @@ fn gap_beside(
     filled.min(heap.bounds[c] as u64) * level.saturating_sub(prices[c]) as u64
 }
 
-/// The sum of the numbers.
+/// For a budget, the sum of the numbers.
 fn sum_of(numbers: &[u32]) -> u64
     requires few { length numbers.now ≤ 67 }
     ensures { result ≡ sum_by (slice_index numbers.now) (range_with_len 0 (length numbers.now)) }
@@ -263,7 +263,7 @@ fn affords(heap: &HeapClasses, prices: &[u32], budget: u32, opened: &[u32]) -> b
     true
 }
 
-/// How many objects open `pages` pages with `slots` slots each.
+/// For a budget, how many objects open `pages` pages with `slots` slots each.
 fn objects_to_open(pages: u32, slots: u32) -> u64
     requires pages { pages ≤ 4096 }
     requires slots { slots ≤ 16384 }

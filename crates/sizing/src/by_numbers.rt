@@ -58,7 +58,7 @@ pub fn pages_needed(
     }
 }
 
-/// Settings of a heap with the most proxies, 65,536, if its pages can hold each declared object.
+/// For `least_pages`, settings of a heap with the most proxies, 65,536, if its pages can hold each declared object.
 fn settings_for(page_bytes: u32, k: u32, needs: &[Need]) -> Result<Settings, NeedsFault>
     ensures few { IfOk result (λ s. length needs.now ≤ 64) }
     ensures page { IfOk result (λ s. s.page_words ≡ page_bytes / 8) }

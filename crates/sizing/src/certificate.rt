@@ -78,7 +78,7 @@ pub fn is_certified(
     are_certificate(s.pages, &heap, modes, points, resizes)
 }
 
-/// Whether the bounds are one for each size, and at least 1.
+/// For a certificate, whether the bounds are one for each size, and at least 1.
 pub(crate) fn has_bounds(sizes: &[u32], bounds: &[u32]) -> bool
     ensures { IsTrue result ↔ (length bounds.now ≡ length sizes.now)
         × ((c : ℕ) → c < length bounds.now → 1 ≤ slice_index bounds.now c) }
@@ -86,7 +86,7 @@ pub(crate) fn has_bounds(sizes: &[u32], bounds: &[u32]) -> bool
     bounds.len() == sizes.len() && bounds.iter().all(|k| *k >= 1)
 }
 
-/// Whether each mode has no more objects than a heap may have proxies.
+/// For a certificate, whether each mode has no more objects than a heap may have proxies.
 fn have_few(modes: &[ModeNeeds]) -> bool
     ensures { IsTrue result ↔ All HasFew modes.now }
 {

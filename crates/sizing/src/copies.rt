@@ -30,7 +30,7 @@ pub(crate) fn allows_resizes(
     holds_copies(pages, heap, counts, x)
 }
 
-/// Whether x leads to a point of mode j also by a resize within a class.
+/// Whether the point x leads to a point of mode j also by a resize within a class.
 fn keeps_resized(
     heap: &HeapClasses,
     points: &[PointPages],
@@ -54,7 +54,7 @@ fn keeps_resized(
     true
 }
 
-/// Whether x leads to a point of mode j if one object more of class c stays.
+/// Whether the point x leads to a point of mode j if one object more of class c stays.
 fn leads_resized(
     heap: &HeapClasses,
     points: &[PointPages],
@@ -87,7 +87,7 @@ fn holds_copies(pages: u32, heap: &HeapClasses, counts: &TwoModes, x: &PointPage
     true
 }
 
-/// Whether they do if the object leaves class c.
+/// Whether the pages hold the copies if the object leaves class c.
 fn copy_fits(pages: u32, heap: &HeapClasses, counts: &TwoModes, x: &PointPages, c: usize) -> bool
     requires { IsPaging (paging_with pages heap.now) }
     ensures { IsTrue result ↔ ((d : ℕ) → d < classes (paging_with pages heap.now) → d ≢ c → 0 < slice_index counts.now.after d
@@ -103,7 +103,7 @@ fn copy_fits(pages: u32, heap: &HeapClasses, counts: &TwoModes, x: &PointPages, 
     true
 }
 
-/// The pages of all classes while the object has slots of the classes c and d.
+/// In a resize, the pages of all classes while the object has slots of the classes c and d.
 fn pages_of_copies(heap: &HeapClasses, counts: &TwoModes, x: &PointPages, c: usize, d: usize) -> u64
     requires { IsPaging (paging_with 0 heap.now) }
     ensures { result ≡ sum_by (λ e. pages_with_copy (paging_with 0 heap.now) c d e (slice_index x.now.pages e)
@@ -117,7 +117,7 @@ fn pages_of_copies(heap: &HeapClasses, counts: &TwoModes, x: &PointPages, c: usi
     sum
 }
 
-/// The pages of class e while the object has slots of the classes c and d.
+/// In a resize, the pages of class e while the object has slots of the classes c and d.
 fn pages_of_class(
     heap: &HeapClasses,
     counts: &TwoModes,

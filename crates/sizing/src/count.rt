@@ -24,8 +24,8 @@ pub(crate) fn pages_of_needs(page_words: u32, layout: Layout, needs: &[Need]) ->
     }
 }
 
-/// Counts the pages with slots of the sizes from `first` up to `page`, each 9/8 of the one before,
-/// rounded up. Sizes are counted in units of `unit` words.
+/// For declared objects, counts the pages with slots of the sizes from `first` up to `page`, each 9/8 of the one
+/// before, rounded up. Sizes are counted in units of `unit` words.
 fn sum_over_sizes(unit: u32, first: u32, page: u32, needs: &[Need]) -> u64
     requires some { 1 ≤ first }
     requires unit { 1 ≤ unit }

@@ -69,7 +69,7 @@ fn is_point(
     true
 }
 
-/// Whether the pages of x are at least those that the objects of its mode need.
+/// Whether the pages of the point x are at least those that the objects of its mode need.
 fn has_tops(heap: &HeapClasses, mode: &ModeNeeds, x: &PointPages) -> bool
     requires heap { IsPaging (paging_with 0 heap.now) }
     requires few { HasFew mode.now }
@@ -86,7 +86,7 @@ fn has_tops(heap: &HeapClasses, mode: &ModeNeeds, x: &PointPages) -> bool
     true
 }
 
-/// The pages of x in all classes.
+/// The pages of point x in all classes.
 fn pages_of(x: &PointPages, classes: usize) -> u64
     requires few { classes ≤ 67 }
     ensures { result ≡ sum_by (slice_index x.now.pages) (range_with_len 0 classes) }
@@ -99,7 +99,7 @@ fn pages_of(x: &PointPages, classes: usize) -> u64
     sum
 }
 
-/// Whether x leads to a point of mode j, also by a resize if the program `resizes`.
+/// Whether the point x leads to a point of mode j, also by a resize if the program `resizes`.
 fn follows(
     pages: u32,
     heap: &HeapClasses,
@@ -125,7 +125,7 @@ fn follows(
     allows_resizes(pages, heap, points, &counts, x, j)
 }
 
-/// Whether x leads to a point of mode j, if of each class at most `kept` objects stay.
+/// Whether the point x leads to a point of mode j, if of each class at most `kept` objects stay.
 pub(crate) fn leads_into(
     heap: &HeapClasses,
     points: &[PointPages],
@@ -141,7 +141,7 @@ pub(crate) fn leads_into(
         .any(|y| y.mode as usize == j && leads(heap, kept, x, y))
 }
 
-/// Whether y has at least the pages of x, as far as the objects that stay can be on them.
+/// Whether the point y has at least the pages of x, as far as the objects that stay can be on them.
 fn leads(heap: &HeapClasses, kept: &[u32; CLASSES], x: &PointPages, y: &PointPages) -> bool
     requires heap { IsPaging (paging_with 0 heap.now) }
     ensures { IsTrue result ↔ LeadsTo (paging_with 0 heap.now) (slice_index kept.now) x.now y.now }
@@ -155,7 +155,7 @@ fn leads(heap: &HeapClasses, kept: &[u32; CLASSES], x: &PointPages, y: &PointPag
     true
 }
 
-/// The slots of a page of class c.
+/// For a certificate, the slots of a page of class c.
 pub(crate) fn slots_in(heap: &HeapClasses, c: usize) -> u32
     requires heap { IsPaging (paging_with 0 heap.now) }
     requires class { c < classes (paging_with 0 heap.now) }
@@ -166,7 +166,7 @@ pub(crate) fn slots_in(heap: &HeapClasses, c: usize) -> u32
     heap.page_words / heap.sizes[c]
 }
 
-/// The most pages that `n` objects can be on, `m` to a page, if at most `k` pages are partly full.
+/// For a certificate, the most pages that `n` objects can be on, `m` to a page, if at most `k` pages are partly full.
 pub(crate) fn pages_at_most(n: u32, m: u32, k: u32) -> u64
     requires some { 1 ≤ m }
     requires bound { 1 ≤ k }

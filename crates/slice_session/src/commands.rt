@@ -46,7 +46,7 @@ pub(crate) fn malloc(
     }
 }
 
-/// The reply to a malloc that the heap refused, by its cause.
+/// The reply to a malloc that the sliced heap refused, by its cause.
 fn malloc_reply(refusal: SliceRefusal) -> Short
     ensures { short_text result ≡ slice_malloc_text (Err refusal) }
 {
@@ -78,7 +78,7 @@ pub(crate) fn free(ids: &mut IdTable, heap: &mut SlicedHeap, id: u16, steps: &mu
     }
 }
 
-/// The reply to a free that the heap refused, by its cause.
+/// The reply to a free that the sliced heap refused, by its cause.
 fn free_reply(fault: SliceFault) -> Short
     ensures { short_text result ≡ slice_free_text (Some fault) }
 {
@@ -111,9 +111,9 @@ pub(crate) fn write(
     }
 }
 
-/// `r`: reads as many bytes as `buffer` holds from the object of a live id, from byte `at` on. The reply in
-/// `line` is `=` and the bytes in hexadecimal; or `unknown` if the id isn't live, or `range` if the bytes pass
-/// the object's end.
+/// `r`: reads as many bytes as `buffer` holds from the sliced heap's object of a live id, from byte `at` on. The reply
+/// in `line` is `=` and the bytes in hexadecimal; or `unknown` if the id isn't live, or `range` if the bytes pass the
+/// object's end.
 pub(crate) fn read(
     ids: &IdTable,
     heap: &SlicedHeap,
@@ -160,8 +160,8 @@ pub(crate) fn step(
     Outcome::Other
 }
 
-/// `p`: the reply in `line` is word `word` of the region, counted from 0, or `range` if the region has no such
-/// word.
+/// `p`: the reply in `line` is word `word` of the sliced heap's region, counted from 0, or `range` if the region has no
+/// such word.
 pub(crate) fn peek(heap: &SlicedHeap, word: u32, line: &mut Line, steps: &mut Steps) -> Outcome
     requires open { IsTrue heap.now.is_open }
     requires empty { line.old ≡ [] }

@@ -36,11 +36,11 @@ pub fn reads_give_what_was_written()
         → RunBy slices from None items replies new → AreReadsOf None items replies }
 {}
 
-/// The reply to a malloc names a cause of refusal if and only if this cause holds, and then nothing changes
-/// (clauses `malloc` and `refused`). So the reply is `refused space` if and only if the object fits a page, a
-/// proxy is free, and the objects with the new one need more pages than there are, whether a job is pending or
-/// not. If the reply to a free names a cause, this cause holds, and nothing changes (clause `free`). The reply
-/// to either is `busy` only if a job is pending (clauses `busy_malloc` and `busy_free`).
+/// In mode `slice`, the reply to a malloc names a cause of refusal if and only if this cause holds, and then nothing
+/// changes (clauses `malloc` and `refused`). So the reply is `refused space` if and only if the object fits a page, a
+/// proxy is free, and the objects with the new one need more pages than there are, whether a job is pending or not. If
+/// the reply to a free names a cause, this cause holds, and nothing changes (clause `free`). The reply to either is
+/// `busy` only if a job is pending (clauses `busy_malloc` and `busy_free`).
 pub fn replies_show_their_causes()
     ensures malloc { (old new : SliceRun) (id n : ℕ) (e : SliceRefusal) → get old.ids id ≡ None
         → SliceStep old (Malloc id n) (said (slice_malloc_text (Err e))) new
@@ -59,9 +59,9 @@ pub fn replies_show_their_causes()
     a_malloc_is_busy_only_with_a_job();
 }
 
-/// A run can begin with any settings in their ranges and slices of any quantum, and is then in progress
-/// (`IsGoingSliced`). In each state of a run in progress every command that a script can contain has a reply,
-/// and the run is in progress after it.
+/// A sliced run can begin with any settings in their ranges and slices of any quantum, and is then in progress
+/// (`IsGoingSliced`). In each state of a run in progress every command that a script can contain has a reply, and the
+/// run is in progress after it.
 pub fn each_command_has_its_turn()
     ensures begins { (quantum : ℕ) (p : Profile) → IsQuantum quantum → AreInRange p
         → (new : SliceRun) × BeginsSliced quantum p new }
@@ -74,8 +74,8 @@ pub fn each_command_has_its_turn()
     an_empty_heap_is_consistent();
 }
 
-/// There is a run over the items of any bytes, and each run over a prefix of them can be continued to the
-/// end.
+/// In mode `slice`, there is a run over the items of any bytes, and each run over a prefix of them can be continued to
+/// the end.
 pub fn a_sliced_run_can_always_go_on()
     ensures there { (quantum : ℕ) (given : List ℕ) (ended : Bool) → IsQuantum quantum
         → (replies : List Reply) × (new : Option SliceRun) × RunsSliced quantum None (items given ended) replies new }
@@ -87,7 +87,7 @@ pub fn a_sliced_run_can_always_go_on()
     an_empty_heap_is_consistent();
 }
 
-/// The replies of the mode handler to a script are those of a run of its session with the handler's
+/// In mode `slice`, the replies of the mode handler to a script are those of a run of its session with the handler's
 /// quantum.
 pub fn plays_are_runs()
     ensures { (from : SlicePlay) (items : List Item) (replies : List Reply) (new : Option SlicePlay)
@@ -160,14 +160,14 @@ pub fn who_is_busy_and_how_long()
         → slice_refusal t n ≡ Some Busy → slice_refusal (after_slices (a + b) t) n ≡ None }
 {}
 
-/// Wrong replies violate the claim, so it isn't empty. The script, on two pages of 64 words with slices of 8
-/// words: mallocs of objects 1 and 2, of 23 words each; `f 2`, which leaves a job; a slice; `f 1`; a malloc
-/// of a whole page; and a malloc of object 4, of 23 words. The claim holds for `ok` to the first malloc,
-/// `left 7` to the slice, `busy` to `f 1`, `ok` to the whole page and `busy` to object 4 (`right`). It fails
-/// for `refused size` to a malloc that fits (`size`), for no replies at all (`silent`), for a reply too few
-/// (`missing`) or too many (`over`), for `left 0` (`at_once`), for the words that are done instead of those
-/// left (`done`), for `ok` to a free while the job is pending (`beside`), for `busy` to a page while one is
-/// free (`page`), and for `ok` to object 4 while the job has the only slot (`slot`).
+/// In mode `slice`, wrong replies violate the claim, so it isn't empty. The script, on two pages of 64 words with
+/// slices of 8 words: mallocs of objects 1 and 2, of 23 words each; `f 2`, which leaves a job; a slice; `f 1`; a malloc
+/// of a whole page; and a malloc of object 4, of 23 words. The claim holds for `ok` to the first malloc, `left 7` to
+/// the slice, `busy` to `f 1`, `ok` to the whole page and `busy` to object 4 (`right`). It fails for `refused size` to
+/// a malloc that fits (`size`), for no replies at all (`silent`), for a reply too few (`missing`) or too many (`over`),
+/// for `left 0` (`at_once`), for the words that are done instead of those left (`done`), for `ok` to a free while the
+/// job is pending (`beside`), for `busy` to a page while one is free (`page`), and for `ok` to object 4 while the job
+/// has the only slot (`slot`).
 pub fn wrong_sliced_replies_fall_short()
     ensures right { MeetsSmallSliced (small_sliced_replies (codes "ok") (codes "left 7") (codes "busy") (codes "ok") (codes "busy")) }
     ensures size { ¬ MeetsSmallSliced (small_sliced_replies (codes "refused size") (codes "left 7") (codes "busy") (codes "ok") (codes "busy")) }

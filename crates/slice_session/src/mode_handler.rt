@@ -50,7 +50,7 @@ impl ModeHandler<SlicedHeap> for SliceHandler {
 
     ghost semantics = { slices };
 
-    /// Opens the heap with the settings of the `heap` line and the quantum, and writes the reply `ok`.
+    /// Opens the sliced heap with the settings of the `heap` line and the quantum, and writes the reply `ok`.
     fn open<K: Sink>(
         &mut self,
         heap: &mut SlicedHeap,

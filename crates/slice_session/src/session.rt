@@ -56,7 +56,7 @@ impl SliceSession {
         })
     }
 
-    /// Resets the ledger to 0, does the command c on the heap, and writes its reply to the sink `out`.
+    /// Resets the ledger to 0, does the command c on the sliced heap, and writes its reply to the sink `out`.
     /// Returns how the command ended, by its reply. If the sink fails, the result is `Failed`: the command
     /// has taken effect, and a prefix of its reply was written.
     pub fn apply<K: Sink>(
@@ -80,8 +80,8 @@ impl SliceSession {
         self.apply_ref(heap, c.as_ref(), out, meter.steps())
     }
 
-    /// `apply` for a command whose bytes are borrowed, and on a ledger that the caller keeps: the call doesn't
-    /// reset it, and raises it by at most `most_steps` of the command.
+    /// `SliceSession::apply` for a command whose bytes are borrowed, and on a ledger that the caller keeps: the call
+    /// doesn't reset it, and raises it by at most `most_steps` of the command.
     pub fn apply_ref<K: Sink>(
         &mut self,
         heap: &mut SlicedHeap,
@@ -106,7 +106,7 @@ impl SliceSession {
     }
 }
 
-/// Does the command c on the heap and builds the text of its reply in `line`, but writes it to no sink.
+/// Does the command c on the sliced heap and builds the text of its reply in `line`, but writes it to no sink.
 /// `buffer` gets the bytes of a read. Returns how the command ended, by its reply. The reply to a command of
 /// another mode is `none`.
 fn build_reply(

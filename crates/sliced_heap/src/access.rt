@@ -1,5 +1,5 @@
-//! Reads and writes bytes of the objects of an open sliced heap, also of an object in motion, whose words are
-//! in two halves; returns an object's length; and reads a word of the region (`peek`).
+//! Reads and writes bytes of the objects of an open sliced heap, also of an object in motion, whose words are in two
+//! halves; returns an object's address and length; and reads a word of the region (`peek`).
 ghost use Rattle.std.specs.Prelude.{◌≡◌, ◌+◌, ◌≤◌, if◌then◌else◌, is_some, length, slice_get, IsErr};
 ghost use Rattle.step_ledger.specs.Counting.{RoseBy};
 ghost use Rattle.slice_model.specs.Runs.{Happens, Read, Write};
@@ -16,7 +16,8 @@ use region::Header;
 use step_ledger::Steps;
 
 impl OpenHeap {
-    /// Returns the word of an open sliced heap's region with the number `word`, or `None` past the region's end.
+    /// In a sliced heap, returns the word of an open sliced heap's region with the number `word`, or `None` past the
+    /// region's end.
     pub fn peek(&self, word: u32, steps: &mut Steps) -> Option<u64>
         ensures value { result ≡ slice_get self.now.region word }
         ensures steps { RoseBy steps.old steps.new (if is_some result then 1 else 0) }
@@ -28,7 +29,8 @@ impl OpenHeap {
         }
     }
 
-    /// The address of object `h`, to which a job that moves the object moves it, or `None` if the handle is not live.
+    /// In a sliced heap, the address of object `h`, to which a job that moves the object moves it, or `None` if the
+    /// handle is not live.
     pub fn place(&self, h: Handle, steps: &mut Steps) -> Option<u32>
         requires { IsValid (seen self.now) }
         ensures value { result ≡ place_in (state_of (seen self.now)).held h.0 }
@@ -37,7 +39,7 @@ impl OpenHeap {
         self.proxies.lookup(h, steps)
     }
 
-    /// The length of object `h` in bytes, or `None` if the handle is not live.
+    /// In a sliced heap, the length of object `h` in bytes, or `None` if the handle is not live.
     pub fn length(&self, h: Handle, steps: &mut Steps) -> Option<u32>
         requires { IsValid (seen self.now) }
         ensures value { result ≡ length_in (state_of (seen self.now)).held h.0 }
@@ -50,8 +52,8 @@ impl OpenHeap {
         Some(Header::unpack(header).length)
     }
 
-    /// Fills `out` with the bytes of object `h` from byte `at` on. Fails, with `out` unchanged, if the
-    /// handle is not live or the bytes pass the object's end.
+    /// In a sliced heap, fills `out` with the bytes of object `h` from byte `at` on. Fails, with `out` unchanged, if
+    /// the handle is not live or the bytes pass the object's end.
     pub fn read(
         &self,
         h: Handle,
@@ -71,8 +73,8 @@ impl OpenHeap {
         Ok(())
     }
 
-    /// Writes `bytes` into object `h` from byte `at` on. Fails, with nothing changed, if the handle is
-    /// not live or the bytes pass the object's end.
+    /// In a sliced heap, writes `bytes` into object `h` from byte `at` on. Fails, with nothing changed, if the handle
+    /// is not live or the bytes pass the object's end.
     pub fn write(
         &mut self,
         h: Handle,
@@ -94,8 +96,8 @@ impl OpenHeap {
         Ok(())
     }
 
-    /// Returns the two halves in which the words of object `h` lie: the words that the job has already moved
-    /// to the object's address, and the others. Fails with `Unknown` if the handle is not live, and with
+    /// Returns the two halves of a sliced heap in which the words of object `h` lie: the words that the job has
+    /// already moved to the object's address, and the others. Fails with `Unknown` if the handle is not live, and with
     /// `Range` if the object has fewer than `count` bytes from byte `at` on.
     fn find(
         &self,
@@ -119,7 +121,7 @@ impl OpenHeap {
         Ok(halves)
     }
 
-    /// The two halves in which the words of object `h` with address `place` lie. Unless the pending job
+    /// The two halves in which the words of a sliced heap's object `h` with address `place` lie. Unless the pending job
     /// moves `h`, all words are at that address.
     fn halves(&self, h: Handle, place: u32) -> Halves
         ensures { result ≡ halves_of (job_of self.now.job) h.0 place }

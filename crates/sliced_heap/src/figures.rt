@@ -64,7 +64,7 @@ impl OpenHeap {
         }
     }
 
-    /// The bytes of the slots that the objects and the pending job have.
+    /// In a sliced heap, the bytes of the slots that the objects and the pending job have.
     fn taken_with_job(&self) -> u64
         requires { IsValid (seen self.now) }
         ensures { result ≡ taken_bytes (paging_at (seen self.now)) (objects (occupied (plan_of (seen self.now)) (state_of (seen self.now)))) }
@@ -76,7 +76,7 @@ impl OpenHeap {
         }
     }
 
-    /// The bytes of the objects' slots and of one more slot of class c.
+    /// In a sliced heap, the bytes of the objects' slots and of one more slot of class c.
     fn taken_with(&self, c: u32) -> u64
         requires kept { IsValid (seen self.now) }
         requires class { c < classes (paging_at (seen self.now)) }
@@ -85,7 +85,7 @@ impl OpenHeap {
         self.taken + 8 * u64::from(self.tables.classes.slot_words(c))
     }
 
-    /// The words of an object's slot, also while a job moves it; none if the handle is not live.
+    /// In a sliced heap, the words of an object's slot, also while a job moves it; none if the handle is not live.
     pub fn slot_words(&self, h: Handle, steps: &mut Steps) -> Option<u32>
         requires { IsValid (seen self.now) }
         ensures value { result ≡ slot_words_in (plan_of (seen self.now)) (state_of (seen self.now)).held h.0 }
@@ -100,7 +100,7 @@ impl OpenHeap {
         Some(self.tables.classes.slot_words(c))
     }
 
-    /// The sliced heap's class of an object of `bytes` bytes; none if it needs more than a page. Costs one step.
+    /// An open sliced heap's class of an object of `bytes` bytes; none if it needs more than a page. Costs one step.
     pub fn class_of(&self, bytes: u32, steps: &mut Steps) -> Option<u32>
         requires { IsValid (seen self.now) }
         ensures value { result ≡ class_of (paging_at (seen self.now)).sizes bytes }

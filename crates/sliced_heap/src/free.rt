@@ -19,8 +19,8 @@ use slice_model::{JobSlot, SliceFault};
 use step_ledger::Steps;
 
 impl OpenHeap {
-    /// Frees the object of handle `h`, and does the first slice of the job that this leaves. Fails, with
-    /// nothing changed, with `Unknown` if the handle is not live, else with `Busy` if a job is pending.
+    /// In a sliced heap, frees the object of handle `h`, and does the first slice of the job that this leaves.
+    /// Fails, with nothing changed, with `Unknown` if the handle is not live, else with `Busy` if a job is pending.
     pub fn free(&mut self, h: Handle, steps: &mut Steps) -> Result<(), SliceFault>
         requires { IsValid (seen self.old) }
         ensures step { Happens (plan_of (seen self.old)) (working_of (seen self.old)) (Free h.0 (fault_in result)) (working_of (seen self.new)) }
@@ -87,8 +87,8 @@ impl OpenHeap {
         k
     }
 
-    /// Counts one object less, of class c and of `bytes` bytes: in `live`, in `needed` if the other objects of the class
-    /// need one page less, and in the bytes asked and taken.
+    /// In a sliced heap, counts one object less, of class c and of `bytes` bytes: in `live`, in `needed` if the other
+    /// objects of the class need one page less, and in the bytes asked and taken.
     fn count_out(&mut self, c: u32, bytes: u32)
         requires class { c < length self.old.tables.classes.sizes }
         requires listed { c < length self.old.live }

@@ -25,7 +25,7 @@ pub struct Halves {
     pub done: u32,
 }
 
-/// Reads word `i` of the object whose halves are `s`; word 0 is its header. Costs one step.
+/// In a sliced heap, reads word `i` of the object whose halves are `s`; word 0 is its header. Costs one step.
 pub fn read_word(region: &Region, s: Halves, i: u32, steps: &mut Steps) -> u64
     requires small { length region.now < 2 ^ 32 }
     requires to { s.to + i < length region.now }

@@ -1,5 +1,6 @@
-//! The sliced heap, closed or open, with its public calls: malloc, `has_room`, free, `step`, `left`, `has_job`, `moving`,
-//! read, write, `place`, `length`, `slot_words`, `class_of`, `figures`, `totals` and `peek`. `OpenHeap` does all the work.
+//! `SlicedHeap`, the sliced heap, closed or open, with its public calls: malloc, `has_room`, free, `step`, `left`,
+//! `has_job`, `moving`, read, write, `place`, `length`, `slot_words`, `class_of`, `figures`, `totals` and `peek`.
+//! `OpenHeap` does all the work.
 ghost use Rattle.std.specs.Prelude.{◌≡◌, ◌+◌, ◌*◌, ◌^◌, ◌<◌, ◌≤◌, if◌then◌else◌, is_some, length, option_map, slice_get, IsErr, IsTrue, OnErr, OnOk};
 ghost use Rattle.cf_model.specs.Costs.{words_touched};
 ghost use Rattle.slice_model.specs.Ordered.{HappensInOrder};
@@ -73,8 +74,8 @@ impl SlicedHeap {
         self.inner.is_some()
     }
 
-    /// Opens the heap without objects, with the settings `s` and slices of at most `quantum` words; an
-    /// open heap is closed first. Each class has bound 1, whatever bound `s` has. All memory is allocated
+    /// `SlicedHeap`: opens the sliced heap without objects, with the settings `s` and slices of at most `quantum`
+    /// words; an open heap is closed first. Each class has bound 1, whatever bound `s` has. All memory is allocated
     /// here. If this fails with `OutOfMemory`, the heap is closed, and may be opened again.
     pub fn open_heap(&mut self, s: &Settings, quantum: u32) -> Result<(), OutOfMemory>
         requires least { 1 ≤ quantum }
@@ -88,7 +89,7 @@ impl SlicedHeap {
         Ok(())
     }
 
-    /// Makes an object of `bytes` bytes, all zero, in the sliced heap, under a handle that wasn't live. Fails with
+    /// Makes an object of `bytes` bytes, all zero, in the `SlicedHeap`, under a handle that wasn't live. Fails with
     /// `Size` if it needs more than a page, else with `Proxy` if every proxy is in use, else with `Space` if the
     /// objects with it would need more pages than the heap has, else with `Busy` if there is no slot for it while a job
     /// is pending. A refusal changes nothing. The object gets the next spare number of the order. It gets the lowest
@@ -122,11 +123,11 @@ impl SlicedHeap {
         }
     }
 
-    /// Frees the object of handle `h`, and does the first slice of the job that this leaves. Fails with
-    /// `Unknown` if the handle isn't live, else with `Busy` if a job is pending. A refusal changes nothing.
-    /// If the class would have two partly full pages, another object moves into the freed slot: the one
-    /// at the lowest used slot of the class's first partly full page. The slot that it leaves, or the
-    /// freed slot if no object moves, stays used until the job ends.
+    /// `SlicedHeap`: frees the object of handle `h`, and does the first slice of the job that this leaves. Fails with
+    /// `Unknown` if the handle isn't live, else with `Busy` if a job is pending. A refusal changes nothing. If the
+    /// class would have two partly full pages, another object moves into the freed slot: the one at the lowest used
+    /// slot of the class's first partly full page. The slot that it leaves, or the freed slot if no object moves, stays
+    /// used until the job ends.
     pub fn free(&mut self, h: Handle, steps: &mut Steps) -> Result<(), SliceFault>
         requires open { IsTrue self.old.is_open }
         ensures step { Happens (plan_in self.old) (working_in self.old) (Free h.0 (fault_in result)) (working_in self.new) }
@@ -142,10 +143,9 @@ impl SlicedHeap {
         }
     }
 
-    /// Does one slice of the pending job; changes nothing if none is pending. When the job's last word is
-    /// done, its slot becomes free, unless its class would then have two partly full pages. In that case
-    /// the next job moves an object into the slot: the one at the lowest used slot of the class's first
-    /// partly full page.
+    /// `SlicedHeap`: does one slice of the pending job; changes nothing if none is pending. When the job's last word is
+    /// done, its slot becomes free, unless its class would then have two partly full pages. In that case the next job
+    /// moves an object into the slot: the one at the lowest used slot of the class's first partly full page.
     pub fn step(&mut self, steps: &mut Steps)
         requires open { IsTrue self.old.is_open }
         ensures step { Happens (plan_in self.old) (working_in self.old) Step (working_in self.new) }
@@ -161,7 +161,7 @@ impl SlicedHeap {
         }
     }
 
-    /// The number of words that the pending job has yet to clear or move; 0 if none is pending.
+    /// `SlicedHeap`: the number of words that the pending job has yet to clear or move; 0 if none is pending.
     pub fn left(&self) -> u32
         requires open { IsTrue self.now.is_open }
         ensures { result ≡ left_of (plan_in self.now) (working_in self.now).state }
@@ -172,7 +172,7 @@ impl SlicedHeap {
         }
     }
 
-    /// Returns whether a job is pending.
+    /// `SlicedHeap`: returns whether a job is pending.
     pub fn has_job(&self) -> bool
         requires open { IsTrue self.now.is_open }
         ensures { result ≡ is_some (job_slot self.now.job) }
@@ -183,7 +183,7 @@ impl SlicedHeap {
         }
     }
 
-    /// The object that the pending job moves; `None` if it moves none, or no job is pending.
+    /// `SlicedHeap`: the object that the pending job moves; `None` if it moves none, or no job is pending.
     pub fn moving(&self) -> Option<Handle>
         requires open { IsTrue self.now.is_open }
         ensures { option_map (λ (h : Handle). h.0) result ≡ mover self.now.job }
@@ -194,8 +194,8 @@ impl SlicedHeap {
         }
     }
 
-    /// The address of object `h`, in words from the start of the region; `None` if the handle is not live. A job that moves
-    /// the object moves it to this address.
+    /// `SlicedHeap`: the address of object `h`, in words from the start of the region; `None` if the handle is not
+    /// live. A job that moves the object moves it to this address.
     pub fn place(&self, h: Handle, steps: &mut Steps) -> Option<u32>
         requires open { IsTrue self.now.is_open }
         ensures value { result ≡ place_in self.now.held h.0 }
@@ -207,7 +207,7 @@ impl SlicedHeap {
         }
     }
 
-    /// The length of object `h` in bytes, also while a job moves it; `None` if the handle is not live.
+    /// `SlicedHeap`: the length of object `h` in bytes, also while a job moves it; `None` if the handle is not live.
     pub fn length(&self, h: Handle, steps: &mut Steps) -> Option<u32>
         requires open { IsTrue self.now.is_open }
         ensures value { result ≡ length_in self.now.held h.0 }
@@ -219,8 +219,8 @@ impl SlicedHeap {
         }
     }
 
-    /// The words of the slot of object `h`, which a free of it clears, also while a job moves the object; `None` if the
-    /// handle is not live.
+    /// `SlicedHeap`: the words of the slot of object `h`, which a free of it clears, also while a job moves the object;
+    /// `None` if the handle is not live.
     pub fn slot_words(&self, h: Handle, steps: &mut Steps) -> Option<u32>
         requires open { IsTrue self.now.is_open }
         ensures value { result ≡ slot_words_in (plan_in self.now) self.now.held h.0 }
@@ -232,7 +232,7 @@ impl SlicedHeap {
         }
     }
 
-    /// The class that an object of `bytes` bytes has in the sliced heap, from 0; `None` if it needs more than a page.
+    /// The class that an object of `bytes` bytes has in a `SlicedHeap`, from 0; `None` if it needs more than a page.
     pub fn class_of(&self, bytes: u32, steps: &mut Steps) -> Option<u32>
         requires open { IsTrue self.now.is_open }
         ensures value { result ≡ class_of (plan_in self.now).paging.sizes bytes }
@@ -268,7 +268,7 @@ impl SlicedHeap {
         }
     }
 
-    /// Fills `out` with the bytes of object `h` from byte `at` on, also while a job moves the object.
+    /// `SlicedHeap`: fills `out` with the bytes of object `h` from byte `at` on, also while a job moves the object.
     /// Fails, with `out` unchanged, with `Unknown` if the handle is not live, and with `Range` if the
     /// bytes pass the object's end.
     pub fn read(
@@ -291,9 +291,9 @@ impl SlicedHeap {
         }
     }
 
-    /// Writes `bytes` into object `h` from byte `at` on, also while a job moves the object, and changes
-    /// nothing else. Fails, with nothing changed, with `Unknown` if the handle is not live, and with
-    /// `Range` if the bytes pass the object's end.
+    /// `SlicedHeap`: writes `bytes` into object `h` from byte `at` on, also while a job moves the object, and changes
+    /// nothing else. Fails, with nothing changed, with `Unknown` if the handle is not live, and with `Range` if the
+    /// bytes pass the object's end.
     pub fn write(
         &mut self,
         h: Handle,
@@ -317,7 +317,7 @@ impl SlicedHeap {
         }
     }
 
-    /// Returns the word of a `SlicedHeap`'s region with the number `word`, or `None` past the region's end.
+    /// `SlicedHeap`: returns the word of its region with the number `word`, or `None` past the region's end.
     pub fn peek(&self, word: u32, steps: &mut Steps) -> Option<u64>
         requires open { IsTrue self.now.is_open }
         ensures value { result ≡ slice_get self.now.words word }

@@ -23,10 +23,10 @@ use slice_model::SliceRefusal;
 use step_ledger::Steps;
 
 impl OpenHeap {
-    /// Makes an object of `bytes` bytes, all zero, and returns its handle. Refused, with nothing changed,
-    /// in this order: `Size` if it is larger than a page, `Proxy` if all proxies are in use, `Space` if
-    /// the objects with it need more pages than the heap has, `Busy` if there is no slot for it while
-    /// a job is pending.
+    /// In a sliced heap, makes an object of `bytes` bytes, all zero, and returns its handle. Refused, with
+    /// nothing changed, in this order: `Size` if it is larger than a page, `Proxy` if all proxies are in use, `Space`
+    /// if the objects with it need more pages than the heap has, `Busy` if there is no slot for it while a job is
+    /// pending.
     pub fn malloc(&mut self, bytes: u32, steps: &mut Steps) -> Result<Handle, SliceRefusal>
         requires { IsValid (seen self.old) }
         ensures step { Happens (plan_of (seen self.old)) (working_of (seen self.old)) (Malloc bytes result) (working_of (seen self.new)) }
@@ -86,7 +86,7 @@ impl OpenHeap {
         self.lists.len(c, Which::NotFull) > 0 || self.tables.pool.left() > 0
     }
 
-    /// The number of pages that one more object of class c adds to the pages that the objects need
+    /// In a sliced heap, the number of pages that one more object of class c adds to the pages that the objects need
     /// (`needed`): 1 if the live objects of the class fill whole pages exactly, else 0.
     pub(crate) fn opens_page(&self, c: u32) -> u32
         requires class { c < length self.now.tables.classes.sizes }
@@ -101,7 +101,8 @@ impl OpenHeap {
         }
     }
 
-    /// Returns whether the objects, with one more of class c, would need more pages than the heap has.
+    /// In a sliced heap, returns whether the objects, with one more of class c, would need more pages than the heap
+    /// has.
     fn is_over(&self, c: u32) -> bool
         requires class { c < length self.now.tables.classes.sizes }
         requires listed { c < length self.now.live }
@@ -112,8 +113,8 @@ impl OpenHeap {
         self.needed + self.opens_page(c) > self.settings.pages
     }
 
-    /// Binds the next free proxy to the address `place`, writes there the header of an object of `bytes`
-    /// bytes, and returns the proxy's number.
+    /// In a sliced heap, binds the next free proxy to the address `place`, writes there the header of an object of
+    /// `bytes` bytes, and returns the proxy's number.
     fn bind(&mut self, place: u32, bytes: u32, steps: &mut Steps) -> Handle
         requires some { map.len self.old.proxies.places ≢ self.old.proxies.limit }
         requires within { place < length self.old.region }
@@ -138,8 +139,8 @@ impl OpenHeap {
         handle
     }
 
-    /// Counts one more object, of class c and of `bytes` bytes: in `live`, in `needed` if it needs one more page, and in the
-    /// bytes asked and taken.
+    /// In a sliced heap, counts one more object, of class c and of `bytes` bytes: in `live`, in `needed` if it needs
+    /// one more page, and in the bytes asked and taken.
     fn count_in(&mut self, c: u32, bytes: u32)
         requires class { c < length self.old.tables.classes.sizes }
         requires listed { c < length self.old.live }

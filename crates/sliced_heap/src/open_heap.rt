@@ -69,7 +69,7 @@ impl OpenHeap {
         Ok(OpenHeap::empty(s, quantum, region, tables, lists, proxies))
     }
 
-    /// The memory that `new` of a sliced heap asks for.
+    /// The memory that `OpenHeap::new` of a sliced heap asks for.
     pub fn bytes_needed(s: &Settings) -> BytesNeeded
         ensures needed { result ≡ sliced_bytes (profile_of s.now) }
         ensures few { result.total < 2 ^ 44 }
@@ -82,8 +82,8 @@ impl OpenHeap {
         words.and(lists.and(ProxyTable::bytes_needed(s.proxies)))
     }
 
-    /// Returns the open heap that consists of these parts: a region of zeros, and tables, page lists and
-    /// proxies without an object.
+    /// Returns the open sliced heap that consists of these parts: a region of zeros, and tables, page lists and proxies
+    /// without an object.
     fn empty(
         s: &Settings,
         quantum: u32,

@@ -1,5 +1,5 @@
-//! The call `step` of an open sliced heap, which does a slice of the pending job: it clears or moves at most a
-//! quantum of words. `left` is how many words the job has left, `moving` which object it moves.
+//! The call `step` of an open sliced heap, which does a slice of the pending job: it clears or moves at most a quantum
+//! of words; and `left`, `has_job` and `moving`, which say what is pending.
 ghost use Rattle.std.specs.Prelude.{◌≡◌, ◌+◌, ◌-◌, ◌<◌, ◌≤◌, is_some, length, min, option_map, slice_index};
 ghost use Rattle.step_ledger.specs.Counting.{RoseBy};
 ghost use Rattle.slice_model.specs.Ordered.{HappensInOrder, SlicesInOrder};
@@ -18,8 +18,8 @@ use slice_model::JobSlot;
 use step_ledger::Steps;
 
 impl OpenHeap {
-    /// Does one slice of the job, if one is pending. Calls `slice` and does no more, but its contract
-    /// states the clauses of the public call `step`. `free` calls `slice` directly.
+    /// In a sliced heap, does one slice of the job, if one is pending. Calls `slice` and does no more, but its
+    /// contract states the clauses of the public call `step`. `free` calls `slice` directly.
     pub fn step(&mut self, steps: &mut Steps)
         requires { IsValid (seen self.old) }
         ensures step { Happens (plan_of (seen self.old)) (working_of (seen self.old)) Step (working_of (seen self.new)) }
@@ -32,7 +32,7 @@ impl OpenHeap {
         self.slice(steps);
     }
 
-    /// The number of words that the pending job has yet to clear or move; 0 if none is pending.
+    /// In a sliced heap, the number of words that the pending job has yet to clear or move; 0 if none is pending.
     pub fn left(&self) -> u32
         requires { IsValid (seen self.now) }
         ensures { result ≡ left_of (plan_of (seen self.now)) (state_of (seen self.now)) }
@@ -44,7 +44,7 @@ impl OpenHeap {
         }
     }
 
-    /// Returns whether a job is pending.
+    /// Returns whether a job is pending in a sliced heap.
     pub fn has_job(&self) -> bool
         ensures { result ≡ is_some (job_slot (job_of self.now.job)) }
     {
@@ -54,7 +54,7 @@ impl OpenHeap {
         }
     }
 
-    /// The object that the pending job moves; `None` if it moves none, or no job is pending.
+    /// In a sliced heap, the object that the pending job moves; `None` if it moves none, or no job is pending.
     pub fn moving(&self) -> Option<Handle>
         ensures { option_map (λ (h : Handle). h.0) result ≡ mover (job_of self.now.job) }
     {

@@ -2,7 +2,7 @@
 ghost use Rattle.std.specs.Prelude.{◌≡◌, ◌≢◌, ℕ, ◌+◌, ◌^◌, ◌<◌, ◌≤◌, cond};
 ghost use Rattle.std.specs.Int.{bit_at};
 
-/// Returns whether bit `bit` of the word is set.
+/// For slot maps, returns whether bit `bit` of the word is set.
 pub(crate) fn has_bit(word: u64, bit: u32) -> bool
     requires { bit < 64 }
     ensures { bit_at word bit ≡ cond result 1 0 }
@@ -20,7 +20,7 @@ pub(crate) fn lowest_set(word: u64) -> u32
     word.trailing_zeros()
 }
 
-/// The position of the lowest clear bit of a word that has one.
+/// For slot maps, the position of the lowest clear bit of a word that has one.
 pub(crate) fn lowest_clear(word: u64) -> u32
     requires { word + 1 < 2 ^ 64 }
     ensures within { result < 64 }
@@ -30,7 +30,7 @@ pub(crate) fn lowest_clear(word: u64) -> u32
     word.trailing_ones()
 }
 
-/// The word with its lowest `count` bits set and all others cleared.
+/// For slot maps, the word with its lowest `count` bits set and all others cleared.
 pub(crate) fn ones(count: u32) -> u64
     requires some { 1 ≤ count }
     requires few { count ≤ 64 }

@@ -33,7 +33,7 @@ impl Model for SlotMap {
 
 #[tactic(auto, using(crate::proofs::Slots::slot_rules))]
 impl SlotMap {
-    /// Makes a map of `slots` slots, all free.
+    /// Makes a `SlotMap` of `slots` slots, all free.
     pub fn new(slots: u32) -> SlotMap
         requires some { 1 ≤ slots }
         requires few { slots ≤ 4096 }
@@ -66,14 +66,14 @@ impl SlotMap {
         self.summary.with_used.set(0, steps);
     }
 
-    /// The number of slots of the page.
+    /// The number of slots of this map.
     pub fn len(&self) -> u32
         ensures { result ≡ length self.now }
     {
         self.summary.slots
     }
 
-    /// How many slots are used. Costs one step.
+    /// How many slots of this map are used. Costs one step.
     pub fn count(&self, steps: &mut Steps) -> u32
         ensures value { result ≡ count_by (λ used. used) self.now }
         ensures steps { RoseBy steps.old steps.new 1 }
@@ -82,7 +82,7 @@ impl SlotMap {
         self.summary.used
     }
 
-    /// Returns whether slot `i` is used. Costs one step.
+    /// Returns whether slot `i` of this map is used. Costs one step.
     pub fn is_used(&self, i: u32, steps: &mut Steps) -> bool
         requires { i < length self.now }
         ensures value { slice_get self.now i ≡ Some result }
@@ -91,8 +91,7 @@ impl SlotMap {
         bits::has_bit(self.words.get((i / 64) as usize, steps), i % 64)
     }
 
-    /// Returns the lowest free slot; none if all are used. Costs two steps, or one if it returns
-    /// none.
+    /// Returns the lowest free slot of this map; none if all are used. Costs two steps, or one if it returns none.
     pub fn first_free(&self, steps: &mut Steps) -> Option<u32>
         ensures found { result ≡ position (λ used. not used) self.now }
         ensures free { IfSome result (λ i. slice_get self.now i ≡ Some false) }
@@ -107,8 +106,7 @@ impl SlotMap {
         Some(64 * at + bits::lowest_clear(word))
     }
 
-    /// Returns the lowest used slot; none if all are free. Costs two steps, or one if it returns
-    /// none.
+    /// Returns the lowest used slot of this map; none if all are free. Costs two steps, or one if it returns none.
     pub fn first_used(&self, steps: &mut Steps) -> Option<u32>
         ensures found { result ≡ position (λ used. used) self.now }
         ensures used { IfSome result (λ i. slice_get self.now i ≡ Some true) }
@@ -123,7 +121,7 @@ impl SlotMap {
         Some(64 * at + bits::lowest_set(word))
     }
 
-    /// Marks slot `i`, which must be free, as used. Costs three steps.
+    /// Marks slot `i` of this map, which must be free, as used. Costs three steps.
     pub fn set(&mut self, i: u32, steps: &mut Steps)
         requires { slice_get self.old i ≡ Some false }
         ensures value { self.new ≡ slice_set self.old i true }
@@ -138,9 +136,9 @@ impl SlotMap {
         self.summary.used += 1;
     }
 
-    /// Marks the lowest free slot as used and returns it; none if all are used. Costs three steps,
-    /// or one if it returns none: it touches the summary of the free slots, one word, and the
-    /// summary of the used slots once each.
+    /// Marks the lowest free slot of this map as used and returns it; none if all are used. Costs three steps, or one
+    /// if it returns none: it touches the summary of the free slots, one word, and the summary of the used slots once
+    /// each.
     pub fn take_first(&mut self, steps: &mut Steps) -> Option<u32>
         ensures found { result ≡ position (λ used. not used) self.old }
         ensures free { IfSome result (λ i. slice_get self.old i ≡ Some false) }
@@ -161,7 +159,7 @@ impl SlotMap {
         Some(64 * at + bit)
     }
 
-    /// Marks slot `i`, which must be used, as free. Costs three steps.
+    /// Marks slot `i` of this map, which must be used, as free. Costs three steps.
     pub fn unset(&mut self, i: u32, steps: &mut Steps)
         requires { slice_get self.old i ≡ Some true }
         ensures value { self.new ≡ slice_set self.old i false }

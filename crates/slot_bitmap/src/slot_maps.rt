@@ -81,7 +81,7 @@ impl SlotMaps {
         summary.with_used.set(0, steps);
     }
 
-    /// The number of slots of a page.
+    /// The number of slots of a page in the maps.
     pub fn len(&self, page: u32) -> u32
         requires { page < length self.now.pages }
         ensures { result ≡ length (on_page self.now page) }
@@ -89,7 +89,7 @@ impl SlotMaps {
         self.pages[page as usize].slots
     }
 
-    /// How many slots of a page are used. Costs one step.
+    /// How many slots of a page in the maps are used. Costs one step.
     pub fn count(&self, page: u32, steps: &mut Steps) -> u32
         requires { page < length self.now.pages }
         ensures value { result ≡ count_by (λ used. used) (on_page self.now page) }
@@ -99,7 +99,7 @@ impl SlotMaps {
         self.pages[page as usize].used
     }
 
-    /// Returns whether slot `i` of a page is used. Costs one step.
+    /// Returns whether slot `i` of a page in the maps is used. Costs one step.
     pub fn is_used(&self, page: u32, i: u32, steps: &mut Steps) -> bool
         requires { i < length (on_page self.now page) }
         ensures value { slice_get (on_page self.now page) i ≡ Some result }
@@ -109,8 +109,8 @@ impl SlotMaps {
         bits::has_bit(self.words.get(place, steps), i % 64)
     }
 
-    /// Returns the lowest free slot of a page; none if all are used. Costs two steps, or one if it
-    /// returns none.
+    /// Returns the lowest free slot of a page in the maps; none if all are used. Costs two steps, or one if it returns
+    /// none.
     pub fn first_free(&self, page: u32, steps: &mut Steps) -> Option<u32>
         requires { page < length self.now.pages }
         ensures found { result ≡ position (λ used. not used) (on_page self.now page) }
@@ -127,8 +127,8 @@ impl SlotMaps {
         Some(64 * at + bits::lowest_clear(word))
     }
 
-    /// Returns the lowest used slot of a page; none if all are free. Costs two steps, or one if it
-    /// returns none.
+    /// Returns the lowest used slot of a page in the maps; none if all are free. Costs two steps, or one if it returns
+    /// none.
     pub fn first_used(&self, page: u32, steps: &mut Steps) -> Option<u32>
         requires { page < length self.now.pages }
         ensures found { result ≡ position (λ used. used) (on_page self.now page) }
@@ -145,7 +145,7 @@ impl SlotMaps {
         Some(64 * at + bits::lowest_set(word))
     }
 
-    /// Marks slot `i` of a page, which must be free, as used. Costs three steps.
+    /// Marks slot `i` of a page in the maps, which must be free, as used. Costs three steps.
     pub fn set(&mut self, page: u32, i: u32, steps: &mut Steps)
         requires { slice_get (on_page self.old page) i ≡ Some false }
         ensures value { self.new ≡ with_page self.old page (slice_set (on_page self.old page) i true) }
@@ -161,9 +161,9 @@ impl SlotMaps {
         summary.used += 1;
     }
 
-    /// Marks the lowest free slot of a page as used and returns it; none if all are used. Costs
-    /// three steps, or one if it returns none: it touches the summary of the free slots, one word,
-    /// and the summary of the used slots once each.
+    /// Marks the lowest free slot of a page in the maps as used and returns it; none if all are used. Costs three
+    /// steps, or one if it returns none: it touches the summary of the free slots, one word, and the summary of the
+    /// used slots once each.
     pub fn take_first(&mut self, page: u32, steps: &mut Steps) -> Option<u32>
         requires { page < length self.old.pages }
         ensures found { result ≡ position (λ used. not used) (on_page self.old page) }
@@ -187,7 +187,7 @@ impl SlotMaps {
         Some(64 * at + bit)
     }
 
-    /// Marks slot `i` of a page, which must be used, as free. Costs three steps.
+    /// Marks slot `i` of a page in the maps, which must be used, as free. Costs three steps.
     pub fn unset(&mut self, page: u32, i: u32, steps: &mut Steps)
         requires { slice_get (on_page self.old page) i ≡ Some true }
         ensures value { self.new ≡ with_page self.old page (slice_set (on_page self.old page) i false) }
@@ -203,7 +203,7 @@ impl SlotMaps {
     }
 }
 
-/// Makes a table with `width` words for each of `pages` pages, with one free slot each.
+/// Makes the maps' table with `width` words for each of `pages` pages, with one free slot each.
 fn free_table(alloc: Global, pages: u32, width: u32) -> Result<SlotMaps, AllocError>
     requires some { 1 ≤ width }
     requires few { width ≤ 64 }

@@ -34,7 +34,7 @@ impl<T: Copy, const N: usize> CellArray<T, N> {
         CellArray { items }
     }
 
-    /// Returns the value of cell `i`. Costs one step.
+    /// Returns the value of cell `i` of the array. Costs one step.
     pub fn get(&self, i: usize, steps: &mut Steps) -> T
         requires { i < N }
         ensures value { result ≡ slice_index_or self.now i result }
@@ -44,7 +44,7 @@ impl<T: Copy, const N: usize> CellArray<T, N> {
         self.items[i]
     }
 
-    /// Writes `value` to cell `i`. Costs one step.
+    /// Writes `value` to cell `i` of the array. Costs one step.
     pub fn set(&mut self, i: usize, value: T, steps: &mut Steps)
         requires { i < N }
         ensures cells { self.new ≡ slice_set self.old i value }
@@ -56,8 +56,8 @@ impl<T: Copy, const N: usize> CellArray<T, N> {
 }
 
 impl<const N: usize> CellArray<u64, N> {
-    /// Sets bit `bit` of cell `i` if `on`, else clears it. Costs one step: the word is read and
-    /// written in one access. Returns the new word.
+    /// Sets bit `bit` of cell `i` of the array if `on`, else clears it. Costs one step: the word is read and written in
+    /// one access. Returns the new word.
     pub fn write_bit(&mut self, i: usize, bit: u32, on: bool, steps: &mut Steps) -> u64
         requires cell { i < N }
         requires bit { bit < 64 }
@@ -72,8 +72,8 @@ impl<const N: usize> CellArray<u64, N> {
         word
     }
 
-    /// Sets the lowest clear bit of cell `i`, which must have a clear bit. Costs one step: the word
-    /// is read and written in one access. Returns the position of the bit, and the new word.
+    /// Sets the lowest clear bit of cell `i` of the array, which must have a clear bit. Costs one step: the word is
+    /// read and written in one access. Returns the position of the bit, and the new word.
     pub fn set_least_clear(&mut self, i: usize, steps: &mut Steps) -> (u32, u64)
         requires cell { i < N }
         requires clear { slice_index self.old i + 1 < 2 ^ 64 }
@@ -93,8 +93,8 @@ impl<const N: usize> CellArray<u64, N> {
     }
 }
 
-/// Returns the word with its bit `bit` set if `on`, else cleared. It touches no cell, so it costs
-/// no step.
+/// For counted cells, returns the word with its bit `bit` set if `on`, else cleared. It touches no cell, so it costs no
+/// step.
 pub fn with_bit(word: u64, bit: u32, on: bool) -> u64
     requires { bit < 64 }
     ensures written { WritesBit 64 word result bit on }

@@ -36,14 +36,14 @@ impl<T: Copy> Cells<T> {
         Cells { items }
     }
 
-    /// How many cells there are. Costs no step.
+    /// How many cells the list has. Costs no step.
     pub fn len(&self) -> usize
         ensures { result ≡ length self.now }
     {
         self.items.len()
     }
 
-    /// Returns the value of cell `i`. Costs one step.
+    /// Returns the value of cell `i` of the list. Costs one step.
     pub fn get(&self, i: usize, steps: &mut Steps) -> T
         requires { i < length self.now }
         ensures value { result ≡ slice_index_or self.now i result }
@@ -53,7 +53,7 @@ impl<T: Copy> Cells<T> {
         self.items[i]
     }
 
-    /// Writes `value` to cell `i`. Costs one step.
+    /// Writes `value` to cell `i` of the list. Costs one step.
     pub fn set(&mut self, i: usize, value: T, steps: &mut Steps)
         requires { i < length self.old }
         ensures cells { self.new ≡ slice_set self.old i value }
@@ -120,8 +120,8 @@ impl<T: Copy> Cells<T> {
 }
 
 impl Cells<u64> {
-    /// Sets bit `bit` of cell `i` if `on`, else clears it. Costs one step: the word is read and
-    /// written in one access. Returns the new word.
+    /// Sets bit `bit` of cell `i` of the list if `on`, else clears it. Costs one step: the word is read and written in
+    /// one access. Returns the new word.
     pub fn write_bit(&mut self, i: usize, bit: u32, on: bool, steps: &mut Steps) -> u64
         requires cell { i < length self.old }
         requires bit { bit < 64 }
@@ -136,8 +136,8 @@ impl Cells<u64> {
         word
     }
 
-    /// Sets the lowest clear bit of cell `i`, which must have a clear bit. Costs one step: the word
-    /// is read and written in one access. Returns the position of the bit, and the new word.
+    /// Sets the lowest clear bit of cell `i` of the list, which must have a clear bit. Costs one step: the word is read
+    /// and written in one access. Returns the position of the bit, and the new word.
     pub fn set_least_clear(&mut self, i: usize, steps: &mut Steps) -> (u32, u64)
         requires cell { i < length self.old }
         requires clear { slice_index self.old i + 1 < 2 ^ 64 }

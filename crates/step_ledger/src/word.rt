@@ -32,7 +32,7 @@ impl WordCell {
         WordCell { word }
     }
 
-    /// Returns the word. Costs one step.
+    /// Returns the cell's word. Costs one step.
     pub fn get(&self, steps: &mut Steps) -> u64
         ensures value { result ≡ self.now }
         ensures steps { RoseBy steps.old steps.new 1 }
@@ -41,7 +41,7 @@ impl WordCell {
         self.word
     }
 
-    /// Replaces the word. Costs one step.
+    /// Replaces the cell's word. Costs one step.
     pub fn set(&mut self, word: u64, steps: &mut Steps)
         ensures value { self.new ≡ word }
         ensures steps { RoseBy steps.old steps.new 1 }
@@ -50,8 +50,8 @@ impl WordCell {
         self.word = word;
     }
 
-    /// Sets bit `bit` of the word if `on`, else clears it. Costs one step: the word is read and
-    /// written in one access.
+    /// Sets bit `bit` of the cell's word if `on`, else clears it. Costs one step: the word is read and written in one
+    /// access.
     pub fn write_bit(&mut self, bit: u32, on: bool, steps: &mut Steps)
         requires { bit < 64 }
         ensures written { WritesBit 64 self.old self.new bit on }
@@ -62,7 +62,7 @@ impl WordCell {
         self.word = with_bit(self.word, bit, on);
     }
 
-    /// Lends the word, which the caller may then read and write. Costs one step in all.
+    /// Lends the cell's word, which the caller may then read and write. Costs one step in all.
     pub fn lend(&mut self, steps: &mut Steps) -> &mut u64
         ensures* writes_back { sem 𝓛 (Lends the_row u64 self.entry result (λ w. w)) }
         ensures value { result.now ≡ self.old }

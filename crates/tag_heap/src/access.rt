@@ -1,6 +1,6 @@
-//! The calls of an open heap with blocks that look an object up by its handle: its address, its length,
-//! the words of its block, reads and writes of its bytes, and why a resize is refused. Also `peek`,
-//! which reads any word of the region.
+//! The calls of an open heap with blocks that look an object up by its handle: its address, its length, the words of
+//! its block, reads and writes of its bytes, and why a resize is refused; and `peek`, which reads any word of the
+//! region.
 ghost use Rattle.std.specs.Prelude.{◌≡◌, ℕ, length, option_map, slice_get};
 ghost use Rattle.std.specs.FinMap as map;
 ghost use Rattle.step_ledger.specs.Counting.{RoseBy};
@@ -20,8 +20,8 @@ use region::Header;
 use step_ledger::Steps;
 
 impl<B: FitPolicy> OpenHeap<B> {
-    /// The address of the object, the first word of its block; none if the handle isn't live. Costs
-    /// one step.
+    /// With blocks, the address of the object, the first word of its block; none if the handle isn't live. Costs one
+    /// step.
     pub(crate) fn place(&self, h: Handle, steps: &mut Steps) -> Option<u32>
         ensures value { result ≡ place_of (state_of B.kind self.now) h.0 }
         ensures steps { RoseBy steps.old steps.new 1 }
@@ -29,7 +29,7 @@ impl<B: FitPolicy> OpenHeap<B> {
         self.proxies.lookup(h, steps)
     }
 
-    /// The word of the region at the index `word`, which costs one step; none past its end.
+    /// With blocks, the word of the region at the index `word`, which costs one step; none past its end.
     pub(crate) fn peek(&self, word: u32, steps: &mut Steps) -> Option<u64>
         ensures value { result ≡ slice_get (state_of B.kind self.now).words word }
         ensures rules { KeepsRules (state_of B.kind self.now) }
@@ -66,7 +66,7 @@ impl<B: FitPolicy> OpenHeap<B> {
         Ok(())
     }
 
-    /// Writes bytes into an object from byte `at` on. Fails as `read` does, and then changes nothing.
+    /// With blocks, writes bytes into an object from byte `at` on. Fails as `read` does, and then changes nothing.
     pub(crate) fn write(
         &mut self,
         h: Handle,
@@ -87,9 +87,8 @@ impl<B: FitPolicy> OpenHeap<B> {
         Ok(())
     }
 
-    /// The address of the object, if it has `count` bytes from byte `at` on. Fails with `Unknown`
-    /// if the handle isn't live, else with `Range` if the object is shorter. Costs two steps, or one
-    /// if the handle isn't live.
+    /// With blocks, the address of the object, if it has `count` bytes from byte `at` on. Fails with `Unknown` if the
+    /// handle isn't live, else with `Range` if the object is shorter. Costs two steps, or one if the handle isn't live.
     fn find(&self, h: Handle, at: u32, count: usize, steps: &mut Steps) -> Result<u32, AccessFault>
         ensures found { IsFound B.kind self.now (record { number = h.0; from = at }) count result }
         ensures steps { RoseBy steps.old steps.new (found_steps result) }
@@ -115,8 +114,8 @@ impl<B: FitPolicy> OpenHeap<B> {
         }
     }
 
-    /// The words of an object's block; none if the handle isn't live. Costs two steps, one if it
-    /// isn't.
+    /// With blocks, the words of an object's block; none if the handle isn't live. Costs two steps, one
+    /// if it isn't.
     pub(crate) fn block_words(&self, h: Handle, steps: &mut Steps) -> Option<u32>
         ensures value { result ≡ option_map (slot_in B.kind (state_of B.kind self.now)) (map.get (state_of B.kind self.now).held h.0) }
         ensures steps { RoseBy steps.old steps.new (block_words_steps result) }
@@ -127,8 +126,8 @@ impl<B: FitPolicy> OpenHeap<B> {
         }
     }
 
-    /// Why a resize of the object to any length is refused: with `Unknown` if the handle isn't
-    /// live, else with `Kind`, since heaps with blocks have no resize. Costs one step.
+    /// With blocks, why a resize of the object to any length is refused: with `Unknown` if the handle isn't live, else
+    /// with `Kind`, since heaps with blocks have no resize. Costs one step.
     pub(crate) fn resize_fault(&self, h: Handle, steps: &mut Steps) -> ResizeFault
         ensures step { (bytes : ℕ) → IsResizeFault (state_of B.kind self.now) (record { number = h.0; length = bytes }) result }
         ensures rules { KeepsRules (state_of B.kind self.now) }

@@ -30,8 +30,7 @@ impl<B: FitPolicy> OpenHeap<B> {
         }
     }
 
-    /// The bytes asked for by live objects, those of used blocks, and those of the region. Costs no
-    /// step.
+    /// With blocks, the bytes asked for by live objects, those of used blocks, and those of the region. Costs no step.
     pub(crate) fn usage(&self) -> Usage
         ensures { result ≡ usage_of (block_totals (state_of B.kind self.now)) }
     {

@@ -13,7 +13,7 @@ pub trait FitPolicy: Buckets + Drop {
     /// The kind of manager that has this fit policy.
     ghost kind: { Kind };
 
-    /// Returns this kind.
+    /// Returns this `FitPolicy`'s kind.
     fn kind() -> Kind
         ensures { result ≡ kind };
 

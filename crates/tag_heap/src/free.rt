@@ -17,10 +17,9 @@ use region::Header;
 use step_ledger::Steps;
 
 impl<B: FitPolicy> OpenHeap<B> {
-    /// Removes an object, and releases its block, which is merged with free neighbours. The free
-    /// block that results becomes the first of its list, and the object's number the first free
-    /// one. Fails if the handle isn't live, and then changes only `cost`. Sets `cost` to the steps
-    /// of this call.
+    /// Removes an object, and releases its block of `TagBlocks`, which is merged with free neighbours. The free block
+    /// that results becomes the first of its list, and the object's number the first free one. Fails if the handle
+    /// isn't live, and then changes only `cost`. Sets `cost` to the steps of this call.
     pub(crate) fn free(&mut self, h: Handle, steps: &mut Steps) -> Result<Freed, NotLive>
         requires { steps.old ≤ 2 ^ 63 }
         ensures step { IsFreeStep (state_of B.kind self.old) h.0 result (state_of B.kind self.new) }
@@ -35,7 +34,7 @@ impl<B: FitPolicy> OpenHeap<B> {
         result
     }
 
-    /// Frees an object as `free` does; fails if the handle isn't live. Leaves `cost` unchanged.
+    /// Frees an object in a block as `free` does; fails if the handle isn't live. Leaves `cost` unchanged.
     fn free_inner(&mut self, h: Handle, steps: &mut Steps) -> Result<Freed, NotLive>
         ensures step { IsFreeStep (state_of B.kind self.old) h.0 result (state_of B.kind self.new) }
         ensures rules { KeepsRules (state_of B.kind self.new) }

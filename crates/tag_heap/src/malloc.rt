@@ -36,8 +36,8 @@ impl<B: FitPolicy> OpenHeap<B> {
         result
     }
 
-    /// Adds an object as `malloc` does, or refuses it for the same causes. Leaves `cost` unchanged.
-    /// The block is carved once the object has a number, since the block's tag holds it.
+    /// Adds an object in a block as `malloc` does, or refuses it for the same causes. Leaves `cost` unchanged. The
+    /// block is carved once the object has a number, since the block's tag holds it.
     fn malloc_inner(&mut self, bytes: u32, steps: &mut Steps) -> Result<Handle, Refusal>
         ensures step { IsMallocStep (state_of B.kind self.old) bytes result (state_of B.kind self.new) }
         ensures rules { KeepsRules (state_of B.kind self.new) }
@@ -59,8 +59,8 @@ impl<B: FitPolicy> OpenHeap<B> {
         Ok(handle)
     }
 
-    /// Returns the address of the free block that a malloc of `bytes` bytes would take now, or
-    /// fails with the refusal that it would return. Changes nothing.
+    /// With blocks, returns the address of the free block that a malloc of `bytes` bytes would take now, or fails with
+    /// the refusal that it would return. Changes nothing.
     pub(crate) fn room(&self, bytes: u32, steps: &mut Steps) -> Result<u32, Refusal>
         ensures room { IsBlockFor B.rule B.kind self.now bytes result }
         ensures answer { IsHasRoomAnswer (state_of B.kind self.now) bytes (done_by result) }

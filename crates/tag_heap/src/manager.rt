@@ -60,7 +60,7 @@ impl<B: FitPolicy> TagHeap<B> {
         OpenHeap::<B>::bytes_needed(s)
     }
 
-    /// The words of an object's block, which a free of it returns; none if the handle isn't live.
+    /// `TagHeap`: the words of an object's block, which a free of it returns; none if the handle isn't live.
     pub fn block_words(&self, h: Handle, steps: &mut Steps) -> Option<u32>
         requires { IsTrue self.now.is_open }
         ensures value { result ≡ option_map (slot_in B.kind self.now) (map.get self.now.held h.0) }
@@ -69,7 +69,7 @@ impl<B: FitPolicy> TagHeap<B> {
         self.open().block_words(h, steps)
     }
 
-    /// Borrows the open heap with blocks, for calls that change nothing.
+    /// `TagHeap`: borrows the open heap with blocks, for calls that change nothing.
     fn open(&self) -> &OpenHeap<B>
         requires { IsTrue self.now.is_open }
         ensures { state_of B.kind result.now ≡ self.now }

@@ -21,8 +21,8 @@ pub struct Sessions {
 }
 
 impl Sessions {
-    /// `count` new sessions, in which no id is live. Allocates the table of 65,536 ids of each, and fails with
-    /// `OutOfMemory` if an allocation fails.
+    /// For mode `compare`, `count` new sessions, in which no id is live. Allocates the table of 65,536 ids of each, and
+    /// fails with `OutOfMemory` if an allocation fails.
     pub fn start(memory: Memory, alloc: Global, count: usize) -> Result<Sessions, OutOfMemory>
         ensures { IfOk result (λ s. AreFresh count s.each.items) }
     {
@@ -60,7 +60,7 @@ impl<H: Manager> ModeHandler<Vec<H>> for Sessions {
         Ok(())
     }
 
-    /// Does the command on each manager in order and writes their replies.
+    /// In mode `compare`, does the command on each manager in order and writes their replies.
     fn answer<K: Sink>(
         &mut self,
         heap: &mut Vec<H>,

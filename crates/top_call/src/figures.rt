@@ -21,8 +21,8 @@ pub struct BenchFigures {
 }
 
 impl BenchFigures {
-    /// Writes the line of the numbers in one call of the sink. Returns `Done`, or `WriteFault` if the sink
-    /// failed.
+    /// In mode `bench`, writes the line of the numbers in one call of the sink. Returns `Done`, or `WriteFault` if the
+    /// sink failed.
     pub(crate) fn put<K: Sink>(&self, sink: &mut K) -> Status
         ensures written { IsWritten result (K.state sink.old).written (led [] (said (bench_line self.now))) (K.state sink.new).written }
         ensures sink { SinkFailsIf (is_write_fault result) (K.state sink.old) (K.state sink.new) }

@@ -5,7 +5,7 @@ ghost use Rattle.top_call.specs.FirstOfKind.{first_of_kind, same_kind};
 use cf_base::Kind;
 use cf_model::Manager;
 
-/// Whether the two kinds are the same.
+/// For mode `run`, whether the two kinds are the same.
 fn is_same(one: Kind, other: Kind) -> bool
     ensures { result ≡ same_kind one other }
 {
@@ -18,7 +18,7 @@ fn is_same(one: Kind, other: Kind) -> bool
     }
 }
 
-/// The index of the first manager of the kind in the list, counted from 0; `None` if there is none.
+/// For mode `run`, the index of the first manager of the kind in the list, counted from 0; `None` if there is none.
 pub fn first_of<H: Manager>(managers: &Vec<H>, kind: Kind) -> Option<usize>
     ensures { result ≡ first_of_kind kind (map (λ m. H.state m) managers.now.items) }
 {

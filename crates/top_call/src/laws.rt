@@ -1,7 +1,8 @@
-//! Laws of many managers on one script (mode `compare`), and of calls of `cf_main`: when two print the same bytes.
-//! Each manager has its own run and meets the headline; a cut reply stops between two managers; what was written is
-//! a prefix. On managers that promise an order, a call prints the replies of runs in that order. And of long objects:
-//! which numbers give their step bounds. The functions do nothing: their contracts are the laws.
+//! Laws of many managers on one script (mode `compare`), and of calls of `cf_main`: the run and the output of each
+//! manager, and when two calls print the same bytes. Each manager has its own run and meets the headline; a cut reply
+//! stops between two managers; what was written is a prefix. On managers that promise an order, a call prints the
+//! replies of runs in that order. And of long objects: which numbers give their step bounds. The functions do nothing:
+//! their contracts are the laws.
 ghost use Rattle.std.specs.Prelude.{◌≡◌, ℕ, IsSome, List, Option, map, ◌++◌, [], None, Some, option_map};
 ghost use Rattle.std.specs.List.{All};
 ghost use Rattle.clap.specs.Words.{Text};
@@ -27,11 +28,11 @@ use cf_model::StepBounds;
 use moving_heap::MovingHeap;
 use nonmoving_heap::NonMovingHeap;
 
-/// Two calls with the same arguments and the same input print the same bytes and return the same
-/// status, whatever the chunks of their sources, if each item of the script has its reply, or the image
-/// is loaded. This includes each address, word and cost, on managers of any kind. In the modes `run` and
-/// `compare` the managers are of the same kinds, and those that run promise an order before the call,
-/// as the managers of this repository do. What they held before may differ.
+/// Two calls of `cf_main` with the same arguments and the same input print the same bytes and return the same status,
+/// whatever the chunks of their sources, if each item of the script has its reply, or the image is loaded. This
+/// includes each address, word and cost, on managers of any kind. In the modes `run` and `compare` the managers are of
+/// the same kinds, and those that run promise an order before the call, as the managers of this repository do. What
+/// they held before may differ.
 pub fn equal_scripts_get_equal_output()
     ensures { (words : List Text) (choice : Choice) (all : List ℕ) (one two : TopCall) → Chooses words choice
         → KeepsContract words one → KeepsContract words two
@@ -63,8 +64,8 @@ pub fn a_comparison_in_order_is_printed()
         → AreRunsInOrder kinds items replies → AreRunsInOrder kinds items others → others ≡ replies }
 {}
 
-/// Managers that were never open promise an order, whatever their kinds. So they have no choice in any
-/// mode (`LeavesNoChoice`), and two calls of the tool on one script print the same.
+/// For calls of `cf_main`, managers that were never open promise an order, whatever their kinds. So they have no choice
+/// in any mode (`LeavesNoChoice`), and two calls of the tool on one script print the same.
 pub fn closed_managers_leave_no_choice()
     ensures { (mode : Mode) (choice : Choice) (kinds : List Kind)
         → LeavesNoChoice mode choice (map closed_state kinds) }
@@ -84,23 +85,23 @@ pub fn equal_benches_print_equal_lines()
         → written ≡ after }
 {}
 
-/// If managers of these kinds run side by side over some items, each of them has a run of its own over the
-/// same items, and the replies side by side interleave the replies of these runs.
+/// In mode `compare`, if managers of these kinds run side by side over some items, each of them has a run of its own
+/// over the same items, and the replies side by side interleave the replies of these runs.
 pub fn each_has_its_own_run()
     ensures { (kinds : List Kind) (items : List Item) (replies : List Reply) (end : Option (List RunState))
         → PlayRun (EachBegins kinds) EachTurn None items replies end
         → OwnRuns kinds items replies end }
 {}
 
-/// If each manager has a run of its own over some items, the replies of this run meet the headline of its
-/// kind.
+/// In mode `compare`, if each manager has a run of its own over some items, the replies of this run meet the headline
+/// of its kind.
 pub fn each_meets_the_headline()
     ensures { (kinds : List Kind) (items : List Item) (replies : List Reply) (end : Option (List RunState))
         → OwnRuns kinds items replies end → MeetHeadlines kinds items replies }
 {}
 
-/// Each manager has a run of its own over the items `before`. If the reply to the next item, a command, was
-/// cut after its prefix `front`, the managers up to the one whose reply was cut have done the command, and
+/// In mode `compare`, each manager has a run of its own over the items `before`. If the reply to the next item, a
+/// command, was cut after its prefix `front`, the managers up to the one whose reply was cut have done the command, and
 /// the later ones have not.
 pub fn a_cut_stops_between_two_managers()
     ensures { (kinds : List Kind) (before : List Item) (replies : List Reply) (mid : Option (List RunState))
@@ -110,9 +111,9 @@ pub fn a_cut_stops_between_two_managers()
         → OwnRunsInPart kinds before item replies front end }
 {}
 
-/// What follows from the claims of the script loop (`Wrote`, `WroteInPart`) on many managers. Each manager has
-/// a run of its own over the script if all was written (clause `whole`), or up to a cut reply (`in_part`). In
-/// both cases each manager is left in the last state of its run (`stand`, `stand_in_part`).
+/// For mode `compare`, what follows from the claims of the script loop (`Wrote`, `WroteInPart`) on many managers. Each
+/// manager has a run of its own over the script if all was written (clause `whole`), or up to a cut reply (`in_part`).
+/// In both cases each manager is left in the last state of its run (`stand`, `stand_in_part`).
 pub fn outcomes_are_of_each()
     ensures whole { (from to : SideBySide) (wanted : List Item) (call : Effects)
         (w : Wrote many_managers from wanted call to)
@@ -128,8 +129,8 @@ pub fn outcomes_are_of_each()
         → EachEndsAt from.heaps (option_map runs_of w.end) to.heaps }
 {}
 
-/// If the managers' runs have begun with a `heap` line, each manager is open after its run, keeps its
-/// rules, and is consistent with its session, whether all was written (clause `whole`) or a reply was cut
+/// In mode `compare`, if the managers' runs have begun with a `heap` line, each manager is open after its run, keeps
+/// its rules, and is consistent with its session, whether all was written (clause `whole`) or a reply was cut
 /// (`in_part`).
 pub fn each_manager_is_open_after_its_run()
     ensures whole { (kinds : List Kind) (items : List Item) (replies : List Reply) (all : List RunState)
@@ -139,16 +140,17 @@ pub fn each_manager_is_open_after_its_run()
         → OwnRunsInPart kinds before item replies front (Some all) → All IsGoing all }
 {}
 
-/// The output before the sink failed is a prefix of the output of a run of all managers over the whole
-/// script.
+/// In mode `compare`, the output before the sink failed is a prefix of the output of a run of all managers over the
+/// whole script.
 pub fn what_was_cut_is_a_prefix()
     ensures { (from to : SideBySide) (call : Effects) (all : List ℕ)
         → (w : WroteInPart many_managers from (items_within all) call to)
         → IsPrefixBy many_managers from (items_within all) (text_of [] w.replies ++ w.front) }
 {}
 
-/// The steps of long objects are bounded from those of their inner manager. These are the numbers for a moving
-/// and for a non-moving one: they follow from the step bounds and from the order that the manager itself promises.
+/// In calls of `cf_main`, the steps of long objects are bounded from those of their inner manager. These are the
+/// numbers for a moving and for a non-moving one: they follow from the step bounds and from the order that the manager
+/// itself promises.
 pub fn long_objects_take_the_steps_of_their_manager()
     ensures moving { (s : HeapState) → s.kind ≡ Moving → IsSome s.order
         → AreInnerCosts s ⟦<MovingHeap as StepBounds>⟧.most moving_costs }

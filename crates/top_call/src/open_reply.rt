@@ -8,8 +8,8 @@ use cf_base::{Failed, Kind};
 use cf_io::{Line, Sink, put_all};
 use cf_model::Manager;
 
-/// Writes a line for each manager in order: the name of its kind, and `ok`. Returns `Failed` if the sink
-/// failed; then a prefix of these lines was written.
+/// In mode `compare`, writes a line for each manager in order: the name of its kind, and `ok`. Returns `Failed` if the
+/// sink failed; then a prefix of these lines was written.
 pub fn put_opened<H: Manager, K: Sink>(managers: &Vec<H>, sink: &mut K) -> Result<(), Failed>
     ensures { Writes (K.state sink.old) (led [] (opened_reply (map (λ m. (H.state m).kind) managers.now.items))) result (K.state sink.new) }
 {
@@ -22,8 +22,8 @@ pub fn put_opened<H: Manager, K: Sink>(managers: &Vec<H>, sink: &mut K) -> Resul
     Ok(())
 }
 
-/// Writes the line of one manager: the name of its kind, and `ok`. Returns `Failed` if the sink failed; then a
-/// prefix of the line was written.
+/// In mode `compare`, writes the line of one manager: the name of its kind, and `ok`. Returns `Failed` if the sink
+/// failed; then a prefix of the line was written.
 fn show_one<K: Sink>(kind: Kind, sink: &mut K) -> Result<(), Failed>
     ensures { Writes (K.state sink.old) (lead_of kind ++ codes "ok\n") result (K.state sink.new) }
 {

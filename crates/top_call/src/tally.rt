@@ -12,7 +12,7 @@ pub(crate) struct Tally {
 }
 
 impl Tally {
-    /// Counts one more reply, by its outcome; `Other` is counted in neither.
+    /// For mode `bench`, counts one more reply, by its outcome; `Other` is counted in neither.
     pub(crate) fn add(&mut self, outcome: Outcome)
         requires { self.old.ok + self.old.refused + 1 < 2 ^ 64 }
         ensures ok { self.new.ok ≡ self.old.ok + cond (is_good outcome) 1 0 }
