@@ -1,8 +1,8 @@
-//! The sliced heap as a library for C. `include/norphuen.h` describes each export for C. An export calls the function
-//! of this crate that its comment names, and its contract is that function's. Each export that takes a heap, but
-//! `nph_sliced_close`, returns a code: 0 (`DONE`) if the call is done, else the cause (`c_base`, file `codes`). Of
-//! these each but `nph_sliced_open` returns `CLOSED` and changes nothing while the heap is closed, and each but
-//! `nph_sliced_return` returns `LENT` and changes nothing while it is lent (`IsCallOnOpen`).
+//! The sliced heap as a library for C. `include/norphuen.h` describes each export for C. An export whose comment names a
+//! function calls it, and has its contract. Each export that takes a heap, but `nph_sliced_close`, returns a code: 0
+//! (`DONE`) if the call is done, else the cause (`c_base`, file `codes`). Of these each but `nph_sliced_open` returns
+//! `CLOSED` and changes nothing while the heap is closed, and each but `nph_sliced_return` returns `LENT` and changes
+//! nothing while it is lent (`IsCallOnOpen`).
 #![tactic(auto)]
 
 ghost use Rattle.std.specs.Prelude.{◌≡◌};
@@ -18,16 +18,29 @@ ghost use Rattle.norphuen_sliced.specs.Needed.{IsNeededCall};
 mod held;
 pub mod laws;
 mod loose;
-mod most;
 mod sliced;
 
+use crate::held::Held;
 use crate::sliced::NphHeap;
-use c_base::{NphClass, NphHeapTotals, NphNeeded, VERSION};
+use c_base::{
+    BUSY, DONE, MEMORY, NphClass, NphHeapTotals, NphNeeded, QUANTUM, VERSION, needed_with,
+    of_setting,
+};
+use cf_base::Settings;
+use sliced_heap::SlicedHeap;
+use std::mem::size_of;
 use std::rt::Memory;
 
-/// Opens the heap with these settings: `pages` pages of `page_bytes` bytes, at most `proxies` live objects, and slices of at
-/// most `quantum` words (`NphHeap::open`). `memory`, here and in `nph_sliced_close`, is the kit's value for the memory of
-/// the process; a caller in C passes none.
+/// The bytes of the block of an open heap.
+const HELD_BYTES: u64 = 944;
+
+const _: () = prove!(size_of::<Held>() == 944);
+
+/// Opens a heap without objects, with these settings: `pages` pages of `page_bytes` bytes, at most `proxies` live objects, and
+/// slices of at most `quantum` words. Returns `DONE`; else, with nothing changed, `LENT` or `OPEN` if the heap is lent or open
+/// already, the code of the first setting out of range, `QUANTUM` if the quantum is not 1 to 16,384, or `MEMORY`. No other call of
+/// the heap allocates. `memory`, here and in `nph_sliced_close`, is the kit's value for the memory of the process; a caller in C
+/// passes none.
 #[unsafe(no_mangle)]
 pub extern "C" fn nph_sliced_open(
     heap: &mut NphHeap,
@@ -39,11 +52,31 @@ pub extern "C" fn nph_sliced_open(
 ) -> i32
     ensures { IsOpenCall (held_in heap.old) pages page_bytes proxies quantum result (held_in heap.new) }
 {
-    heap.open(memory, pages, page_bytes, proxies, quantum)
+    let heap = heap.inner();
+    let last = match heap.closed() {
+        Ok(last) => last,
+        Err(code) => return code,
+    };
+    match Settings::check(pages, page_bytes, 1, proxies) {
+        Err(fault) => of_setting(fault),
+        Ok(s) => {
+            if 1 <= quantum && quantum <= 16384 {
+                match Held::open(memory, &s, quantum, last) {
+                    Some(held) => {
+                        heap.put(held);
+                        DONE
+                    }
+                    None => MEMORY,
+                }
+            } else {
+                QUANTUM
+            }
+        }
+    }
 }
 
-/// Writes into `needed` what `nph_sliced_open` with these settings asks of the functions that take and return memory: how
-/// many blocks, the bytes of all, and those of the largest (`NphHeap::bytes_needed`). The quantum makes no difference.
+/// Writes into `needed` what `nph_sliced_open` with these settings, and any quantum, asks of the functions that take and return
+/// memory: how many blocks, the bytes of all, and those of the largest.
 #[unsafe(no_mangle)]
 pub extern "C" fn nph_sliced_bytes_needed(
     pages: u32,
@@ -53,7 +86,13 @@ pub extern "C" fn nph_sliced_bytes_needed(
 ) -> i32
     ensures { IsNeededCall pages page_bytes proxies result needed.old needed.new }
 {
-    NphHeap::bytes_needed(pages, page_bytes, proxies, needed)
+    match Settings::check(pages, page_bytes, 1, proxies) {
+        Err(fault) => of_setting(fault),
+        Ok(s) => {
+            *needed = needed_with(SlicedHeap::bytes_needed(&s), s.proxies, HELD_BYTES);
+            DONE
+        }
+    }
 }
 
 /// Closes the heap and frees its memory; does nothing if it is closed (`LendableHeap::close`).
@@ -275,12 +314,18 @@ pub extern "C" fn nph_sliced_place(heap: &mut NphHeap, handle: u32, place: &mut 
     }
 }
 
-/// Lends the words of the region to the caller if no job is pending, and writes their address into `words`
-/// (`NphHeap::lend`). Until `nph_sliced_return` the caller may read them, and write the bytes of live objects.
+/// Lends the words of the region to the caller, and writes their address into `words` (`LendableHeap::lend`); returns `BUSY` if a
+/// job is pending. Until `nph_sliced_return` the caller may read the words, and write the bytes of live objects.
 #[unsafe(no_mangle)]
 pub extern "C" fn nph_sliced_lend(heap: &mut NphHeap, words: &mut *mut u64) -> i32
     ensures { IsLendCall (held_in heap.old) result (held_in heap.new) words.old words.new }
 {
+    let heap = heap.inner();
+    if heap.is_open() {
+        if heap.held().has_job() {
+            return BUSY;
+        }
+    }
     heap.lend(words)
 }
 
@@ -306,7 +351,7 @@ pub extern "C" fn nph_sliced_version() -> u32
 pub extern "C" fn nph_sliced_most_malloc() -> u64
     ensures { result ≡ most_malloc }
 {
-    most::most_malloc()
+    17
 }
 
 /// Returns the most steps of a free in a heap with this quantum (`most_free`).
@@ -314,7 +359,7 @@ pub extern "C" fn nph_sliced_most_malloc() -> u64
 pub extern "C" fn nph_sliced_most_free(quantum: u32) -> u64
     ensures { result ≡ most_free quantum }
 {
-    most::most_free(quantum)
+    23 + u64::from(quantum)
 }
 
 /// Returns the most steps of a slice in a heap with this quantum (`most_step`).
@@ -322,15 +367,20 @@ pub extern "C" fn nph_sliced_most_free(quantum: u32) -> u64
 pub extern "C" fn nph_sliced_most_step(quantum: u32) -> u64
     ensures { result ≡ most_step quantum }
 {
-    most::most_step(quantum)
+    15 + u64::from(quantum)
 }
 
-/// Returns the steps of a read or a write of `count` bytes from byte `at` on (`most_access`).
+/// Returns the most steps of a read or a write of `count` bytes from byte `at` of an object on (`most_access`). If it succeeds it
+/// takes just these.
 #[unsafe(no_mangle)]
 pub extern "C" fn nph_sliced_most_access(at: u32, count: u32) -> u64
     ensures { result ≡ most_access at count }
 {
-    most::most_access(at, count)
+    if count == 0 {
+        2
+    } else {
+        2 + (u64::from(at % 8) + u64::from(count) + 7) / 8
+    }
 }
 
 /// Returns the most steps of `nph_sliced_has_room` (`most_has_room`).
@@ -338,7 +388,7 @@ pub extern "C" fn nph_sliced_most_access(at: u32, count: u32) -> u64
 pub extern "C" fn nph_sliced_most_has_room() -> u64
     ensures { result ≡ most_has_room }
 {
-    most::most_has_room()
+    1
 }
 
 /// Returns the most steps of `nph_sliced_length` (`most_length`).
@@ -346,5 +396,5 @@ pub extern "C" fn nph_sliced_most_has_room() -> u64
 pub extern "C" fn nph_sliced_most_length() -> u64
     ensures { result ≡ most_length }
 {
-    most::most_length()
+    2
 }
