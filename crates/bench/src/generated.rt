@@ -48,8 +48,8 @@ fn call<H: Manager>(heap: &mut H, c: CommandRef, table: &mut Table, meter: &mut 
     }
 }
 
-/// Runs the first `count` commands of the generator with seed 1, and returns whether any succeeded. Not inlined,
-/// so that a profile shows it.
+/// For a profiler, runs the first `count` commands of the generator with seed 1, and returns whether any succeeded. Not
+/// inlined, so that a profile shows it.
 #[inline(never)]
 pub(crate) fn calls<H: Manager>(
     heap: &mut H,

@@ -68,7 +68,7 @@ impl Line {
         Ok(())
     }
 
-    /// To a reply's line, appends the number `n` in decimal. Fails with `Full` if and only if the line would pass 9,000
+    /// `Line`: appends the number `n` in decimal. Fails with `Full` if and only if the line would pass 9,000
     /// bytes.
     pub fn push_number(&mut self, n: u64) -> Result<(), Full>
         ensures { Pushes self.old (decimal n) result self.new }
@@ -95,7 +95,7 @@ impl Line {
         Ok(())
     }
 
-    /// To a reply's line, appends the word `v` of eight bytes in hex, as 16 lower-case digits, the most significant
+    /// `Line`: appends the word `v` of eight bytes in hex, as 16 lower-case digits, the most significant
     /// first. Fails with `Full` if and only if the line would pass 9,000 bytes.
     pub fn push_word(&mut self, v: u64) -> Result<(), Full>
         ensures { Pushes self.old (word_text v) result self.new }

@@ -1,4 +1,4 @@
-//! Builds one line of a reply in a buffer, and then writes it as a whole.
+//! Builds one line of a reply in a buffer, from its lead, texts and numbers, and then writes it as a whole.
 ghost use Rattle.std.specs.Prelude.{◌≡◌, ◌+◌, ◌<◌, ◌≤◌, ◌++◌, ◌∷◌, [], length};
 ghost use Rattle.cf_io.specs.Feeds.{Writes};
 ghost use Rattle.cf_io.specs.Lines.{line_capacity};

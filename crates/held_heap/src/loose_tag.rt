@@ -77,7 +77,7 @@ fn all_of_blocks(blocks: &mut LooseBlocks, memory: Memory) -> &mut [u64]
     blocks.region.payload_mut(0, n, meter.steps())
 }
 
-/// Borrows all words of the region of an open heap with blocks.
+/// For a loan, borrows all words of an open heap with blocks.
 fn all_of_open(heap: &mut LooseOpen, memory: Memory) -> &mut [u64]
     ensures* writes_back { sem 𝓛 (LendsAllOfOpen heap.entry result) }
     ensures value { result.now ≡ heap.old.blocks.region }

@@ -22,7 +22,7 @@ pub fn pages_needed(layout: Layout, page_bytes: u32, k: u32, needs: &[Need], pag
     }
 }
 
-/// The code of why there is no number of pages.
+/// The code for C of why there is no number of pages.
 fn of_needs(cause: NeedsFault) -> i32
     ensures { result ≡ needs_code cause }
 {

@@ -100,10 +100,9 @@ pub fn counts_after_a_malloc()
         ≡ objects_on p m c page + cond (is_on p c page x) 1 0 }
 {}
 
-/// Object `x` with the number `h` is freed. If no object moves and `x` was of class `c` and on
-/// `page`, the count of such objects falls by one (`still`). If object `y` moves to the address of
-/// `x`, the count falls by one if `y` was of class `c` and on `page` (`moved`). Otherwise the count
-/// stays.
+/// In an arrangement, object `x` with the number `h` is freed. If no object moves and `x` was of class `c` and on
+/// `page`, the count of such objects falls by one (`still`). If object `y` moves to the address of `x`, the count falls
+/// by one if `y` was of class `c` and on `page` (`moved`). Otherwise the count stays.
 pub fn counts_after_a_free()
     ensures still { (p : Paging) (m : Held) (h a c page : ℕ) (x : Placed) → get m h ≡ Some x
         → objects_on p (without m h a None) c page + cond (is_on p c page x) 1 0

@@ -77,7 +77,7 @@ impl ProxyTable {
         self.places.len() as u32 - self.left
     }
 
-    /// Returns whether every number of the table is live.
+    /// Returns whether every number of the proxy table is live.
     pub fn is_full(&self) -> bool
         ensures value { IsTrue result ↔ (map.len self.now.places ≡ self.now.limit) }
         ensures kept { AreBelowLimit self.now }

@@ -207,7 +207,7 @@ fn build_reply(
     }
 }
 
-/// Does a command that names no task, for the present task, builds the text of its reply in `line`, and
+/// Does a command of mode `quota` that names no task, for the present task, builds the text of its reply in `line`, and
 /// returns its outcome. `buffer` gets the bytes of a read. The command isn't `walk`.
 fn build_reply_present(
     records: &mut Records,
@@ -236,9 +236,9 @@ fn build_reply_present(
     build_reply_task(ids, heap, task, c, buffer, line, steps)
 }
 
-/// Does a command that names no task, for the task `task`, whose ids are `ids`, builds the text of its
-/// reply in `line`, and returns its outcome. `buffer` gets the bytes of a read. The command isn't `walk`;
-/// the reply to a command of another mode is `none`.
+/// Does a command of mode `quota` that names no task, for the task `task`, whose ids are `ids`, builds the text of its
+/// reply in `line`, and returns its outcome. `buffer` gets the bytes of a read. The command isn't `walk`; the reply to
+/// a command of another mode is `none`.
 fn build_reply_task(
     ids: &mut IdTable,
     heap: &mut QuotaHeap,

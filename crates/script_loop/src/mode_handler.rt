@@ -50,8 +50,8 @@ pub trait ModeHandler<H> {
     /// Which reply each item may get, and to which state it leads.
     ghost semantics: { Semantics State Plan };
 
-    /// Answers the `heap` line, the first item of a script: opens the heap with these settings and writes the
-    /// reply. If that fails, `OpenFault` shows why the reply wasn't written whole.
+    /// `ModeHandler`: answers the `heap` line, the first item of a script: opens the heap with these settings and
+    /// writes the reply. If that fails, `OpenFault` shows why the reply wasn't written whole.
     fn open<K: Sink>(
         &mut self,
         heap: &mut H,

@@ -73,7 +73,7 @@ fn leads_resized(
     leads_into(heap, points, &kept, x, j)
 }
 
-/// Whether the pages hold the copies of resizes from x, from each class into each other one.
+/// Whether the pages hold the copies of resizes from the point x, from each class into each other one.
 fn holds_copies(pages: u32, heap: &HeapClasses, counts: &TwoModes, x: &PointPages) -> bool
     requires { IsPaging (paging_with pages heap.now) }
     ensures { IsTrue result ↔ HoldsCopies (paging_with pages heap.now)
@@ -103,7 +103,7 @@ fn copy_fits(pages: u32, heap: &HeapClasses, counts: &TwoModes, x: &PointPages, 
     true
 }
 
-/// In a resize, the pages of all classes while the object has slots of the classes c and d.
+/// For a certificate, the pages of all classes while the object has slots of the classes c and d.
 fn pages_of_copies(heap: &HeapClasses, counts: &TwoModes, x: &PointPages, c: usize, d: usize) -> u64
     requires { IsPaging (paging_with 0 heap.now) }
     ensures { result ≡ sum_by (λ e. pages_with_copy (paging_with 0 heap.now) c d e (slice_index x.now.pages e)
@@ -117,7 +117,7 @@ fn pages_of_copies(heap: &HeapClasses, counts: &TwoModes, x: &PointPages, c: usi
     sum
 }
 
-/// In a resize, the pages of class e while the object has slots of the classes c and d.
+/// For a certificate, the pages of class e while the object has slots of the classes c and d.
 fn pages_of_class(
     heap: &HeapClasses,
     counts: &TwoModes,

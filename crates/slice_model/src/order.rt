@@ -41,8 +41,8 @@ pub fn an_order_leaves_no_choice_beside_a_job()
         → (a ≡ b) × (new ≡ other) × (now ≡ next) }
 {}
 
-/// In an order of the state s the job's slot counts as used. A malloc of `bytes` bytes for which no
-/// cause of refusal holds can follow such an order, and leaves an order of the new state.
+/// In an order of a sliced heap's state s the job's slot counts as used. A malloc of `bytes` bytes for which no cause
+/// of refusal holds can follow such an order, and leaves an order of the new state.
 pub fn a_malloc_can_follow_an_order_beside_a_job()
     ensures { (plan : Plan) (s : Sliced) (bytes : ℕ) (o : Order) → IsPlan plan → IsKept plan s → IsOrderBeside plan s o
         → ((e : SliceRefusal) → ¬ IsRefusedBy plan s bytes e)

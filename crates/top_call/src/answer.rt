@@ -15,9 +15,9 @@ use cf_model::Manager;
 use cf_session::Session;
 use script_reader::CommandRef;
 
-/// Does a command on each manager in order, in the session with the same index, and writes each line of its
-/// reply after the name of its kind. Returns `Failed` if the sink failed. Then the managers up to the one
-/// whose reply was cut have done the command, and those after it have not.
+/// In mode `compare`, does a command on each manager in order, in the session with the same index, and writes each line
+/// of its reply after the name of its kind. Returns `Failed` if the sink failed. Then the managers up to the one whose
+/// reply was cut have done the command, and those after it have not.
 pub fn answer_each<H: Manager, K: Sink>(
     sessions: &mut Vec<Session>,
     managers: &mut Vec<H>,
@@ -45,9 +45,9 @@ pub fn answer_each<H: Manager, K: Sink>(
     Ok(())
 }
 
-/// Does a command on one manager in its session, and writes each line of the reply after the name of its
-/// kind. Returns `Failed` if the sink failed; then the command has taken effect, and a prefix of its reply
-/// was written.
+/// In mode `compare`, does a command on one manager in its session, and writes each line of the reply after the name of
+/// its kind. Returns `Failed` if the sink failed; then the command has taken effect, and a prefix of its reply was
+/// written.
 fn answer_one<H: Manager, K: Sink>(
     session: &mut Session,
     manager: &mut H,

@@ -100,8 +100,8 @@ fn run_bench<H: Manager, K: Sink>(
     figures.put(sink)
 }
 
-/// Applies the first `count` commands that the generator makes of the seed. Counts how many of their replies
-/// are good, that is `ok` or the bytes of a read, and how many are refusals.
+/// In mode `bench`, applies the first `count` commands that the generator makes of the seed. Counts how many of their
+/// replies are good, that is `ok` or the bytes of a read, and how many are refusals.
 fn apply_commands<H: Manager>(session: &mut Session, heap: &mut H, seed: u64, count: u64) -> Tally
     requires { IsGoing (run_at session.old (H.state heap.old)) }
     ensures applied { IsAppliedTo (run_at session.old (H.state heap.old)) (generated seed count) (run_at session.new (H.state heap.new))

@@ -9,9 +9,9 @@ use script_loop::play_script;
 use std::alloc::Global;
 use std::rt::Memory;
 
-/// Runs a script on all managers. Each has its own session. A command is done on the first manager, then
-/// on the second, and so on, before the next command. Returns the status, `OutOfMemory` also if the sessions
-/// can't be allocated.
+/// In mode `compare`, runs a script on all managers. Each has its own session. A command is done on the first manager,
+/// then on the second, and so on, before the next command. Returns the status, `OutOfMemory` also if the sessions can't
+/// be allocated.
 pub fn compare_all<H: Manager, S: Source, K: Sink>(
     memory: Memory,
     alloc: Global,

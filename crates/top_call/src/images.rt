@@ -16,9 +16,9 @@ use script_loop::WithSettings;
 use std::alloc::Global;
 use std::rt::Memory;
 
-/// Runs a script on a moving manager that is made for it, and writes the image of the objects that are
-/// live at its end in place of the replies. Returns the status, `OutOfMemory` also if manager or session
-/// can't be allocated.
+/// In mode `save`, runs a script on a moving manager that is made for it, and writes the image of the objects that are
+/// live at its end in place of the replies. Returns the status, `OutOfMemory` also if manager or session can't be
+/// allocated.
 pub fn save_image<S: Source, K: Sink>(
     memory: Memory,
     alloc: Global,
@@ -57,7 +57,7 @@ fn save_on<H: Manager, S: Source, K: Sink>(
     save_script(memory, &mut mode_handler, heap, source, sink)
 }
 
-/// Loads an image into a moving manager that is made for it, and writes the script that makes its
+/// In mode `load`, loads an image into a moving manager that is made for it, and writes the script that makes its
 /// objects. Returns the status, `OutOfMemory` also if manager or session can't be allocated.
 pub fn load_image<S: Source, K: Sink>(
     memory: Memory,

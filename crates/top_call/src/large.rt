@@ -10,8 +10,8 @@ use script_loop::play_script;
 use std::alloc::Global;
 use std::rt::Memory;
 
-/// Runs a script whose objects may be larger than a page, on a moving manager that is made for it. Returns the
-/// status, `OutOfMemory` also if the session can't be allocated.
+/// In mode `large`, runs a script whose objects may be larger than a page, on a moving manager that is made for it.
+/// Returns the status, `OutOfMemory` also if the session can't be allocated.
 pub fn play_large<S: Source, K: Sink>(
     memory: Memory,
     alloc: Global,

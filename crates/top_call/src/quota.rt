@@ -10,8 +10,8 @@ use script_loop::play_script;
 use std::alloc::Global;
 use std::rt::Memory;
 
-/// Runs a script of tasks, each with a quota of pages, on a heap of tasks that is made for it. Returns the
-/// status, `OutOfMemory` also if the session can't be allocated.
+/// In mode `quota`, runs a script of tasks, each with a quota of pages, on a heap of tasks that is made for it. Returns
+/// the status, `OutOfMemory` also if the session can't be allocated.
 pub fn play_quotas<S: Source, K: Sink>(
     memory: Memory,
     alloc: Global,

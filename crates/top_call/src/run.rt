@@ -16,9 +16,8 @@ use std::alloc::Global;
 use std::rt::Memory;
 use tlsf_heap::TlsfHeap;
 
-/// Runs a script on the first of `managers` that is of the kind; if there is none, on a new one, which is
-/// dropped at the end. Returns the status, `OutOfMemory` also if the session or the new manager can't be
-/// allocated.
+/// In mode `run`, runs a script on the first of `managers` that is of the kind; if there is none, on a new one, which
+/// is dropped at the end. Returns the status, `OutOfMemory` also if the session or the new manager can't be allocated.
 pub fn run_chosen<H: Manager, S: Source, K: Sink>(
     memory: Memory,
     alloc: Global,
@@ -40,7 +39,7 @@ pub fn run_chosen<H: Manager, S: Source, K: Sink>(
     }
 }
 
-/// Runs a script on a closed manager of the kind, which is made for it. It is behind a box, as the given
+/// In mode `run`, runs a script on a closed manager of the kind, which is made for it. It is behind a box, as the given
 /// managers are: so only mode `bench` instantiates a session over an unboxed manager. Returns the status, and
 /// `OutOfMemory` also if the manager can't be allocated.
 fn run_own<S: Source, K: Sink>(
@@ -82,8 +81,8 @@ fn run_own<S: Source, K: Sink>(
     }
 }
 
-/// Runs a script on the given heap, a manager of the kind that was never open, with the session `session`,
-/// which is new. Reads the script from `source` and writes the replies to `sink`.
+/// In mode `run`, runs a script on the given heap, a manager of the kind that was never open, with the session
+/// `session`, which is new. Reads the script from `source` and writes the replies to `sink`.
 fn run_on<H: Manager, S: Source, K: Sink>(
     kind: Kind,
     heap: &mut H,
