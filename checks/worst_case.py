@@ -508,7 +508,7 @@ HEAD = """`checks/worst_case --write` writes this page, and `checks/worst_case` 
 
 # The most steps, instructions and stack of each call from C
 
-[SPEED](SPEED.md#the-most-instructions-of-a-call-from-c) shows how to compute time from these bounds. The steps are [proved](C.md#what-is-proved). The instructions and the stack are computed from the machine code, without those of `memcpy`, `memmove`, `memset` and the allocator. Calls of a library with equal bounds share a row; those with no entry under "steps" count none. Of bounds with "or" between them the greatest holds.
+[SPEED](SPEED.md#the-most-instructions-of-a-call-from-c) shows how to compute time from these bounds. The steps are [proved](C.md#what-is-proved). The instructions and the stack are computed from the machine code, without those of `memcpy`, `memmove`, `memset` and the allocator. Calls of a library with equal bounds share a row; for those with no entry under "steps" no bound is proved. Of bounds with "or" between them the greatest holds.
 
 - "Longest": the instructions of the longest call counted on 16 pages of 16 KiB with k = 1 and 4,096 proxies; if the bound has letters, also its value for that call.
 - "Stack": bytes, with return addresses.

@@ -121,7 +121,7 @@ pub fn a_reply_follows_from_the_task_alone()
         ≡ malloc_refusal one.profile (slice_index one.quotas task) (one.objects task) bytes }
 {}
 
-/// Isolation: remove from a list of calls and quota lines those of the other tasks, and every refused
+/// Isolation in mode `quota`: remove from a list of calls and quota lines those of the other tasks, and every refused
 /// quota line. The replies to the task are the same, in the same order.
 pub fn tasks_are_isolated()
     ensures { (s : Profile) (task : ℕ) (items : List TaskItem) → task < 16
@@ -129,7 +129,7 @@ pub fn tasks_are_isolated()
         ≡ replies_to task (no_tasks s) items }
 {}
 
-/// Isolation: remove from a script every line of the other tasks, and every refused quota line. The
+/// Isolation in mode `quota`: remove from a script every line of the other tasks, and every refused quota line. The
 /// replies to the commands of the task are the same, in the same order. If two scripts have the same
 /// lines after this removal, the replies to the task are the same in both, whatever the other tasks do.
 /// The two scripts may be run separately: only their replies are compared.
