@@ -1,4 +1,4 @@
--- For `most`: the steps of a call are at most what a caller in C gets before it.
+-- For `nph_large_most_malloc` and its like: the steps of a call are at most what a caller in C gets before it.
 use Rattle.std.proofs.Common.{◌≡◌, ℕ, Bool, true, false, zero, suc, ◌+◌, ◌-◌, ◌*◌, ◌/◌, ◌%◌, ◌<◌, ◌≤◌, List, [], ◌∷◌, Some, Ok, Err, get_or, length, max, arith, lit<, refl, sym, ◌∙◌, ap, subst, inl, inr}
 use Rattle.std.specs.Prelude.{Option, None, cond, if◌then◌else◌, nat_le, nat_eq, sum_by}
 use Rattle.std.specs.FinMap.{get}

@@ -1,8 +1,7 @@
-//! The heap of long objects as a library for C. `include/norphuen.h` describes each export for C. An export calls the
-//! function of this crate or `c_base` that its comment names, and its contract is that function's. Each export that
-//! takes a heap, but `nph_large_close`, returns a code: 0 (`DONE`) if the call is done, else the cause (`c_base`,
-//! file `codes`). Of these each but `nph_large_open` returns `CLOSED` and changes nothing while the heap is closed
-//! (`IsCallOnOpen`).
+//! The heap of long objects as a library for C. `include/norphuen.h` describes each export for C. An export whose
+//! comment names a function calls it, and has its contract. Each export that takes a heap, but `nph_large_close`,
+//! returns a code: 0 (`DONE`) if the call is done, else the cause (`c_base`, file `codes`). Of these each but
+//! `nph_large_open` returns `CLOSED` and changes nothing while the heap is closed (`IsCallOnOpen`).
 #![tactic(auto)]
 
 ghost use Rattle.std.specs.Prelude.{◌≡◌};
@@ -173,29 +172,45 @@ pub extern "C" fn nph_large_last_steps(heap: &mut NphHeap, steps: &mut u64) -> i
     }
 }
 
-/// Returns the most steps of a malloc of `bytes` bytes in a heap with pages of `page_bytes` bytes (`most_malloc`). It and the two
-/// calls below take no heap.
+/// Returns the most steps of a malloc of `bytes` bytes in a heap with pages of `page_bytes` bytes. It and the two calls below
+/// take no heap. For a size that no page has they mean nothing.
 #[unsafe(no_mangle)]
 pub extern "C" fn nph_large_most_malloc(page_bytes: u32, bytes: u32) -> u64
     ensures { IsMostMalloc page_bytes bytes result }
 {
-    most::most_malloc(page_bytes, bytes)
+    let words = most::page_words(page_bytes);
+    if bytes <= 8 * (words - 1) {
+        return 17;
+    }
+    19 + 18 * u64::from(most::parts(words, bytes))
 }
 
-/// Returns the most steps of a free of an object of `bytes` bytes (`most_free`).
+/// Returns the most steps of a free of an object of `bytes` bytes.
 #[unsafe(no_mangle)]
 pub extern "C" fn nph_large_most_free(page_bytes: u32, bytes: u32) -> u64
     ensures { IsMostFree page_bytes bytes result }
 {
-    most::most_free(page_bytes, bytes)
+    let words = most::page_words(page_bytes);
+    if bytes <= 8 * (words - 1) {
+        return 20 + most::slot_words(words, u64::from(bytes));
+    }
+    let count = u64::from(most::parts(words, bytes));
+    // The slot of the spine, which has four bytes for each part, and those of the parts.
+    24 + (19 + u64::from(words)) * count + most::slot_words(words, 4 * count)
 }
 
-/// Returns the most steps of a read or a write of `count` bytes from byte `at` on (`most_access`).
+/// Returns the most steps of a read or a write of `count` bytes from byte `at` on.
 #[unsafe(no_mangle)]
 pub extern "C" fn nph_large_most_access(page_bytes: u32, at: u32, count: u32) -> u64
     ensures { IsMostAccess page_bytes at count result }
 {
-    most::most_access(page_bytes, at, count)
+    if count == 0 {
+        return 2;
+    }
+    let part_bytes = 8 * (u64::from(most::page_words(page_bytes)) - 1);
+    let (first, many) = (u64::from(at), u64::from(count));
+    let parts = (first + many - 1) / part_bytes + 1 - first / part_bytes;
+    5 * parts + (first % 8 + many + 7) / 8
 }
 
 /// Returns the version of this library (`VERSION`).

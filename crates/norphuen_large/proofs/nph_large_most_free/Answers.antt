@@ -1,7 +1,7 @@
 use Rattle.std.proofs.Common.{◌<◌, ap, arith, ◌∙◌}
 use Rattle.norphuen_large.specs.Most.{part_of, slot_cap}
 use Rattle.norphuen_large.proofs.MostSteps.{free_long, free_short}
-use Rattle.norphuen_large.proofs.most.most_free.Goals as goal
+use Rattle.norphuen_large.proofs.nph_large_most_free.Goals as goal
 
 pub returns-then-bytes-words : goal.returns-then-bytes-words
 returns-then-bytes-words c = free_short c.args.page_bytes c.args.bytes c.page_words-words.result c.page_words-words.ensures.value (let f = c.if-bytes-words.true in grind arith)

@@ -1,6 +1,6 @@
 use Rattle.std.proofs.Common.{◌<◌, arith}
 use Rattle.norphuen_large.proofs.MostSteps.{access_most, none_most}
-use Rattle.norphuen_large.proofs.most.most_access.Goals as goal
+use Rattle.norphuen_large.proofs.nph_large_most_access.Goals as goal
 
 pub returns-then-count-eq0 : goal.returns-then-count-eq0
 returns-then-count-eq0 c = rw c.if-count-eq0.true (none_most c.args.page_bytes c.args.at)
