@@ -8,13 +8,11 @@ use Rattle.cf_base.specs.declared.kind.Kind.{Kind}
 use Rattle.cf_lemmas.proofs.Tests.{eq_no, eq_yes}
 use Rattle.page_model.specs.Held.{Held, Placed}
 use Rattle.page_model.specs.Image.{object_word}
-use Rattle.page_model.specs.Paging.{Paging}
 use Rattle.block_model.specs.Tiling.{Block, Fill, block_at}
 use Rattle.block_model.specs.Words.{HaveHeaders, block_header}
 use Rattle.block_model.proofs.CallerLemmas.{lies}
 use Rattle.cf_model.specs.Families.{Family, paged, tiled, family_of}
 use Rattle.cf_model.specs.Rules.{IsTiled, KeepsPages, KeepsRulesOf, KeepsTiling, content_word}
-use Rattle.cf_model.specs.State.{paging_in}
 use Rattle.cf_model.proofs.CallerLemmas.{pages_kept}
 use Rattle.run_model.specs.Sessions.{IsGoing, RunState}
 use Rattle.run_model.proofs.CallerLemmas.{found_renamed, live_renamed}
@@ -59,9 +57,6 @@ module _ (words : List ℕ) where
   ]
 
 module _ (s : RunState) (going : IsGoing s) (word : ℕ) where
-  abbrev p : Paging
-  p = paging_in s.heap
-
   abbrev m : Held
   m = s.heap.held
 
