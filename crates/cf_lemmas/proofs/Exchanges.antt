@@ -52,20 +52,6 @@ module _ (a b n : ℕ) (apart : (a + n ≤ b) ⊎ (b + n ≤ a)) where
     ]
   ]
 
-  pub partner_back : (v : ℕ) → partner a b n (partner a b n v) ≡ v
-  partner_back v = elim (where_is v) [
-    | first l h e ↦ ap (partner a b n) e ∙ partner_second (b + (v - a)) (omega arith) (omega arith) ∙ omega arith
-    | second l h e ↦ ap (partner a b n) e ∙ partner_first (a + (v - b)) (omega arith) (omega arith) ∙ omega arith
-    | neither p q e ↦ ap (partner a b n) e ∙ e
-  ]
-
-  pub partner_below : (top v : ℕ) → a + n ≤ top → b + n ≤ top → v < top → partner a b n v < top
-  partner_below top v ea eb lt = elim (where_is v) [
-    | first l h e ↦ rw e (omega arith)
-    | second l h e ↦ rw e (omega arith)
-    | neither p q e ↦ rw e lt
-  ]
-
 module _ (xs : List ℕ) (a b n : ℕ) where
   pub length-exchanged : length (exchanged xs a b n) ≡ length xs
   unfolding exchanged
@@ -77,10 +63,6 @@ module _ (xs : List ℕ) (a b n : ℕ) where
 
 -- the entries of a list after two of its runs changed places
 module _ (xs : List ℕ) (a b n : ℕ) (apart : (a + n ≤ b) ⊎ (b + n ≤ a)) (at_a : a + n ≤ length xs) (at_b : b + n ≤ length xs) where
-  pub exchanged_at_a : (k : ℕ) → k < n → get_or (exchanged xs a b n) (a + k) 0 ≡ get_or xs (b + k) 0
-  exchanged_at_a k lt = get_or-exchanged xs a b n (a + k) (omega arith)
-      ∙ ap (λ v. get_or xs v 0) (partner_first a b n apart (a + k) (omega arith) (omega arith) ∙ omega arith)
-
   pub exchanged_at_b : (k : ℕ) → k < n → get_or (exchanged xs a b n) (b + k) 0 ≡ get_or xs (a + k) 0
   exchanged_at_b k lt = get_or-exchanged xs a b n (b + k) (omega arith)
       ∙ ap (λ v. get_or xs v 0) (partner_second a b n apart (b + k) (omega arith) (omega arith) ∙ omega arith)

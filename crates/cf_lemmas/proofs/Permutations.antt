@@ -3,15 +3,14 @@
 use Rattle.std.proofs.Common.{◌≡◌, ◌≢◌, ℕ, ◌+◌, ◌<◌, ◌≤◌, ◌⊎◌, inl, inr, List, length, slice_index, get_or, min, max}
 use Rattle.std.proofs.Common.{arith, sym, subst, ◌∙◌, eqb, eq-eqb}
 use Rattle.std.proofs.lemmas.Bool.{eqb-false, ne_eqb, cases_eq, cases_order}
-use Rattle.std.proofs.lemmas.Grind.{get_or_default_zero}
 use Rattle.std.proofs.lemmas.List.FromFn.{length-range_with_len, get_or-range_with_len}
-use Rattle.std.proofs.lemmas.List.Sorted.{All-permutation, Contains-permutation, IsPermutation-refl, IsPermutation-trans}
+use Rattle.std.proofs.lemmas.List.Sorted.{All-permutation, IsPermutation-refl, IsPermutation-trans}
 use Rattle.std.proofs.lemmas.Map.Keys.{IsDistinct-IsPermutation, apart_from_distinct}
 use Rattle.std.specs.List.{range_with_len}
 use Rattle.std.specs.List.Sorted.{IsPermutation}
 use Rattle.cf_lemmas.specs.Exchanges.{exchanged}
 use Rattle.cf_lemmas.proofs.Exchanges.{length-exchanged}
-use Rattle.cf_lemmas.proofs.Members.{range_distinct, range_has}
+use Rattle.cf_lemmas.proofs.Members.{range_distinct}
 use Rattle.cf_lemmas.proofs.Swapping.{swapped_permutation}
 use Rattle.cf_lemmas.proofs.SwappedRuns.{swapped_is}
 
@@ -43,15 +42,6 @@ module _ (xs : List ℕ) (n : ℕ) (long : length xs ≡ n) (p : IsPermutation (
 
   pub entry_once : (v w : ℕ) → v < n → w < n → slice_index xs v ≡ slice_index xs w → v ≡ w
   entry_once v w lt lt' e = elim (cases_eq v w) [ inl is ↦ is | inr ne ↦ absurd (entries_differ v w lt lt' ne e) ]
-
-  -- each number below the length is an entry
-  pub entry_onto : (b : ℕ) → b < n → (v : ℕ) × (v < n) × (slice_index xs v ≡ b)
-  entry_onto b lt =
-      let count : length (range_with_len 0 n) ≡ n = length-range_with_len 0 n in
-      let stands = range_has n b lt in
-      let found = Contains-permutation _ _ b p stands in
-      let within = found.1 in
-      (found.0, omega arith, sym (get_or_default_zero xs found.0 b found.1) ∙ found.2)
 
 -- the numbers in order are a permutation
 pub range_permuted : (n : ℕ) → IsPermutation (range_with_len 0 (length (range_with_len 0 n))) (range_with_len 0 n)

@@ -3,7 +3,7 @@
 pub use Rattle.cf_model.proofs.BlockNeeds.{lawful, need_is_small}
 pub use Rattle.cf_model.proofs.Blocks.{blocks_after_free, blocks_after_refusal, blocks_after_resize}
 pub use Rattle.cf_model.proofs.EmptyHeaps.{empty_there, no_object, ordered_there, tiled_empty}
-pub use Rattle.cf_model.proofs.Exactly.{both_kinds, given_is_not_refused, not_none_found, one_cause, resized_is_not_refused}
+pub use Rattle.cf_model.proofs.Exactly.{both_kinds, not_none_found}
 pub use Rattle.cf_model.proofs.OpeningOrders.{opened_in_order}
 pub use Rattle.cf_model.proofs.Owning.{no_one, owned_free, owned_malloc, owned_replaced}
 pub use Rattle.cf_model.proofs.ReadObjects.{fresh_word, objects_shown}

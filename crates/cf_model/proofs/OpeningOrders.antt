@@ -15,7 +15,7 @@ use Rattle.cf_base.specs.declared.kind.Kind.TheVariants.{Moving, NonMoving, Tlsf
 use Rattle.cf_base.specs.declared.settings.Settings.{Settings}
 use Rattle.page_model.specs.Held.{Placed}
 use Rattle.page_model.specs.Order.{IsOrderOf, Order, first_order}
-use Rattle.page_model.specs.Paging.{Paging, classes, first_bounds, paging_of}
+use Rattle.page_model.specs.Paging.{Paging, first_bounds, paging_of}
 use Rattle.page_model.proofs.CallerLemmas.{first_is_order}
 use Rattle.block_model.specs.Buckets.{AreLawful, FreeLists}
 use Rattle.block_model.specs.FreeOrder.{AreListsOf, AreThreaded, HaveLinks, first_lists, link_word, no_block}

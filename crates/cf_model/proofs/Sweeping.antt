@@ -1,6 +1,6 @@
 -- For `open_all`, which opens each manager of a list: a loop that changes one item after the other has changed the first i items (`Sweep`), stopped at one
 -- (`Stops`), or changed all (`Pairwise`).
-use Rattle.std.proofs.Common.{◌≡◌, ◌≢◌, ℕ, ◌+◌, ◌<◌, ◌≤◌, List, length, get_or, set, arith, sym, ◌∙◌, subst, inl, inr}
+use Rattle.std.proofs.Common.{◌≡◌, ◌≢◌, ℕ, ◌+◌, ◌<◌, List, length, get_or, set, arith, sym, ◌∙◌, subst, inl, inr}
 use Rattle.std.proofs.lemmas.List.{get_or-set_same, get_or-set_other, length-set, get_or_default}
 use Rattle.std.proofs.lemmas.Bool.{cases_lt}
 use Rattle.std.specs.Prelude.{Result, Ok, Err, OnErr}
@@ -52,10 +52,6 @@ module _ {X : Type 0} (R : X → X → Type 0) (xs ys : List X) (i : ℕ) (x y :
           | inr g ↦ subst (R (get_or xs k d)) (get_or_default xs k d e h ∙ sym (more.rest k e g)) (same (get_or xs k d))
         ];
       }
-
--- the loop went over all items
-pub sweep_all : {X : Type 0} (R : X → X → Type 0) (xs ys : List X) (i : ℕ) → Sweep R xs ys i → length xs ≤ i → Pairwise R xs ys
-sweep_all R xs ys i s all = record { count = s.count; each = λ k d e h. s.done k d e (omega arith) }
 
 -- a fact that always holds, holds at an error
 pub on_err : {T E : Type 0} (r : Result T E) (P : Type 0) → P → OnErr r P

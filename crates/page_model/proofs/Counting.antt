@@ -142,7 +142,3 @@ module _ (p : Paging) (m n : Held) (c : ℕ) (same : (g : ℕ) → objects_on p 
   pub not_full-same : not_full_pages p n c ≡ not_full_pages p m c
   unfolding not_full_pages
   not_full-same = count_same _ _ 0 p.pages (λ g _. ap (λ k. part_full k (slots_of p c)) (same g))
-
-  pub home-same : pages_of_class p n c ≡ pages_of_class p m c
-  unfolding pages_of_class
-  home-same = count_same _ _ 0 p.pages (λ g _. ap (nat_lt 0) (same g))

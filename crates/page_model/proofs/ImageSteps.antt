@@ -8,7 +8,7 @@ use Rattle.std.proofs.lemmas.Grind.{same_number_lists}
 use Rattle.std.specs.FinMap.{get, insert}
 use Rattle.cf_base.specs.Classes.{need}
 use Rattle.page_model.specs.Held.{Held, Placed}
-use Rattle.page_model.specs.Image.{object_word, header_word, word_of_bytes, IsOutside, IsOutsideOf, IsDisjoint, IsImageOver, IsApartFrom, Rewrites, MovesWords}
+use Rattle.page_model.specs.Image.{object_word, header_word, word_of_bytes, IsOutside, IsOutsideOf, IsDisjoint, IsImageOver, IsApartFrom, Rewrites}
 use Rattle.page_model.proofs.Images.{image_added, image_replaced, within_or, disjoint_outside, turned}
 
 take_zeros : (m n : ℕ) → word_of_bytes (take m (replicate n 0)) ≡ 0
@@ -56,16 +56,6 @@ module _ (extent : ℕ → ℕ) (m : Held) (words : List ℕ) (im : IsImageOver 
         (λ i l out. absurd (let out' : IsOutside x.place (extent (length x.bytes)) (x.place + i) =
         rw len at out in elim out' [ inl z ↦ omega arith | inr z ↦ omega arith ]))
         (λ w out _. re.others w out)
-
-    -- the same bytes at another address
-    pub image_moved : (x : Placed) (b : ℕ) → get m h ≡ Some x → IsApartFrom extent m h x → IsApartFrom extent m h (record { place = b; bytes = x.bytes })
-        → MovesWords words words' (record { from = x.place; count = extent (length x.bytes) }) b
-        → IsImageOver extent (insert m h (record { place = b; bytes = x.bytes })) words'
-    image_moved x b is-x free_x free_y mo =
-        image_replaced extent m words words' im h x (record { place = b; bytes = x.bytes }) is-x free_x free_y
-        (λ i l. mo.arrived i l ∙ im.held h x is-x i l)
-        (λ i l _. mo.left_zeros i l)
-        mo.others
 
 -- after its header and bytes an object has zeros
 past_object : (h : ℕ) (v : List ℕ) (i : ℕ) → need (length v) ≤ i → object_word h v i ≡ 0

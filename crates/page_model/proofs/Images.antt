@@ -1,11 +1,11 @@
 -- For the laws of `words.rt`: if an object is removed, added or replaced, and its words are changed so, the words are the image of the new objects, provided
 -- that no two share a word. Also disjoint ranges of words.
-use Rattle.std.proofs.Common.{◌≡◌, ℕ, ◌+◌, ◌-◌, ◌<◌, List, Some, None, length, get_or, arith, sym, ◌∙◌, subst, inl, inr}
+use Rattle.std.proofs.Common.{◌≡◌, ℕ, ◌+◌, ◌-◌, ◌<◌, List, Some, None, length, get_or, arith, ◌∙◌, subst, inl, inr}
 use Rattle.std.specs.Prelude.{◌⊎◌}
 use Rattle.std.proofs.lemmas.Bool.{cases_eq, cases_lt}
 use Rattle.std.specs.FinMap.{get, insert, remove}
 use Rattle.page_model.specs.Held.{Held, Placed}
-use Rattle.page_model.specs.Image.{object_word, IsOutside, IsOutsideOf, IsDisjoint, IsImageOver, IsApart, IsApartFrom, Rewrites, Clears}
+use Rattle.page_model.specs.Image.{object_word, IsOutside, IsOutsideOf, IsDisjoint, IsImageOver, IsApartFrom, Rewrites, Clears}
 use Rattle.cf_lemmas.proofs.Maps.{get_inserted, get_insert_other, get_remove_other, some_removed, some_inserted}
 
 -- either w is one of the n words from a on, or it is outside of them
@@ -83,18 +83,3 @@ module _ (extent : ℕ → ℕ) (m : Held) (words words' : List ℕ) (im : IsIma
           ])
         ];
   }
-
--- adding an object that is apart from the others keeps all apart
-pub apart_inserted : (extent : ℕ → ℕ) (m : Held) (h : ℕ) (x : Placed) → IsApart extent m → IsApartFrom extent m h x → IsApart extent (insert m h x)
-apart_inserted extent m h x ap' free = record {
-  pairs = λ q y r z p p' ne. elim (some_inserted m h x q y p) [
-    | inl (is, same) ↦ elim (some_inserted m h x r z p') [
-      | inl (is', _) ↦ absurd (ne (is' ∙ sym is))
-      | inr (ne', was) ↦ rw (← same) (free r z was ne')
-    ]
-    | inr (ne', was) ↦ elim (some_inserted m h x r z p') [
-      | inl (is', same') ↦ rw (← same') (turned _ _ _ _ (free q y was ne'))
-      | inr (_, was') ↦ ap'.pairs q y r z was was' ne
-    ]
-  ];
-}

@@ -12,7 +12,7 @@ use Rattle.page_model.specs.Held.{Placed, objects}
 use Rattle.page_model.specs.Bytes.{bytes_at, held_at}
 use Rattle.page_model.specs.Figures.{asked_bytes, taken_bytes}
 use Rattle.page_model.specs.Paging.{Paging, class_for, classes, slot_words, slots_of}
-use Rattle.page_model.specs.Arrangement.{objects_on, pages_of_class, live, not_full_pages, used_pages, IsSound, pages_needed}
+use Rattle.page_model.specs.Arrangement.{objects_on, pages_of_class, live, not_full_pages, IsSound, pages_needed}
 use Rattle.page_model.specs.Counts.{ceil_div}
 use Rattle.page_model.specs.Image.{IsImageOver}
 use Rattle.page_model.proofs.Counting.{part_empty, not_less_counts_none}
@@ -28,10 +28,6 @@ none_not_full p c = sum_zeros _ (range_with_len 0 p.pages) (λ g. part_empty _ (
 pub none_home : (p : Paging) (c : ℕ) → pages_of_class p empty c ≡ 0
 unfolding pages_of_class
 none_home p c = sum_zeros _ (range_with_len 0 p.pages) (λ g. (let e = on_none p c g in not_less_counts_none 0 (objects_on p empty c g) (omega arith)))
-
-pub none_used : (p : Paging) → used_pages p empty ≡ 0
-unfolding used_pages
-none_used p = sum_zeros (pages_of_class p empty) (range_with_len 0 (classes p)) (none_home p)
 
 pub sound_empty : (p : Paging) → IsSound p empty
 sound_empty p = record {

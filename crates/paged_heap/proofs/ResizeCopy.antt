@@ -16,7 +16,7 @@ use Rattle.paged_heap.proofs.ResizeInPlace.{holds_bytes}
 use Rattle.paged_heap.proofs.ResizeEnter.{new_holds, new_inside, none_spare, slots_apart}
 use Rattle.paged_heap.proofs.LayoutFacts.{paging_ok, owns}
 use Rattle.paged_heap.proofs.ObjectWords.{before, few, past_new, past_old, was_byte, was_small, word_is, zero_byte}
-use Rattle.page_slots.proofs.CallerLemmas.{it_slot, it_inside}
+use Rattle.page_slots.proofs.CallerLemmas.{it_slot}
 
 module _ {h : Heap} (k : IsValid h) {x : Change} (is : IsChange h x) {b : ℕ} (free : IsFreePlace (paging_at h) (held_in h) x.bytes b) {new : List ℕ}
     (ca : CopiesToSlot h.words new x b) where
@@ -49,9 +49,6 @@ module _ {h : Heap} (k : IsValid h) {x : Change} (is : IsChange h x) {b : ℕ} (
   s_is : old_words h x ≡ slot_for (paging_at h) (length old)
   s_is = it_slot (owns k) is.object
 
-  s_in : x.place + s ≤ length h.words
-  s_in = it_inside (owns k) is.object
-
   s_holds : 1 + (x.length + 7) / 8 ≤ s
   s_holds = holds_bytes k is.object
 
@@ -76,15 +73,6 @@ module _ {h : Heap} (k : IsValid h) {x : Change} (is : IsChange h x) {b : ℕ} (
   -- the words after the move
   abbrev mv : List ℕ
   mv = ca.moved
-
-  source : x.place + 1 + w ≤ length h.words
-  source = (let i = s_in in let r = s_holds in let l = w_old in omega arith)
-
-  target : b + 1 + w ≤ length h.words
-  target = (let i = z_in in let r = z_holds in let l = w_new in omega arith)
-
-  words_apart : (x.place + 1 + w ≤ b + 1) ⊎ (b + 1 + w ≤ x.place + 1)
-  words_apart = (let r = s_holds in let l = w_old in let r' = z_holds in let l' = w_new in elim apart [ inl l ↦ inr (omega arith) | inr l ↦ inl (omega arith) ])
 
   moved_long : length mv ≡ length h.words
   moved_long = ca.long

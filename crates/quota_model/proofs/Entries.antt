@@ -5,27 +5,20 @@ use Rattle.std.proofs.Common.{arith, ap, sym, ◌∙◌, refl}
 use Rattle.std.specs.Prelude.{nat_eq}
 use Rattle.std.proofs.lemmas.List.{append-nil, append_assoc, length-append, length-replicate, take-append-drop, take-append-le, take-replicate}
 use Rattle.std.proofs.lemmas.List.Folds.{sum_by-replicate}
-use Rattle.std.proofs.lemmas.Nat.{le-div}
 use Rattle.std.proofs.Math.Seq.{take-append-add, drop-cons, take-suc}
 use Rattle.cf_base.specs.Classes.{need}
 use Rattle.cf_lemmas.proofs.Ranges.{one, sum_at_least, sum_changed}
 use Rattle.cf_lemmas.proofs.Tests.{eq_no, eq_yes}
 use Rattle.page_model.specs.Counts.{ceil_div}
 use Rattle.page_model.specs.Paging.{Paging, IsPaging, class_for, classes, slots_of}
-use Rattle.page_model.proofs.CallerLemmas.{class_fits, slots_some}
+use Rattle.page_model.proofs.CallerLemmas.{class_fits}
 use Rattle.quota_model.specs.Admission.{count_of_class, in_order, pages_needed_by}
 use Rattle.quota_model.specs.declared.answers.Need.{Need}
 use Rattle.quota_model.proofs.CallerLemmas.{count-append}
 
-pub ceil_more : (x a m : ℕ) → 0 < m → a * m < x → a < ceil_div x m
-ceil_more x a m pos more = (let le = le-div (a + 1) (x + (m - 1)) m pos (omega arith) in omega arith)
-
 module _ (p : Paging) (ok : IsPaging p) (n : ℕ) (fits : need n ≤ p.page_words) (pre : List ℕ) where
   there_is : class_for p n < classes p
   there_is = class_fits p ok n fits
-
-  pub some_slots : 0 < slots_of p (class_for p n)
-  some_slots = slots_some p ok (class_for p n) there_is
 
   pub count_with : (j d : ℕ) → count_of_class p (pre ++ replicate j n) d ≡ count_of_class p pre d + j * one (nat_eq (class_for p n) d)
   count_with j d =

@@ -1,5 +1,5 @@
 //! The test whether a quota of pages is enough for the objects that a task declares, its `needs`.
-ghost use Rattle.std.specs.Prelude.{◌≡◌, ℕ, ◌+◌, ◌-◌, ◌^◌, ◌≤◌, ◌<◌, IfErr, IfOk, Some, length, nat_lt, position};
+ghost use Rattle.std.specs.Prelude.{◌≡◌, ◌+◌, ◌-◌, ◌^◌, ◌≤◌, ◌<◌, IfErr, IfOk, Some, length, nat_lt, position};
 ghost use Rattle.std.specs.FinMap.{empty};
 ghost use Rattle.cf_base.specs.Classes.{need, sizes};
 ghost use Rattle.cf_base.specs.Settings.{profile_of};

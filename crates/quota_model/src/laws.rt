@@ -7,7 +7,7 @@ ghost use Rattle.quota_model.specs.declared.answers.Need.{Need};
 ghost use Rattle.cf_base.specs.Limits.{is_page_size};
 ghost use Rattle.cf_base.specs.Settings.{Profile};
 ghost use Rattle.page_model.specs.Arrangement.{count_on, used_pages};
-ghost use Rattle.page_model.specs.Held.{Held, objects};
+ghost use Rattle.page_model.specs.Held.{Held};
 ghost use Rattle.quota_model.specs.Parts.{objects_of_task};
 ghost use Rattle.quota_model.specs.Shared.{AreQuotas, IsShared};
 

@@ -1,5 +1,5 @@
 -- For `clear_blocks`, `move_blocks` and `write_blocks`: blocks of four words are cleared, moved or written, one after the other.
-use Rattle.std.proofs.Common.{◌≡◌, ◌≢◌, ℕ, ◌+◌, ◌-◌, ◌*◌, ◌/◌, ◌%◌, ◌^◌, ◌<◌, ◌≤◌, ◌⊎◌, inl, inr, List, length, slice_index, arith, ap, refl, sym, ◌∙◌}
+use Rattle.std.proofs.Common.{◌≡◌, ◌≢◌, ℕ, ◌+◌, ◌-◌, ◌*◌, ◌/◌, ◌%◌, ◌^◌, ◌<◌, ◌≤◌, ◌⊎◌, inl, inr, List, length, slice_index, arith, ap, sym, ◌∙◌}
 use borrow.Rule.Slice.PartMut.{put_mid}
 use Rattle.std.proofs.lemmas.Bool.{cases_eq, cases_lt}
 use Rattle.page_model.specs.Bytes.{byte_of}
@@ -112,10 +112,6 @@ module _ (u v sources targets : List ℕ) (n m : ℕ) (less : n < m) (source : 4
     left_zeros = left;
     others = λ i far out. stays i (far n (omega arith)) (out n (omega arith)) ∙ so_far.others i (λ k lt. far k (omega arith)) (λ k lt. out k (omega arith));
   }
-
--- writing none of the blocks changes nothing
-pub writes_none : (u blocks bytes : List ℕ) → WritesBlocks u u blocks bytes 0
-writes_none u blocks bytes = record { arrived = λ k j lt. absurd (omega arith); small = λ k j lt. absurd (omega arith); others = λ w out. refl }
 
 -- the first n blocks are written; then `new` replaces the four words of the next one
 module _ (u v new blocks bytes : List ℕ) (n m : ℕ) (is_m : m ≡ 4) (less : n < length blocks) (long : length new ≡ m)

@@ -8,7 +8,7 @@ use Rattle.cf_lemmas.proofs.Ranges.{one}
 use Rattle.page_model.specs.Held.{Held, Objects, objects}
 use Rattle.page_model.specs.Paging.{Paging, IsPaging, EveryBoundIsOne, classes, slot_words, slots_of, class_for}
 use Rattle.page_model.specs.Counts.{LieOn, ceil_div}
-use Rattle.page_model.specs.Figures.{asked_bytes, figures_of, taken_bytes, totals_of}
+use Rattle.page_model.specs.Figures.{figures_of, totals_of}
 use Rattle.page_model.specs.Arrangement.{live, pages_of_class, not_full_pages, pages_needed, pages_needed_with, IsSound}
 use Rattle.cf_lemmas.proofs.Tests.{eq_no, eq_yes}
 use Rattle.page_model.proofs.CallerLemmas.{slots_some, sound_stand, can_hold_one, used_at_one, sum_same}
@@ -78,10 +78,6 @@ module _ (p : Paging) (m n : Objects) (a : CountAlike m n) where
   unfolding pages_needed_with
   needed_with_alike bytes = sum_same _ _ (range_with_len 0 (classes p))
       (λ c. ap (λ k. ceil_div (k + one (nat_eq (class_for p bytes) c)) (slots_of p c)) (live_alike c))
-
-  asked_alike : asked_bytes n ≡ asked_bytes m
-  unfolding asked_bytes
-  asked_alike = a.sums length
 
   pub figures_alike : (c : ℕ) → figures_at_one p n c ≡ figures_at_one p m c
   figures_alike c = ap (λ k. record (figures_at_one p m c) { live = k; pages = ceil_div k (slots_of p c); not_full = part_pages k (slots_of p c) })

@@ -197,14 +197,6 @@ module _ (old : Reading) (len at : ℕ) (formed : Bool) (n : Next) (going : old.
       go wrong is place = ap (verdict old.stage) is
       go (item i) is place = ap (verdict old.stage) is ∙ ap (gives_or_breaks i) (sym place)
 
--- a command that is returned is well-formed
-pub answer_in_range : (old new : Reading) (n : Next) → Answers old n new → IsInRange n
-answer_in_range old new (Start settings) answer = tt
-answer_in_range old new (Command command) answer = answer.formed
-answer_in_range old new NeedMore answer = tt
-answer_in_range old new (Bad line) answer = tt
-answer_in_range old new End answer = tt
-
 -- ---- the kept bytes hold no line
 
 few_kept : (kept : List ℕ) → is_last_line false kept ≡ false → length kept ≤ 8999

@@ -4,15 +4,11 @@ use Rattle.std.proofs.Common.{◌≡◌, ◌∙◌, ◌++◌, ℕ, Bool, true, f
 use Rattle.std.proofs.lemmas.Bool.{true≢false}
 use Rattle.cf_base.specs.Settings.{profile_of}
 use Rattle.script_reader.specs.ReaderCalls.{AreCalls, ReaderCall, answers, bytes_fed, feeds, finishes, is_finished, items_given}
-use Rattle.script_reader.specs.Items.{Item, asks, bad, items, starts}
-use Rattle.script_reader.specs.Reading.{Answers, AnswersBad, Reading, StopsAt, fed_with, fresh, items_left}
+use Rattle.script_reader.specs.Items.{Item, asks, bad, starts}
+use Rattle.script_reader.specs.Reading.{Answers, AnswersBad, Reading, StopsAt, fed_with, items_left}
 use Rattle.script_reader.specs.declared.next.Next.{Next}
 use Rattle.script_reader.specs.declared.next.Next.TheVariants.{Start, Command, NeedMore, Bad, End}
 pub use Rattle.script_reader.proofs.ItemLemmas.{some_stretch}
-
--- a reader that was fed nothing has all items of the next bytes left
-pub fresh_left : (more : List ℕ) (ended : Bool) → items_left fresh more ended ≡ items more ended
-fresh_left more ended = refl
 
 bad_same_end : (old : Reading) (before : Option ℕ) (line : ℕ) (new : Reading) → AnswersBad old before line new → new.ended ≡ old.ended
 bad_same_end old None line new answer = answer.reads.same_end

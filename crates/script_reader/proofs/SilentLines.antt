@@ -11,7 +11,7 @@ use Rattle.std.specs.List.{position_or_len}
 use Rattle.std.specs.Str.{bytes_eq}
 use Rattle.script_reader.specs.Answered.{saying_if, is_blank_or_comment, some_if}
 use Rattle.script_reader.specs.Commands.{letter_command, word_command}
-use Rattle.script_reader.specs.Items.{Item, asks, is_comment, item_in, item_or_wrong, nothing, tokens_say}
+use Rattle.script_reader.specs.Items.{Item, asks, item_in, item_or_wrong, nothing, tokens_say}
 use Rattle.script_reader.specs.Lines.{is_gap, tokens}
 use Rattle.script_reader.specs.declared.command.Command.{Command}
 use Rattle.script_reader.specs.declared.next.Next.{Next}
@@ -60,16 +60,6 @@ silent_gaps t h = go (nat_lt (gaps_in t) (length t)) refl h
     go false isnt h =
         let none : tokens t ≡ [] = sym (past_gaps t) ∙ ap tokens (drop_all (gaps_in t) t (ltb-false _ _ isnt)) in
         sym (ap (λ (ts : List (List ℕ)). is_blank_or_comment (tokens_say ts)) none)
-
--- a line that has a first token, and is no comment, means the item of its tokens, or isn't in the grammar
-pub speaks : (word : List ℕ) (args : List (List ℕ)) → is_blank_or_comment (tokens_say (word ∷ args)) ≡ false
-    → tokens_say (word ∷ args) ≡ item_or_wrong (item_in word args)
-speaks word args says = go (is_comment word) says
-  where
-    go : (b : Bool) → is_blank_or_comment (if b then nothing else item_or_wrong (item_in word args)) ≡ false
-        → (if b then nothing else item_or_wrong (item_in word args)) ≡ item_or_wrong (item_in word args)
-    go true says = absurd cc
-    go false says = refl
 
 -- the meaning of a line, from what the code found in it (`formed` and n), is that of its command c; it is `wrong` if c is none
 pub command_said : (formed : Bool) (n : Next) (c : Option Command) → some_if formed n ≡ option_map answer.Command c

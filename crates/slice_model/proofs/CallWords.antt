@@ -22,7 +22,7 @@ use Rattle.slice_model.specs.State.{Plan, IsPlan, JobSlot, Job, Sliced, IsKept, 
 use Rattle.slice_model.specs.Steps.{EndsJob, AddsObject, GoesOn, IsDone, SliceOf, LeavesJob, done_after}
 use Rattle.slice_model.specs.Words.{HasWords, DoesWords, RewritesObject, byte_read, word_at}
 use Rattle.slice_model.specs.Runs.{words_of_slice}
-use Rattle.slice_model.proofs.KeptSteps.{job_stays, kept_malloc}
+use Rattle.slice_model.proofs.KeptSteps.{kept_malloc}
 use Rattle.slice_model.proofs.Occupied.{beside, job_class}
 use Rattle.slice_model.proofs.SliceWords.{carried, cleared, words_ended, words_to_carry, words_to_clear}
 use Rattle.slice_model.proofs.WordAddresses.{AreApart, kept_apart, not_done, not_outside, own_words_at, where_word, word_done, word_left, word_of_other}
@@ -54,10 +54,6 @@ advanced_slot : (j : Job) (k : JobSlot) (d : ℕ) → job_slot j ≡ Some k → 
 advanced_slot Idle k d e = absurd (let e' : None ≡ Some k = e in cc)
 advanced_slot (Clear g) k d e = (let f : g ≡ k = (let e' : Some g ≡ Some k = e in cc) in ap (λ (z : JobSlot). Some (record z { done = d })) f)
 advanced_slot (Move q g) k d e = (let f : g ≡ k = (let e' : Some g ≡ Some k = e in cc) in ap (λ (z : JobSlot). Some (record z { done = d })) f)
-
--- no more than the slot's words are done
-pub done_within : (plan : Plan) (k : JobSlot) → k.done ≤ slot_words plan.paging k.class → done_after plan k ≤ slot_words plan.paging k.class
-done_within plan k le = omega arith
 
 module _ (plan : Plan) (ok : IsPlan plan) (words words' : List ℕ) where
   -- after the next words of a job are done, the words are right for the job with these words done
@@ -179,9 +175,6 @@ module _ (p : Paging) (m : Held) (j : Job) (is_job : IsJobOf p m j) (words words
 
   stays : (q : ℕ) (y : Placed) → get m q ≡ Some y → (q ≢ h) × (get (insert m h x) q ≡ Some y)
   stays q y there = still m h x unused q y there
-
-  job' : IsJobOf p (insert m h x) j
-  job' = job_stays p m (insert m h x) j (λ q y there. (y, (stays q y there).1, refl)) is_job
 
   not_at : (q : ℕ) (y : Placed) → get m q ≡ Some y → (i : ℕ) → i < slot_for p (length y.bytes) → word_at j q y i ≢ a
   not_at q y there i lt e = elim (where_word j q y i) [

@@ -1,18 +1,17 @@
 -- The lemmas that other crates' proofs may cite, passed on from other files: the arrangement with the job's placeholder, the rules of a state, refusals, words,
 -- orders, and calls on one map from numbers to bytes.
-pub use Rattle.slice_model.proofs.Occupied.{placeholder_class, no_placeholder, get_beside, some_beside, inserted_beside, job_class, beside, slot_class, slot_there}
-pub use Rattle.slice_model.proofs.Occupied.{on_more, place_is_free, free_is_place, lacking_is_no_place, no_place_is_lacking, place_or_none}
-pub use Rattle.slice_model.proofs.KeptSteps.{IsAlike, moved_away, changed_places, other_than, job_stays, slot_stays}
+pub use Rattle.slice_model.proofs.Occupied.{placeholder_class, no_placeholder, get_beside, some_beside, inserted_beside, job_class, beside}
+pub use Rattle.slice_model.proofs.Occupied.{on_more, free_is_place, lacking_is_no_place, no_place_is_lacking}
+pub use Rattle.slice_model.proofs.KeptSteps.{changed_places, other_than, slot_stays}
 pub use Rattle.slice_model.proofs.KeptSteps.{kept_malloc, kept_write, kept_begun, kept_slice}
-pub use Rattle.slice_model.proofs.KeptSteps.{kept_free, one_more, same_elsewhere, must_is_two, two_is_must, two_is_last, sound_without_slot}
-pub use Rattle.slice_model.proofs.RoomBeside.{over_is_no_place, place_is_within, idle_is_over, one_cause, given_or_refused, answered}
-pub use Rattle.slice_model.proofs.WordAddresses.{AreApart, kept_apart, where_word, word_of_other, word_done, word_left, outside_not, own_words_at, not_done, not_outside}
-pub use Rattle.slice_model.proofs.WordAddresses.{job_at, job_within, object_slot, object_within}
+pub use Rattle.slice_model.proofs.KeptSteps.{one_more, same_elsewhere, must_is_two, two_is_must, two_is_last, sound_without_slot}
+pub use Rattle.slice_model.proofs.RoomBeside.{one_cause, given_or_refused, answered}
+pub use Rattle.slice_model.proofs.WordAddresses.{kept_apart, where_word, word_of_other, word_done, word_left, outside_not, own_words_at}
+pub use Rattle.slice_model.proofs.WordAddresses.{job_within, object_slot, object_within}
 pub use Rattle.slice_model.proofs.SliceWords.{cleared, carried, words_ended, words_to_clear, words_to_carry}
-pub use Rattle.slice_model.proofs.CallWords.{mover_class, done_within, words_sliced, words_begun, zeros_given, words_given, words_written, byte_there}
-pub use Rattle.slice_model.proofs.ImageBeside.{idle_words, closed_words, carried_words}
+pub use Rattle.slice_model.proofs.CallWords.{mover_class, words_sliced, words_given, words_written, byte_there}
 pub use Rattle.slice_model.proofs.OneMap.{objects_sliced, call_on_map}
-pub use Rattle.slice_model.proofs.Results.{slice_there, free_answered}
+pub use Rattle.slice_model.proofs.Results.{free_answered}
 pub use Rattle.slice_model.proofs.JobSlices.{followed_once, slices_idle, slices_split, slot_advanced}
 pub use Rattle.slice_model.proofs.PendingTime.{begun_fresh, begun_once}
 pub use Rattle.slice_model.proofs.OrderOnce.{one_free, one_malloc, one_slice, one_write, order_happens}

@@ -10,7 +10,7 @@ use Rattle.cf_lemmas.proofs.Sums.{insert_again}
 use Rattle.cf_lemmas.proofs.Values.{still}
 use Rattle.page_model.specs.Arrangement.{IsSound, class_at, not_full_pages, objects_on}
 use Rattle.page_model.specs.Held.{Held, Placed}
-use Rattle.page_model.specs.Paging.{Paging, bound_of, class_for, classes, page_of, slot_words, slots_of}
+use Rattle.page_model.specs.Paging.{Paging, class_for, classes, page_of, slot_words, slots_of}
 use Rattle.page_model.specs.Steps.{Moves, MustMove, Request, zeros_at}
 use Rattle.page_model.proofs.CallerLemmas.{mover_is_other, objects_on-exchanged, objects_on-inserted, objects_on-elsewhere, part_full, part_yes}
 use Rattle.page_model.proofs.CallerLemmas.{sound_exchanged, sound_placed, sound_without, on_yes, one_le, part_empty, part_over}
@@ -302,9 +302,6 @@ module _ (plan : Plan) (ok : IsPlan plan) where
         (λ g. part_full (objects_on plan.paging m k.class g) (slots_of plan.paging k.class)) 0 plan.paging.pages page (omega arith)
         (let within = (s.slots plan.proxies (placeholder plan.paging k) here).page in omega arith)
         (λ g ne. ap (λ n. part_full n (slots_of plan.paging k.class)) (same_elsewhere g ne))
-
-    bound_one : bound_of plan.paging (class_at plan.paging (placeholder plan.paging k)) ≡ 1
-    bound_one = rw of_class (ok.ones k.class class)
 
     few : not_full_pages plan.paging all k.class ≤ 1
     few = (let f = s.few_not_full k.class class in let o = ok.ones k.class class in omega arith)

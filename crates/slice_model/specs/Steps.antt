@@ -1,9 +1,8 @@
 -- What a malloc, a free and a slice do to the state of a sliced heap, and why a malloc or a free is refused. p has the pages and classes, m are objects, k is
 -- the job's slot.
-use Rattle.std.specs.Prelude.{◌≡◌, ◌≢◌, ℕ, zero, suc, ◌+◌, ◌-◌, ◌<◌, ◌≤◌, ◌⊎◌, Option, Some, None, Result, Ok, Err, min}
+use Rattle.std.specs.Prelude.{◌≡◌, ◌≢◌, ℕ, zero, suc, ◌+◌, ◌-◌, ◌<◌, ◌≤◌, ◌⊎◌, Option, Some, None, min}
 use Rattle.std.specs.FinMap.{get, insert, remove, len}
 use Rattle.cf_base.specs.Classes.{need}
-use Rattle.cf_base.specs.declared.answers.Handle.{Handle}
 use Rattle.page_model.specs.Held.{Held, Placed, objects}
 use Rattle.page_model.specs.Paging.{Paging, slot_words, slots_of, page_of, class_for}
 use Rattle.page_model.specs.Arrangement.{class_at, objects_on, not_full_pages, pages_needed_with}
@@ -51,11 +50,6 @@ IsRefusedBy plan s bytes refusal.Size = plan.paging.page_words < need bytes
 IsRefusedBy plan s bytes refusal.Proxy = LacksProxy plan s bytes
 IsRefusedBy plan s bytes refusal.Space = LacksSpace plan s bytes
 IsRefusedBy plan s bytes refusal.Busy = LacksSlot plan s bytes
-
--- what a malloc of `bytes` bytes with this result does to state `old`: it adds an object under the number returned, or is refused and changes nothing
-abbrev pub IsMalloc : Plan → Sliced → ℕ → Result Handle SliceRefusal → Sliced → Type 0
-IsMalloc plan old bytes (Ok h) new = AddsObject plan old (record { number = h.0; length = bytes }) new
-IsMalloc plan old bytes (Err e) new = IsRefusedBy plan old bytes e × (new ≡ old)
 
 -- the slot of class c at address a when a job on it begins: none of its words is done
 abbrev pub fresh_slot : ℕ → ℕ → JobSlot
@@ -147,8 +141,3 @@ pub record MustWait (s : Sliced) (h : ℕ) : Type 0 where
 abbrev pub IsFaultOf : Sliced → ℕ → SliceFault → Type 0
 IsFaultOf s h fault.Unknown = get s.held h ≡ None
 IsFaultOf s h fault.Busy = MustWait s h
-
--- what a free of number h with this result does to state `old`: it removes the object and leaves a job, or is refused and changes nothing
-abbrev pub IsFree : {T : Type 0} → Plan → Sliced → ℕ → Result T SliceFault → Sliced → Type 0
-IsFree plan old h (Ok u) new = RemovesObject plan old h new
-IsFree plan old h (Err e) new = IsFaultOf old h e × (new ≡ old)

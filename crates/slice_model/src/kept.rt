@@ -1,7 +1,7 @@
 //! Laws on the rules of a sliced heap's state (`IsKept`), by which its objects, with a placeholder in the job's
 //! slot, are a sound arrangement: each call keeps them; what they mean for pages. `plan` has the heap's
 //! settings.
-ghost use Rattle.std.specs.Prelude.{ℕ, ◌≡◌, ◌≢◌, ◌<◌, ◌≤◌, List, Some, length};
+ghost use Rattle.std.specs.Prelude.{ℕ, ◌≡◌, ◌≢◌, List, Some, length};
 ghost use Rattle.std.specs.FinMap.{empty, get, insert};
 ghost use Rattle.page_model.specs.Arrangement.{IsSlotAt, IsSound, class_at};
 ghost use Rattle.page_model.specs.Held.{Placed};

@@ -1,14 +1,13 @@
 //! Laws on refusals by the sliced heap: when a malloc is refused as `Space` or `Busy`; a malloc or
 //! free succeeds or has one cause of refusal; a slice always succeeds. `plan` has the settings, s
 //! is the state.
-ghost use Rattle.std.specs.Prelude.{ℕ, ◌≡◌, ◌≢◌, ◌<◌, ◌≤◌, ◌⊎◌, ◌↔◌, Option, Some};
-ghost use Rattle.std.specs.FinMap.{get};
+ghost use Rattle.std.specs.Prelude.{ℕ, ◌≡◌, ◌≢◌, ◌<◌, ◌≤◌, ◌⊎◌, ◌↔◌};
 ghost use Rattle.cf_base.specs.Classes.{need};
 ghost use Rattle.page_model.specs.Arrangement.{pages_needed_with};
 ghost use Rattle.page_model.specs.Held.{objects};
 ghost use Rattle.page_model.specs.Paging.{class_for};
 ghost use Rattle.page_model.specs.Steps.{Request};
-ghost use Rattle.slice_model.specs.State.{Idle, IsFreePage, IsKept, IsPlaceFor, IsPlan, IsUsable, NoPlace, Plan, Sliced, occupied};
+ghost use Rattle.slice_model.specs.State.{Idle, IsFreePage, IsKept, IsPlan, IsUsable, NoPlace, Plan, Sliced, occupied};
 ghost use Rattle.slice_model.specs.Steps.{AddsObject, IsFaultOf, IsRefusedBy, IsSlice, RemovesObject, LacksSlot};
 ghost use Rattle.slice_model.specs.declared.answers.SliceFault.{SliceFault};
 ghost use Rattle.slice_model.specs.declared.answers.SliceRefusal.{SliceRefusal};

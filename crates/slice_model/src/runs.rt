@@ -3,7 +3,7 @@
 ghost use Rattle.std.specs.Prelude.{ℕ, ◌≡◌, List, replicate};
 ghost use Rattle.std.specs.FinMap.{empty};
 ghost use Rattle.page_model.specs.Held.{objects};
-ghost use Rattle.slice_model.specs.Runs.{Event, Happens, HappensOnMap, IsConsistent, Runs, RunsOnMap, TaskCall, HeapWithWords};
+ghost use Rattle.slice_model.specs.Runs.{IsConsistent, Runs, RunsOnMap, TaskCall, HeapWithWords};
 ghost use Rattle.slice_model.specs.State.{Idle, IsPlan, Plan};
 
 /// In every list of calls of several tasks, with slices anywhere in between, the mallocs, frees,

@@ -1,6 +1,6 @@
 //! Laws on the words of a sliced heap's region, also while a job is pending: how they differ from the image of
 //! the objects, what each call changes, how a byte is read. `plan` has the heap's settings.
-ghost use Rattle.std.specs.Prelude.{ℕ, ◌≡◌, ◌+◌, ◌/◌, ◌%◌, ◌<◌, ◌≤◌, ◌↔◌, List, Some, length, min, slice_index};
+ghost use Rattle.std.specs.Prelude.{ℕ, ◌≡◌, ◌+◌, ◌/◌, ◌%◌, ◌<◌, ◌≤◌, ◌↔◌, List, Some, length, slice_index};
 ghost use Rattle.std.specs.FinMap.{get, insert};
 ghost use Rattle.page_model.specs.Bytes.{AreBytes, written};
 ghost use Rattle.page_model.specs.Held.{Held, Placed};

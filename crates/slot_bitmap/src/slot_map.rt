@@ -1,18 +1,19 @@
 //! `SlotMap`, the map of the used slots of a page.
-ghost use Rattle.std.specs.Prelude.{◌≡◌, ◌<◌, ◌≤◌, length, replicate, slice_get, slice_set, not, true, false, IfSome, IsNone, is_some, if◌then◌else◌};
+ghost use Rattle.std.specs.Prelude.{◌≡◌, ◌<◌, ◌≤◌, length, replicate, slice_get, slice_set, not, true, false, IfSome, is_some, if◌then◌else◌};
 ghost use Rattle.std.specs.List.{position, count_by};
 ghost use Rattle.step_ledger.specs.Counting.{RoseBy};
 
 use crate::bits;
 use crate::page_summary::PageSummary;
 use std::marker::Model;
-use step_ledger::{CellArray, Steps, WordCell, with_bit};
+use step_ledger::{CellArray, Steps, WordCell};
 
 /// The map of the used slots of a page. Contracts see a list with a truth value for each slot: true
 /// if it is used.
 ///
 /// It holds a bit for each slot in words of 64 bits, and two summary words, which show the words
-/// with a free slot and those with a used one. It allocates no memory: it has 536 bytes.
+/// with a free slot and those with a used one. It allocates no memory: it has 536 bytes. The heaps
+/// keep the maps of all their pages in one `SlotMaps`.
 #[derive(Drop)]
 pub struct SlotMap {
     /// Bit b of word j is set if slot 64 j + b is used.
@@ -48,22 +49,6 @@ impl SlotMap {
                 used: 0,
             },
         }
-    }
-
-    /// Turns this map, none of whose slots may be used, into one of `slots` slots, all free. A page
-    /// that another class begins to use has another number of slots. Costs two steps.
-    pub fn renew(&mut self, slots: u32, steps: &mut Steps)
-        requires some { 1 ≤ slots }
-        requires few { slots ≤ 4096 }
-        requires unused { count_by (λ used. used) self.old ≡ 0 }
-        ensures value { self.new ≡ replicate slots false }
-        ensures steps { RoseBy steps.old steps.new 2 }
-    {
-        self.summary.slots = slots;
-        self.summary
-            .with_free
-            .set(bits::ones(slots.div_ceil(64)), steps);
-        self.summary.with_used.set(0, steps);
     }
 
     /// The number of slots of this map.
@@ -134,29 +119,6 @@ impl SlotMap {
         self.summary.with_free.write_bit(at, word != full, steps);
         self.summary.with_used.write_bit(at, true, steps);
         self.summary.used += 1;
-    }
-
-    /// Marks the lowest free slot of this map as used and returns it; none if all are used. Costs three steps, or one
-    /// if it returns none: it touches the summary of the free slots, one word, and the summary of the used slots once
-    /// each.
-    pub fn take_first(&mut self, steps: &mut Steps) -> Option<u32>
-        ensures found { result ≡ position (λ used. not used) self.old }
-        ensures free { IfSome result (λ i. slice_get self.old i ≡ Some false) }
-        ensures taken { IfSome result (λ i. self.new ≡ slice_set self.old i true) }
-        ensures none { IsNone result → self.new ≡ self.old }
-        ensures steps { RoseBy steps.old steps.new (if is_some result then 3 else 1) }
-    {
-        let summary = self.summary.with_free.lend(steps);
-        if *summary == 0 {
-            return None;
-        }
-        let at = bits::lowest_set(*summary);
-        let (bit, word) = self.words.set_least_clear(at as usize, steps);
-        let full = bits::ones((self.summary.slots - 64 * at).min(64));
-        *summary = with_bit(*summary, at, word != full);
-        self.summary.with_used.write_bit(at, true, steps);
-        self.summary.used += 1;
-        Some(64 * at + bit)
     }
 
     /// Marks slot `i` of this map, which must be used, as free. Costs three steps.

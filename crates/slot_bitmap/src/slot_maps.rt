@@ -15,8 +15,8 @@ use step_ledger::{Cells, Steps, WordCell, with_bit};
 /// The maps of the used slots of all pages. Contracts see a list of truth values for each page, and
 /// the most slots that a page may have.
 ///
-/// Its calls are those of `SlotMap`, on one page, for the same steps. It has only as many words for
-/// each page as the most slots need: with w words and the summary, 8 w + 24 bytes a page.
+/// The calls of `SlotMap` are here too, on one page, for the same steps. Each page has only the
+/// words that the most slots need: with w words and the summary, 8 w + 24 bytes a page.
 #[derive(Drop)]
 pub struct SlotMaps {
     /// Bit b of word `width` p + j is set if slot 64 j + b of page p is used.

@@ -1,7 +1,6 @@
 //! `CellArray`, counted cells in an array of fixed length, and the bits of such cells. Each access
 //! to a cell adds a step to the ledger.
-ghost use Rattle.std.specs.Prelude.{◌≡◌, ℕ, true, ◌+◌, ◌^◌, ◌<◌, slice_index, slice_index_or, slice_set};
-ghost use Rattle.std.specs.Int.{bit_at};
+ghost use Rattle.std.specs.Prelude.{◌≡◌, ℕ, ◌^◌, ◌<◌, slice_index, slice_index_or, slice_set};
 ghost use Rattle.step_ledger.specs.Counting.{RoseBy};
 ghost use Rattle.cf_lemmas.specs.Bits.{WritesBit};
 
@@ -70,26 +69,6 @@ impl<const N: usize> CellArray<u64, N> {
         let word = with_bit(self.items[i], bit, on);
         self.items[i] = word;
         word
-    }
-
-    /// Sets the lowest clear bit of cell `i` of the array, which must have a clear bit. Costs one step: the word is
-    /// read and written in one access. Returns the position of the bit, and the new word.
-    pub fn set_least_clear(&mut self, i: usize, steps: &mut Steps) -> (u32, u64)
-        requires cell { i < N }
-        requires clear { slice_index self.old i + 1 < 2 ^ 64 }
-        ensures bit { result.0 < 64 }
-        ensures at { bit_at (slice_index self.old i) result.0 ≡ 0 }
-        ensures below { (k : ℕ) → k < result.0 → bit_at (slice_index self.old i) k ≡ 1 }
-        ensures written { WritesBit 64 (slice_index self.old i) result.1 result.0 true }
-        ensures within { (n : ℕ) → result.0 < n → slice_index self.old i < 2 ^ n → result.1 < 2 ^ n }
-        ensures cells { self.new ≡ slice_set self.old i result.1 }
-        ensures steps { RoseBy steps.old steps.new 1 }
-    {
-        steps.tick(1); // one word, searched and written at once
-        let bit = self.items[i].trailing_ones();
-        let word = with_bit(self.items[i], bit, true);
-        self.items[i] = word;
-        (bit, word)
     }
 }
 

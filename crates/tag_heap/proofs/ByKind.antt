@@ -1,7 +1,6 @@
 -- What the definitions that depend on the kind of a heap are for TLSF and Half-Fit: there is no block table, the free lists are those of the kind's rule, and
 -- a malloc follows their order.
-use Rattle.std.proofs.Common.{◌≡◌, ℕ, [], None, Result, refl, subst}
-use Rattle.cf_base.specs.Settings.{Profile}
+use Rattle.std.proofs.Common.{◌≡◌, ℕ, Result, refl, subst}
 use Rattle.cf_base.specs.declared.answers.Handle.{Handle}
 use Rattle.cf_base.specs.declared.answers.Refusal.{Refusal}
 use Rattle.cf_base.specs.declared.kind.Kind.{Kind}
@@ -11,11 +10,10 @@ use Rattle.page_model.specs.Steps.{CallResult}
 use Rattle.block_model.specs.Buckets.{FreeLists}
 use Rattle.block_model.specs.FreeOrder.{AreListsOf, BlocksWithLists}
 use Rattle.block_model.specs.Tiling.{size_at}
-use Rattle.cf_model.specs.Answers.{block_in}
 use Rattle.cf_model.specs.Families.{IsTiled, free_lists_of, list_count_of, paged, tiled}
 use Rattle.cf_model.specs.Ordered.{BlockMallocInOrder, IsOrderedMalloc}
 use Rattle.cf_model.specs.State.{HeapState}
-use Rattle.cf_model.specs.Steps.{BlocksStayIn, frames_left, opening_frames, slot_in}
+use Rattle.cf_model.specs.Steps.{frames_left, slot_in}
 use Rattle.tag_heap.specs.Heap.{Heap, order_of, state_of}
 
 not_paged : paged ≡ tiled → ⊥
@@ -29,21 +27,12 @@ of_tiled P t h Tlsf is = t
 of_tiled P t h HalfFit is = h
 
 module _ (k : Kind) (is : IsTiled k) where
-  pub no_first_frames : (p : Profile) → opening_frames k p ≡ []
-  no_first_frames p = of_tiled (λ k. opening_frames k p ≡ []) refl refl k is
-
   pub frames_stay : (s : HeapState) (after : CallResult) → frames_left k s after ≡ s.frames
   frames_stay s after = of_tiled (λ k. frames_left k s after ≡ s.frames) refl refl k is
-
-  pub no_block : (s : HeapState) (h i : ℕ) → block_in k s h i ≡ None
-  no_block s h i = of_tiled (λ k. block_in k s h i ≡ None) refl refl k is
 
   -- the words of an object are those of its block
   pub slot_is : (s : HeapState) (x : Placed) → slot_in k s x ≡ size_at s.tiling x.place
   slot_is s x = of_tiled (λ k. slot_in k s x ≡ size_at s.tiling x.place) refl refl k is
-
-  pub blocks_stay : (old : HeapState) (h : ℕ) (new : HeapState) → BlocksStayIn k old h new
-  blocks_stay old h new = of_tiled (λ k. BlocksStayIn k old h new) tt tt k is
 
   -- a malloc in the order of blocks is one in the order of the kind
   pub malloc_by : (old new : Heap) (bytes : ℕ) (answer : Result Handle Refusal)
