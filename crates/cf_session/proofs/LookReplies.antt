@@ -1,6 +1,6 @@
 -- For `src/queries.rt`, which does `r`, `q`, `b`, `p` and `steps`: the line that each function builds is the lead and the text of the reply, and the outcome
 -- that it returns (good, refused or other) is that of the text.
-use Rattle.std.proofs.Common.{◌≡◌, ◌∙◌, ◌+◌, ◌<◌, ◌≤◌, ◌/◌, ◌%◌, ◌^◌, ◌++◌, ℕ, List, ◌∷◌, Option, Some, None, Err, option_map}
+use Rattle.std.proofs.Common.{◌≡◌, ◌∙◌, ◌+◌, ◌<◌, ◌≤◌, ◌/◌, ◌%◌, ◌^◌, ◌++◌, ℕ, List, ◌∷◌, Some, None, Err}
 use Rattle.std.proofs.Common.{length, take, drop, nat_eq, false, refl, sym, ap, arith, lit<}
 use Rattle.std.specs.Prelude.{codes, slice_index}
 use Rattle.std.specs.Int.{byte_at, bytes_high_first}
@@ -18,9 +18,8 @@ use Rattle.cf_model.specs.State.{HeapState}
 use Rattle.cf_lemmas.proofs.Tests.{le_no}
 use Rattle.cf_model.specs.Steps.{IsFault, Position, ReadsBytes}
 use Rattle.page_model.specs.Held.{Placed}
-use Rattle.run_model.specs.Replies.{place_text, read_text, steps_text, write_text}
+use Rattle.run_model.specs.Replies.{read_text, steps_text, write_text}
 use Rattle.run_model.specs.Sessions.{SessionState}
-use Rattle.run_model.specs.Texts.{with_number}
 use Rattle.cf_session.specs.Apply.{outcome_in}
 use Rattle.cf_session.specs.OneLine.{SaidOn, lines_at}
 use Rattle.cf_session.specs.declared.outcome.Outcome.{Outcome}
@@ -50,10 +49,6 @@ pub fault_said : (s : HeapState) (position : Position) (count : ℕ) (fault : Ac
     → write_text (Err fault) ≡ read_text (get s.held position.number) position.from count
 fault_said s position count access.Unknown none = rw none refl
 fault_said s position count access.Range past = rw past.found (sym (read_past past.object position.from count past.past))
-
-pub place_said : (o : Option Placed) (word : ℕ) → Some word ≡ option_map (λ (x : Placed). x.place) o → with_number (codes "at ") word ≡ place_text o
-place_said None word is = absurd cc
-place_said (Some x) word is = ap (with_number (codes "at ")) (let e : word ≡ x.place = cc in e)
 
 pub steps_other : (k : Kind) (s : SessionState) (cost : ℕ) → Other ≡ outcome_in (steps_text k s cost)
 steps_other Moving s cost = refl
