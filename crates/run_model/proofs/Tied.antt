@@ -9,7 +9,7 @@ use Rattle.cf_base.specs.declared.answers.Resized.{Resized}
 use Rattle.cf_base.specs.declared.answers.ResizeFault.{ResizeFault}
 use Rattle.cf_base.specs.declared.kind.Kind.{Kind}
 use Rattle.id_table.specs.Ties.{AreTiedTo}
-use Rattle.id_table.proofs.CallerLemmas.{counted_ids, names_of_held, names_of_objects, tied_less, tied_more, tied_same}
+use Rattle.id_table.proofs.CallerLemmas.{costs_at_most, counted_ids, names_of_held, names_of_objects, tied_less, tied_more, tied_same}
 use Rattle.page_model.specs.Held.{Held, objects}
 use Rattle.page_model.specs.Steps.{Request}
 use Rattle.page_model.proofs.CallerLemmas.{bytes_held}
@@ -50,11 +50,7 @@ unmoved_held k old new is = ap (λ (s : HeapState). s.held) (unmoved_changes_cos
 
 -- a cost within the bound of its kind is within the bound with pages, if the kind has pages
 pub costs_with_pages : (k : Kind) (cost n m : ℕ) → CostsByKind k cost n m → CostsAtMost k cost n
-costs_with_pages k cost n m within = by_family (family_of k) refl
-  where
-    by_family : (f : Family) → family_of k ≡ f → CostsAtMost k cost n
-    by_family paged is = (let le = rw (is, CostsByKind) at within in rw (is, CostsAtMost) le)
-    by_family tiled is = rw (is, CostsAtMost) tt
+costs_with_pages k cost n m within = costs_at_most k cost n (λ is. rw (is, CostsByKind) at within)
 
 module _ (old new : RunState) (tied : AreTied old.session old.heap) where
   abbrev names : AreTiedTo old.session.ids old.heap.held
