@@ -132,14 +132,14 @@ impl Session {
         )
     }
 
-    /// How many times a call moved an object to another's slot since the start; saturates at `2^64 - 1`.
+    /// Returns how many times an object moved to another slot since the start; saturates at `2^64 - 1`.
     pub fn moves(&self) -> u64
         ensures { result ≡ self.now.moves }
     {
         self.records.counters.moves
     }
 
-    /// The words of all slots to which calls moved an object since the start; saturates at `2^64 - 1`.
+    /// Returns the sum of the words of the slots that objects moved to since the start; saturates at `2^64 - 1`.
     pub fn words(&self) -> u64
         ensures { result ≡ self.now.words }
     {
