@@ -1,5 +1,5 @@
 -- What other crates' proofs may cite: numbers that are written and read again, bytes written one after the other, and how long the texts on a line are.
-use Rattle.std.proofs.Common.{◌≡◌, ◌∙◌, ◌<◌, ◌≤◌, ◌*◌, ◌&&◌, List, [], ◌∷◌, ℕ, Some, true, refl, ap, sym, length, arith}
+use Rattle.std.proofs.Common.{◌≡◌, ◌∙◌, ◌≤◌, ◌*◌, ◌&&◌, List, [], ◌∷◌, ℕ, Some, true, refl, ap, sym, length, arith}
 use Rattle.std.specs.List.{list_all}
 use Rattle.std.specs.Fmt.{decimal}
 use Rattle.std.specs.Int.{w64, to_be_bytes}
@@ -11,8 +11,8 @@ use Rattle.std.proofs.lemmas.Str.Parse.{digit_from_value}
 use Rattle.cf_io.specs.Lines.{word_text}
 use Rattle.cf_io.specs.Numbers.{is_digit, number_in}
 pub use Rattle.cf_io.proofs.Digits.{Spells, digits_stop, digits_within, first_shown, number_spelled, other_byte, spells}
-pub use Rattle.cf_io.proofs.Feeding.{appended_after, appended_none, appended_then, fails_after, given_min, given_more, given_none, nothing_follows}
-pub use Rattle.cf_io.proofs.Feeding.{nothing_may_follow, nothing_taken, preceded_after, preceded_none, writes_faults, writes_more, writes_none}
+pub use Rattle.cf_io.proofs.Feeding.{appended_after, appended_none, fails_after, given_min, given_more, given_none, nothing_follows}
+pub use Rattle.cf_io.proofs.Feeding.{nothing_may_follow, nothing_taken, preceded_after, preceded_none, writes_more, writes_none}
 pub use Rattle.cf_io.proofs.LineLemmas.{decimal_short, five, led-append, pushed, puts_cut, puts_line, puts_same, puts_then, three}
 
 pub length_in_hex : (bytes : List ℕ) → length (encode_lower bytes) ≡ 2 * length bytes
@@ -20,10 +20,6 @@ length_in_hex bytes = length-encode_with lower_digits bytes
 
 pub length_of_word : (v : ℕ) → length (word_text v) ≡ 16
 length_of_word v = length_in_hex (to_be_bytes w64 v)
-
--- a leading zero doesn't change the number that a text spells
-pub number_behind_zero : (text : List ℕ) → 0 < length text → number_in (48 ∷ text) ≡ number_in text
-number_behind_zero text some = grind (arith, some)
 
 digits_pass : (text : List ℕ) → AllDigits 10 text → list_all is_digit text ≡ true
 digits_pass [] h = refl

@@ -101,10 +101,6 @@ first_spell text i v some within all ends value fits =
     }) in
     rw (digits_end text i within all ends, is) refl
 
--- a text that begins with no digit has no leading number
-pub first_none : (text : List ℕ) → (0 < length text → is_digit (get_or text 0 0) ≡ false) → None ≡ leading_number text
-first_none text ends = rw (digits_end text 0 (omega arith) refl ends) refl
-
 -- if v, of n digits, is the leading number, the text begins with n digits, and they spell v
 pub first_shown : (text : List ℕ) (v n : ℕ) → Some (v, n) ≡ leading_number text → (n ≡ digits_first text) × (number_in (take n text) ≡ Some v)
 first_shown text v n shown = go (number_in (take (digits_first text) text)) refl shown

@@ -1,12 +1,10 @@
 -- Bytes that are written, taken or counted in two calls, one after the other, are those of both together; what a write says of the sink's faults; and what may
 -- follow the bytes that were taken.
-use Rattle.std.proofs.Common.{◌≡◌, ◌≤◌, ◌++◌, ◌∙◌, Bool, List, ℕ, Option, None, Some, true, false, refl, ap, sym, subst, ◌+◌, append_assoc, append-nil, take, drop, min, arith, inl, inr}
+use Rattle.std.proofs.Common.{◌≡◌, ◌++◌, ◌∙◌, Bool, List, ℕ, Option, None, Some, true, false, refl, ap, sym, subst, ◌+◌, append_assoc, append-nil, take, drop, min, arith, inl, inr}
 use Rattle.std.proofs.Math.Seq.{take-add}
 use Rattle.std.proofs.lemmas.Bool.{cases_lt}
-use Rattle.std.specs.Prelude.{[], Result, Ok, Err, OnErr, OnOk}
-use Rattle.std.specs.Result.{is_err}
-use Rattle.cf_base.specs.declared.answers.Failed.{Failed}
-use Rattle.cf_io.specs.Feeds.{FailsIf, FailsLast, HasGiven, IsSpent, MayFollow, SinkFailsIf, SinkState, Writes, WritesAll, appended, last_count, preceded}
+use Rattle.std.specs.Prelude.{[]}
+use Rattle.cf_io.specs.Feeds.{FailsIf, HasGiven, IsSpent, MayFollow, SinkState, WritesAll, appended, last_count, preceded}
 
 pub appended_then : (w : Option (List ℕ)) (a b : List ℕ) → appended (appended w a) b ≡ appended w (a ++ b)
 appended_then None a b = refl
@@ -35,24 +33,6 @@ pub writes_more : (w x y : SinkState) (bytes : List ℕ) (i n : ℕ) → WritesA
     → WritesAll w (take (i + n) bytes) y
 writes_more w x y bytes i n first next =
     record { wrote = appended_after _ _ _ _ _ first.wrote next.wrote ∙ ap (appended w.written) (sym (take-add i n bytes)); same = next.same ∙ first.same }
-
--- what a write says of the sink's faults: their count never falls; if the write succeeds, it is unchanged; if not, the last call failed
-module _ {T : Type 0} (old new : SinkState) (bytes : List ℕ) where
-  pub writes_grow : (r : Result T Failed) → Writes old bytes r new → old.faults ≤ new.faults
-  writes_grow (Ok u) wrote = omega (arith, wrote.same)
-  writes_grow (Err e) cut = cut.fails.2
-
-  pub writes_same : (r : Result T Failed) → Writes old bytes r new → OnOk r (new.faults ≡ old.faults)
-  writes_same (Ok u) wrote = wrote.same
-  writes_same (Err e) wrote = tt
-
-  pub writes_fail : (r : Result T Failed) → Writes old bytes r new → OnErr r (FailsLast old.faults new.faults new.last_failed)
-  writes_fail (Ok u) wrote = tt
-  writes_fail (Err e) cut = cut.fails
-
-  pub writes_faults : (r : Result T Failed) → Writes old bytes r new → SinkFailsIf (is_err r) old new
-  writes_faults (Ok u) wrote = wrote.same
-  writes_faults (Err e) cut = cut.fails
 
 pub given_min : (g0 g2 n : ℕ) → g2 ≡ min (g0 + n) last_count → HasGiven g0 n g2
 given_min g0 g2 n is = elim (cases_lt (g0 + n) last_count) [

@@ -1,5 +1,5 @@
 -- Counts and sums over a range: if the test or a term changes at one number, at which numbers the test passes, and lower bounds of a sum.
-use Rattle.std.proofs.Common.{◌≡◌, ◌≢◌, ℕ, zero, suc, Bool, cond, ◌+◌, ◌<◌, ◌≤◌, List, [], ◌∷◌, arith, ap, refl, inl, inr}
+use Rattle.std.proofs.Common.{◌≡◌, ◌≢◌, ℕ, zero, suc, Bool, cond, ◌+◌, ◌-◌, ◌<◌, ◌≤◌, List, [], ◌∷◌, arith, ap, refl, ◌∙◌, inl, inr}
 use Rattle.std.specs.Prelude.{count_by, sum_by}
 use Rattle.std.specs.List.{range_with_len}
 use Rattle.std.proofs.lemmas.List.FromFn.{length-range_with_len}
@@ -80,6 +80,12 @@ some_in_range f a (suc n) d low high is =
       | inl at ↦ (let first : one (f a) ≡ one (f d) = ap (λ p. one (f p)) at in omega arith)
       | inr other ↦ (let rest = some_in_range f (a + 1) n d (omega arith) (omega arith) is in omega arith)
     ]
+
+-- the sum over the numbers from a up to n begins with the term of a
+pub sum_next : (f : ℕ → ℕ) (a n : ℕ) → a < n → sum_by f (range_with_len a (n - a)) ≡ f a + sum_by f (range_with_len (a + 1) (n - (a + 1)))
+sum_next f a n lt =
+    let e : n - a ≡ suc (n - (a + 1)) = omega arith in
+    ap (λ k. sum_by f (range_with_len a k)) e ∙ sum_by-cons f a (range_with_len (a + 1) (n - (a + 1)))
 
 -- if each term is at most the term of another sum, the sum is at most the other
 pub sum_le : (f g : ℕ → ℕ) (a n : ℕ) → ((d : ℕ) → a ≤ d → d < a + n → f d ≤ g d) → sum_by f (range_with_len a n) ≤ sum_by g (range_with_len a n)

@@ -60,10 +60,6 @@ pub fault_said : (s : HeapState) (position : Position) (count : ℕ) (fault : Ac
 fault_said s position count access.Unknown none = rw none refl
 fault_said s position count access.Range past = rw past.found (sym (read_past past.object position.from count past.past))
 
-pub place_said : (o : Option Placed) (word : ℕ) → Some word ≡ option_map (λ (x : Placed). x.place) o → with_number (codes "at ") word ≡ place_text o
-place_said None word is = absurd cc
-place_said (Some x) word is = ap (with_number (codes "at ")) (let e : word ≡ x.place = cc in e)
-
 pub steps_other : (k : Kind) (s : SessionState) (cost : ℕ) → Other ≡ outcome_in (steps_text k s cost)
 steps_other Moving s cost = refl
 steps_other _ s cost = refl

@@ -4,7 +4,6 @@
 ghost use Rattle.std.specs.Prelude.{◌≡◌, ◌^◌, ◌<◌, ◌≤◌, ◌++◌, IsTrue, codes, length, slice_get, take};
 ghost use Rattle.std.specs.FinMap as map;
 ghost use Rattle.cf_base.specs.declared.numbers.TheConstants.{CHUNK};
-ghost use Rattle.cf_io.specs.Lines.{line_capacity};
 ghost use Rattle.hex.specs.Hex.{encode_lower};
 ghost use Rattle.cf_session.specs.OneLine.{IsPut, SaidOn, lines_at};
 ghost use Rattle.cf_session.specs.Records.{run_with, session_of};

@@ -4,7 +4,6 @@ ghost use Rattle.std.specs.Prelude.{◌≤◌, List, ℕ, length, ◌≡◌};
 ghost use Rattle.cf_session.specs.Apply.{IsEnded};
 ghost use Rattle.cf_session.specs.OneLine.{HasRoom, IsPut, SaidOn, lines_at};
 ghost use Rattle.cf_session.specs.Short.{short_text};
-ghost use Rattle.run_model.specs.Texts.{led, said};
 
 use crate::outcome::Outcome;
 use crate::short::{OneLine, Short};

@@ -1,5 +1,5 @@
 -- The line that is written for a command: its tokens, separated by single spaces, and a line feed.
-use Rattle.std.specs.Prelude.{◌≤◌, ℕ, ◌++◌, List, [], ◌∷◌, map, decimal, codes}
+use Rattle.std.specs.Prelude.{ℕ, ◌++◌, List, [], ◌∷◌, map, decimal, codes}
 use Rattle.hex.specs.Hex.{encode_lower}
 use Rattle.script_reader.specs.declared.command.Command.{Command}
 use Rattle.script_reader.specs.declared.command.Command.TheVariants.{Malloc, Free, Write, Read, Place, Block, Peek, Walk, Frag, Steps, Bound, Resize, Slice}

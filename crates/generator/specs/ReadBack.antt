@@ -6,8 +6,8 @@ use Rattle.hex.specs.Hex.{IsBytes}
 use Rattle.script_reader.specs.Commands.{IsWellFormed}
 use Rattle.script_reader.specs.Items.{is_bound}
 use Rattle.script_reader.specs.declared.command.Command.{Command}
-use Rattle.script_reader.specs.declared.command.Command.TheVariants.{Malloc, Free, Write, Read, Place, Block, Peek, Walk, Frag, Steps, Bound, Resize, Slice}
-use Rattle.script_reader.specs.declared.command.Command.TheVariants.{Task, Quota, Need, Admit}
+use Rattle.script_reader.specs.declared.command.Command.TheVariants.{Malloc, Free, Write, Read, Place, Block, Peek, Bound, Resize}
+use Rattle.script_reader.specs.declared.command.Command.TheVariants.{Quota, Need}
 use Rattle.generator.specs.CommandText.{line_of, spaced, word_and_numbers}
 
 -- a number of 16 bits

@@ -7,7 +7,6 @@ use Rattle.cf_base.specs.declared.answers.Handle.{Handle}
 use Rattle.cf_base.specs.declared.answers.Refusal.{Refusal}
 use Rattle.cf_base.specs.declared.kind.Kind.{Kind}
 use Rattle.cf_model.specs.Costs.{TakesAtMost}
-use Rattle.cf_model.specs.Families.{Family, paged, tiled, family_of}
 use Rattle.cf_model.specs.Rules.{KeepsRules}
 use Rattle.cf_model.specs.State.{HeapState}
 use Rattle.cf_model.specs.Steps.{FreesObject, IsMallocStep, WritesBytes}
@@ -18,15 +17,11 @@ use Rattle.id_table.specs.Named.{ids_given}
 use Rattle.id_table.specs.Sessions.{CostsAtMost, IsGoing, RunState, SessionState}
 use Rattle.id_table.specs.Ties.{AreTiedTo}
 use Rattle.id_table.specs.declared.counters.Counters.{Counters}
-use Rattle.id_table.proofs.CallerLemmas.{names_of_held, names_of_objects, tied_less, tied_more, tied_same}
+use Rattle.id_table.proofs.CallerLemmas.{costs_at_most, names_of_held, names_of_objects, tied_less, tied_more, tied_same}
 
 -- the steps that a call added are within the bound for pages, if the kind has pages
 costs : (k : Kind) (a b n m cost : ℕ) → TakesAtMost k a b n m → b ≡ a + cost → CostsAtMost k cost n
-costs k a b n m cost took is = by_family (family_of k) refl
-  where
-    by_family : (f : Family) → family_of k ≡ f → CostsAtMost k cost n
-    by_family paged e = (let r = rw (e, TakesAtMost) at took in let most = r.bound in rw (e, CostsAtMost) (omega arith))
-    by_family tiled e = rw (e, CostsAtMost) tt
+costs k a b n m cost took is = costs_at_most k cost n (λ e. (let r = rw (e, TakesAtMost) at took in let most = r.bound in omega arith))
 
 -- counting a move keeps the step bound
 pub moved_bound : {T : Type 0} (c : Counters) (moved : Option T) (n : ℕ) → (with_move c moved n).bound ≡ c.bound

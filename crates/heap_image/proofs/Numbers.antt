@@ -1,6 +1,6 @@
--- Fields of an image that are numbers of two or four bytes: a number that was written is read back; a whole field decodes to its number, a cut one is marked
+-- Fields of an image that are numbers of two or four bytes: the length of an entry and of the header; a number that was written is read back; a whole field decodes to its number, a cut one is marked
 -- as cut.
-use Rattle.std.proofs.Common.{◌≡◌, ◌∙◌, ◌++◌, ◌<◌, ◌^◌, ℕ, Bool, true, false, List, length, take, drop, refl, ap, sym, arith, get_or}
+use Rattle.std.proofs.Common.{◌≡◌, ◌∙◌, ◌+◌, ◌++◌, ◌<◌, ◌^◌, ℕ, Bool, true, false, List, length, take, drop, refl, ap, sym, arith, get_or}
 use Rattle.std.specs.Prelude.{nat_lt, if◌then◌else◌}
 use Rattle.std.specs.Int.{Width, w16, w32, byte_len}
 use Rattle.std.proofs.Common.{length-append}
@@ -8,7 +8,7 @@ use Rattle.std.proofs.Math.Seq.{drop-append_seam, take-append_seam}
 use Rattle.std.proofs.lemmas.Bool.Decides.{nat_tests}
 use Rattle.std.proofs.lemmas.Nat.{from_le_bytes-to_le_bytes_2, from_le_bytes-to_le_bytes_4, le_bytes_2, le_bytes_4}
 use Rattle.heap_image.specs.Decoded.{Decoded, cut, number}
-use Rattle.heap_image.specs.Image.{number_bytes, number_of_bytes}
+use Rattle.heap_image.specs.Image.{entry_of, header_of, number_bytes, number_of_bytes}
 
 pub length-number_2 : (n : ℕ) → length (number_bytes w16 n) ≡ 2
 unfolding number_bytes
@@ -17,6 +17,25 @@ length-number_2 n = refl
 pub length-number_4 : (n : ℕ) → length (number_bytes w32 n) ≡ 4
 unfolding number_bytes
 length-number_4 n = refl
+
+pub length-entry : (id : ℕ) (v : List ℕ) → length (entry_of id v) ≡ 6 + length v
+length-entry id v =
+    let a = length-append (number_bytes w16 id) (number_bytes w32 (length v) ++ v) in
+    let b = length-append (number_bytes w32 (length v)) v in
+    let c = length-number_2 id in
+    let d = length-number_4 (length v) in
+    omega (arith, a, b, c, d)
+
+pub length-header : (pages page_bytes proxies count : ℕ) → length (header_of pages page_bytes proxies count) ≡ 20
+length-header pages page_bytes proxies count =
+    let a = length-append (number_bytes w32 pages) (number_bytes w32 page_bytes ++ (number_bytes w32 proxies ++ number_bytes w32 count)) in
+    let b = length-append (number_bytes w32 page_bytes) (number_bytes w32 proxies ++ number_bytes w32 count) in
+    let c = length-append (number_bytes w32 proxies) (number_bytes w32 count) in
+    let d = length-number_4 pages in
+    let e = length-number_4 page_bytes in
+    let f = length-number_4 proxies in
+    let g = length-number_4 count in
+    omega (arith, a, b, c, d, e, f, g)
 
 pub number_back_2 : (n : ℕ) → n < 2 ^ 16 → number_of_bytes w16 (number_bytes w16 n) ≡ n
 unfolding number_bytes number_of_bytes

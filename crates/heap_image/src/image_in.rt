@@ -1,10 +1,10 @@
 //! Loads an image from a source into a heap: opens the heap with the image's settings, then makes its objects.
-ghost use Rattle.std.specs.Prelude.{◌≡◌, ◌+◌, ◌<◌, ◌≤◌, ◌^◌, ℕ, List, Err};
+ghost use Rattle.std.specs.Prelude.{◌≡◌, ◌+◌, ◌<◌, ◌≤◌, Err};
 ghost use Rattle.std.specs.FinMap as map;
 ghost use Rattle.cf_base.specs.declared.kind.Kind.TheVariants.{Moving};
 ghost use Rattle.cf_io.specs.Feeds.{SourceFailsIf};
 ghost use Rattle.id_table.specs.Sessions.{run_at};
-ghost use Rattle.heap_image.specs.Decoded.{at_first, count_decoded, end_decoded, entries_decoded};
+ghost use Rattle.heap_image.specs.Decoded.{at_first, count_decoded, entries_decoded};
 ghost use Rattle.heap_image.specs.Ends.{EndsReading, EndRead};
 ghost use Rattle.heap_image.specs.Counts.{CountsLoad};
 ghost use Rattle.heap_image.specs.Feed.{feed_of, is_unread};

@@ -4,7 +4,6 @@ ghost use Rattle.std.specs.Prelude.{◌≡◌, ◌≤◌, ℕ, List};
 ghost use Rattle.cf_base.specs.Settings.{Profile, at_bound_one};
 ghost use Rattle.cf_base.specs.declared.kind.Kind.TheVariants.{Moving};
 ghost use Rattle.cf_base.specs.declared.kind.Layout.TheVariants.{Words};
-ghost use Rattle.cf_model.specs.State.{HeapState};
 ghost use Rattle.id_table.specs.Ids.{AreWithin};
 ghost use Rattle.page_model.specs.Arrangement.{IsSound, pages_needed};
 ghost use Rattle.page_model.specs.Held.{Held, Objects, objects};

@@ -1,6 +1,6 @@
 -- Ids are tied to objects with their addresses if and only if they are tied to the bytes alone; counting keeps the ids; a call without cost is within each
 -- bound; and a write within an object has no fault.
-use Rattle.std.proofs.Common.{◌≡◌, ℕ, ◌+◌, Option, Some, None, length, ap, sym, ◌∙◌, refl, arith, subst}
+use Rattle.std.proofs.Common.{◌≡◌, ◌≤◌, ℕ, ◌+◌, Option, Some, None, length, ap, sym, ◌∙◌, refl, arith, subst}
 use Rattle.std.specs.Prelude.{option_map}
 use Rattle.std.specs.FinMap.{get}
 use Rattle.cf_base.specs.declared.answers.AccessFault.{AccessFault}
@@ -50,13 +50,17 @@ pub counted_ids : {T : Type 0} (s : SessionState) (o : Option T) (n : ℕ) → (
 counted_ids s None n = refl
 counted_ids s (Some h) n = refl
 
--- a call without cost is within every bound
-pub costs_nothing : (k : Kind) (cost bound : ℕ) → cost ≡ 0 → CostsAtMost k cost bound
-costs_nothing k cost bound none = by_family (family_of k) refl
+-- a cost is within the bound of its kind if, for a kind with pages, it is at most the bound
+pub costs_at_most : (k : Kind) (cost bound : ℕ) → (family_of k ≡ paged → cost ≤ bound) → CostsAtMost k cost bound
+costs_at_most k cost bound few = by_family (family_of k) refl
   where
     by_family : (f : Family) → family_of k ≡ f → CostsAtMost k cost bound
-    by_family paged is = rw (is, CostsAtMost) (omega arith)
+    by_family paged is = rw (is, CostsAtMost) (few is)
     by_family tiled is = rw (is, CostsAtMost) tt
+
+-- a call without cost is within every bound
+pub costs_nothing : (k : Kind) (cost bound : ℕ) → cost ≡ 0 → CostsAtMost k cost bound
+costs_nothing k cost bound none = costs_at_most k cost bound (λ _. omega arith)
 
 -- a write within the object of a live id has no fault
 pub no_fault : {T : Type 0} (s : RunState) (id at count : ℕ) (has : HasBytes s id (at + count)) (e : AccessFault)

@@ -1,5 +1,5 @@
-//! Ids of objects: the table from ids to the handles of their objects (`IdTable`), the counters of a session
-//! (`Counters`), and the calls of a manager by ids (`Namer`): which a session has.
+//! The table from ids to the handles of objects (`IdTable`), the counters of a session (`Counters`), and a
+//! manager whose calls name objects by ids (`Namer`).
 #![tactic(auto)]
 
 mod counters;

@@ -19,7 +19,7 @@ use Rattle.large_objects.specs.LargeSteps.{HasLong, HasPartRange, StaysKept, Wri
 use Rattle.large_objects.specs.InnerObjects.{whole_part_bytes, part_count}
 use Rattle.large_objects.proofs.Bytes.{take_drop_more, written_more}
 use Rattle.large_objects.proofs.Cutting.{parts_enough}
-use Rattle.large_objects.proofs.InnerSteps.{inner_small, page_small}
+use Rattle.large_objects.proofs.InnerSteps.{inner_small}
 
 take_none : (v : List ℕ) → take 0 v ≡ []
 take_none [] = refl
@@ -123,10 +123,6 @@ index_small s k h v found long i below =
     let small = inner_small s.inner (is_ready s k) h spine.spine spine.found in
     let l = spine.long in omega arith
 
--- the length of a part is a number of 32 bits
-pub part_small : (s : LargeState) → KeepsParts s → part_bytes_in s < 2 ^ 32
-part_small s k = (let small = page_small s.inner (is_ready s k) in omega arith)
-
 module _ (old now : LargeState) (h at done count part_bytes : ℕ) (bytes : List ℕ) (has : HasLong old h at (length bytes))
     (so_far : (v : List ℕ) → get old.objects h ≡ Some v → now.objects ≡ insert old.objects h (written v at (take done bytes)))
     (kept : StaysKept old now) (part_is : part_bytes ≡ part_bytes_in old) (positive : 0 < part_bytes) (few : done + count ≤ length bytes) (more : 0 < count) where
@@ -150,9 +146,6 @@ module _ (old now : LargeState) (h at done count part_bytes : ℕ) (bytes : List
       let below = part_below part_bytes (at + done) positive (length now_bytes) (let l = same_bytes in let w = has.within in omega arith) in
       index_small now kept.parts h now_bytes there still_long ((at + done) / part_bytes) (subst (λ k. (at + done) / part_bytes < part_count k (length now_bytes))
       (sym part_now) below)
-
-  pub write_within_small : (at + done) % part_bytes < 2 ^ 32
-  write_within_small = (let i = inside_part part_bytes (at + done) positive in let s = part_small now kept.parts in let e = part_now in omega arith)
 
   pub next_write : (at + done) % part_bytes + count ≤ part_bytes → HasPartRange now h ((at + done) / part_bytes) ((at + done) % part_bytes) count
   next_write inside = subst (λ k. HasPartRange now h ((at + done) / k) ((at + done) % k) count) part_now
@@ -180,9 +173,6 @@ module _ (s : LargeState) (h at done count part_bytes total : ℕ) (has : HasLon
   read_index_small =
       let below = part_below part_bytes (at + done) positive (length has.bytes) (let w = has.within in omega arith) in
       index_small s parts h has.bytes has.found has.long ((at + done) / part_bytes) (subst (λ k. (at + done) / part_bytes < part_count k (length has.bytes)) part_is below)
-
-  pub read_within_small : (at + done) % part_bytes < 2 ^ 32
-  read_within_small = (let i = inside_part part_bytes (at + done) positive in let s = part_small s parts in let e = part_is in omega arith)
 
   pub next_read : (at + done) % part_bytes + count ≤ part_bytes → HasPartRange s h ((at + done) / part_bytes) ((at + done) % part_bytes) count
   next_read inside = subst (λ k. HasPartRange s h ((at + done) / k) ((at + done) % k) count) (sym part_is)

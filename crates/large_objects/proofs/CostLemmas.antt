@@ -1,14 +1,13 @@
 -- The steps of the calls of an inner manager that it can't refuse, from its own bounds and its order; and sums of such steps over the parts of an object.
-use Rattle.std.proofs.Common.{◌≡◌, ℕ, suc, ◌+◌, ◌-◌, ◌*◌, ◌/◌, ◌%◌, ◌^◌, ◌<◌, ◌≤◌, Bool, true, false, min, List, Some, None, length, arith, sym, ◌∙◌, ap, refl, subst, inl, inr}
+use Rattle.std.proofs.Common.{◌≡◌, ℕ, ◌+◌, ◌-◌, ◌*◌, ◌/◌, ◌%◌, ◌^◌, ◌<◌, ◌≤◌, Bool, true, false, min, List, Some, None, length, arith, sym, ◌∙◌, ap, refl, subst, inl, inr}
 use Rattle.std.specs.Prelude.{Option, Result, Ok, Err, ◌&&◌, if◌then◌else◌, is_some, nat_eq, sum_by}
 use Rattle.std.proofs.Math.Nat.{div-add-mod, mod-lt}
 use Rattle.std.proofs.lemmas.Nat.{le-div, mul-le}
 use Rattle.std.proofs.lemmas.Bool.{cases_eq, cases_lt, eqb-true}
-use Rattle.std.proofs.lemmas.List.Sums.{sum_by-cons}
 use Rattle.std.specs.FinMap.{get}
 use Rattle.cf_lemmas.proofs.Tests.{eq_no, le_no}
 use Rattle.std.specs.List.{range_with_len}
-use Rattle.cf_lemmas.proofs.Ranges.{sum_range_same}
+use Rattle.cf_lemmas.proofs.Ranges.{sum_next, sum_range_same}
 use Rattle.step_ledger.specs.Counting.{RoseAtMost, RoseBy}
 use Rattle.cf_base.specs.Classes.{need}
 use Rattle.cf_base.specs.declared.answers.AccessFault.{AccessFault}
@@ -141,10 +140,6 @@ free_costs (Some b) s t h (Ok freed) old new ready step ordered took own c follo
         let cost = m.cost in
         record { kept = own.kept; bound = omega arith }
 
--- the sum over the numbers from i up to n begins with that of i
-sum_ahead : (f : ℕ → ℕ) (i n : ℕ) → i < n → sum_by f (range_with_len i (n - i)) ≡ f i + sum_by f (range_with_len (i + 1) (n - (i + 1)))
-sum_ahead f i n lt = (let e : n - i ≡ suc (n - (i + 1)) = omega arith in rw e (sum_by-cons f i (range_with_len (i + 1) (n - (i + 1)))))
-
 sum_past : (f : ℕ → ℕ) (i n : ℕ) → n ≤ i → sum_by f (range_with_len i (n - i)) ≡ 0
 sum_past f i n le = (let e : n - i ≡ 0 = omega arith in rw e refl)
 
@@ -157,7 +152,7 @@ parts_malloc_from c p u n i = sum_by (λ j. inner_malloc_steps c p (part_length 
 
 pub free_next : (c : InnerCosts) (p : Paging) (u n i : ℕ) → i < part_count u n
     → parts_free_from c p u n i ≡ handle_steps c i + inner_free_steps c p (part_length u n i) + parts_free_from c p u n (i + 1)
-free_next c p u n i below = sum_ahead (λ j. handle_steps c j + inner_free_steps c p (part_length u n j)) i (part_count u n) below
+free_next c p u n i below = sum_next (λ j. handle_steps c j + inner_free_steps c p (part_length u n j)) i (part_count u n) below
 
 pub free_past : (c : InnerCosts) (p : Paging) (u n i : ℕ) → part_count u n ≤ i → parts_free_from c p u n i ≡ 0
 free_past c p u n i past = sum_past (λ j. handle_steps c j + inner_free_steps c p (part_length u n j)) i (part_count u n) past
@@ -170,7 +165,7 @@ malloc_first c p u n = (let e : part_count u n - 0 ≡ part_count u n = omega ar
 
 pub malloc_next : (c : InnerCosts) (p : Paging) (u n i : ℕ) → i < part_count u n
     → parts_malloc_from c p u n i ≡ inner_malloc_steps c p (part_length u n i) + handle_steps c i + parts_malloc_from c p u n (i + 1)
-malloc_next c p u n i below = sum_ahead (λ j. inner_malloc_steps c p (part_length u n j) + handle_steps c j) i (part_count u n) below
+malloc_next c p u n i below = sum_next (λ j. inner_malloc_steps c p (part_length u n j) + handle_steps c j) i (part_count u n) below
 
 pub malloc_past : (c : InnerCosts) (p : Paging) (u n i : ℕ) → part_count u n ≤ i → parts_malloc_from c p u n i ≡ 0
 malloc_past c p u n i past = sum_past (λ j. inner_malloc_steps c p (part_length u n j) + handle_steps c j) i (part_count u n) past
@@ -198,9 +193,6 @@ module _ (c : InnerCosts) (u from left count : ℕ) (some : 0 < u) (more : 0 < l
 
   next_place : u * (from / u + 1) ≡ u * (from / u) + u
   next_place = omega arith
-
-  abbrev ends : ℕ
-  ends = (from + left - 1) / u + 1
 
   begins : from / u < (from + left - 1) / u + 1
   begins = (let p = place in let t : from / u * u ≡ u * (from / u) = omega arith in
@@ -247,7 +239,7 @@ module _ (c : InnerCosts) (u from left count : ℕ) (some : 0 < u) (more : 0 < l
   access_next =
       let e : nat_eq left 0 ≡ false = eq_no left 0 (λ z. absurd (omega arith)) in
       let whole : parts_access_steps c u from left ≡ sum_by (steps_in from left) (range_with_len (from / u) ((from + left - 1) / u + 1 - from / u)) = rw e refl in
-      let first = sum_ahead (steps_in from left) (from / u) ((from + left - 1) / u + 1) begins in
+      let first = sum_next (steps_in from left) (from / u) ((from + left - 1) / u + 1) begins in
       let f = in_first in let r = rest in omega arith
 
 -- For the loops of `write_long` and `read_long`, of `total` bytes from byte `at` on: `done` of them are done, and the steps of the others are still to come.

@@ -25,9 +25,9 @@ use Rattle.large_objects.specs.InnerCalls.{HasInner, IsReadyInner, StaysReady, W
 use Rattle.large_objects.specs.Large.{AreInnerCounted, AreLaidOut, KeepsParts, LargeState, named, part_bytes_at}
 use Rattle.large_objects.specs.LargeCosts.{ByCosts, InnerCosts}
 use Rattle.large_objects.specs.LargeSteps.{FitsSpine, FreesLarge, GivesLarge, HasPartRange, HasLargeRoom, HasShort}
-use Rattle.large_objects.specs.LargeSteps.{StaysKept, HasLongSpine, LacksPages, LacksProxies, WritesLarge, part_bytes_in}
+use Rattle.large_objects.specs.LargeSteps.{StaysKept, LacksPages, LacksProxies, WritesLarge, part_bytes_in}
 use Rattle.large_objects.specs.Layout.{AreKept, AreLengths, IsValid, gathered_objects, large_state}
-use Rattle.large_objects.specs.InnerObjects.{in_class, inner_count, inner_pages_with, inner_lengths, whole_part_bytes, part_count, spine_bytes}
+use Rattle.large_objects.specs.InnerObjects.{in_class, inner_count, inner_pages_with, inner_lengths, whole_part_bytes, part_count}
 use Rattle.large_objects.specs.Shrinking.{HasInnerObjects, HasParts, IsShrinking, ReleasesInner}
 use Rattle.large_objects.proofs.Bytes.{range_of_part, part_of_length, part_other, part_written}
 use Rattle.large_objects.proofs.Gathering.{all_gathered, counted_gone_long, counted_gone_short, counted_long, counted_short, counted_written, gone_long}
@@ -92,9 +92,6 @@ module _ (b : Bool) (pages u : ℕ) (lengths : List (Option ℕ)) (s : HeapState
   -- the heap after a call, from the fields after it
   module _ (s' : HeapState) (lengths' : List (Option ℕ)) (large' : Objects) (stays : StaysReady s s') (laid' : AreLaidOut u large' (objects s'.held))
       (counted' : AreInnerCounted (paging_in s) u large' (objects s'.held)) (known : AreLengths lengths' large' s.profile.proxies) where
-    abbrev new : LargeState
-    new = record { is_open = true; objects = large'; inner = s' }
-
     part_still : u ≡ whole_part_bytes s'.profile
     part_still = kept.part_bytes ∙ ap (λ (p : Profile). whole_part_bytes p) (sym stays.settings.profile)
 
@@ -533,15 +530,6 @@ module _ (b : Bool) (pages u : ℕ) (lengths : List (Option ℕ)) (s : HeapState
       let few = ready.rules.numbers.few in
       let most = ready.rules.settings.few_proxies in
       let p = inner_lengths_few u n kept.some in omega arith)
-
-  pub refused_size : (n : ℕ) → (FitsSpine u n → ⊥) → HasLongSpine old n
-  refused_size n never = record {
-    long = (let e = part_is in elim (cases_lt u n) [ inl long ↦ (omega arith) | inr short ↦ absurd (never (inl short)) ]);
-    past = elim (cases_lt u (spine_bytes u n)) [
-      | inl past ↦ subst (λ (u : ℕ). u < spine_bytes u n) part_is past
-      | inr fits ↦ absurd (never (inr fits))
-    ];
-  }
 
   pub refused_proxies : (n count more : ℕ) → FitsSpine u n → count ≡ (totals_in s.kind s).live → more ≡ length (inner_lengths u n)
       → length lengths < count + more → LacksProxies old n

@@ -70,20 +70,6 @@ module _ {p : Paging} (ok : IsPaging p) {m : Held} {old new : Tables} (serve : F
               ]));
         }
 
-    -- the class had a free slot
-    pub taken_has_room : LacksRoom p m c → ⊥
-    taken_has_room l = elim gains.was [
-      | inl (there, _) ↦ (
-          let e = not_full_pages_are p ok m old serve o c in
-          let z = l.full in
-          let lt : there.0 < length (pages_in old.lists c NotFull) = there.1 in
-          omega arith)
-      | inr (f, _, _) ↦ (
-          let bare = free_bare p ok old serve m o t.page f in
-          let some = l.taken t.page (let w = gains.within in let e = serve.pages in omega arith) in
-          omega arith)
-    ]
-
     -- an object that is added at the address occupies the slot
     pub taken_occupied : (h : ℕ) (x : Placed) → get m h ≡ None → x.place ≡ a → class_at p x ≡ c → Occupies p (insert m h x) new
     taken_occupied h x none at is_c = occupied_gained p ok m old new serve o c t.page t.slot gains h x none (at ∙ t.address) is_c
@@ -193,9 +179,6 @@ module _ {p : Paging} (ok : IsPaging p) {m : Held} {t : Tables} (serve : FitPage
     found_page =
         let lt = listed_page (class_table p) t serve.tables (class_at p x) (page_of p x.place) page.0 page.1.listed in
         let e = serve.tables.maps in omega arith
-
-    pub found_class : class_at p x < t.lists.classes
-    found_class = serve.tables.lists.class (class_at p x) page.0 (page_of p x.place) page.1.listed
 
     -- the test for a move agrees with the model's
     pub moves_is : MovesObject (slots_on t (page_of p x.place)) (length (pages_in t.lists (class_at p x) NotFull)) (bound_of p (class_at p x)) ↔ MustMove p m x

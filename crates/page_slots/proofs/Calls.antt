@@ -1,7 +1,7 @@
 -- For the calls that take or free a slot: the tables meet what each part of the code requires. What taking a slot on the first partly full or the first free
 -- page does, and what each part costs.
 use Rattle.std.proofs.Common.{◌≡◌, ◌≢◌, ℕ, Bool, true, false, not, ◌+◌, ◌*◌, ◌^◌, ◌<◌, ◌≤◌, List, [], ◌∷◌, length, drop, get_or, set, Some, None, arith, inl, inr}
-use Rattle.std.proofs.Common.{refl, sym, ◌∙◌, ap, subst}
+use Rattle.std.proofs.Common.{sym, ◌∙◌, ap, subst}
 use Rattle.std.specs.Prelude.{slice_get, if◌then◌else◌, is_some, nat_eq}
 use Rattle.std.specs.List.{Contains, position}
 use Rattle.std.proofs.lemmas.Bool.{cases_eq, false≢true}
@@ -46,14 +46,6 @@ written_twice old mid new page slot slots b first lt second =
 pub front_is : (xs : List ℕ) (page : ℕ) → slice_get xs 0 ≡ Some page → xs ≡ page ∷ drop 1 xs
 front_is [] page e = absurd (let lt = slice_get_within [] 0 page e in omega arith)
 front_is (x ∷ xs) page e = (let same : Some x ≡ Some page = e in let is : x ≡ page = cc in ap (λ y. y ∷ xs) is)
-
--- a list without a head is empty, and one with a head isn't
-front_none : (xs : List ℕ) → None ≡ slice_get xs 0 → xs ≡ []
-front_none [] e = refl
-front_none (x ∷ xs) e = absurd (let none : is_some (slice_get (x ∷ xs) 0) ≡ false = ap is_some (sym e) in false≢true (sym none))
-
-pub front_some : (xs : List ℕ) → 1 ≤ length xs → None ≡ slice_get xs 0 → ⊥
-front_some xs some none = (let e = ap (λ (ys : List ℕ). length ys) (front_none xs none) in omega arith)
 
 module _ (k : ClassTable) (t : Tables) (a : AreTables k t) where
   pub page_small : (page : ℕ) → page < t.pool.pages → page * k.page_words + k.page_words < 2 ^ 32

@@ -2,7 +2,7 @@
 use Rattle.std.proofs.Common.{◌≡◌, ◌≢◌, ℕ, ◌+◌, ◌*◌, ◌/◌, ◌%◌, ◌^◌, ◌<◌, ◌≤◌, List, length, get_or, take, drop, Some, None, arith, sym, ◌∙◌}
 use Rattle.std.proofs.Common.{ap, subst, inl, inr}
 use Rattle.std.specs.Prelude.{◌⊎◌, option_map}
-use Rattle.std.proofs.lemmas.Bool.{cases_eq, cases_lt}
+use Rattle.std.proofs.lemmas.Bool.{cases_lt}
 use Rattle.std.proofs.lemmas.Grind.{same_number_lists}
 use Rattle.std.proofs.lemmas.List.{get_or-take, get_or-drop, length-take, length-drop}
 use Rattle.std.specs.FinMap.{get, len, remove}
@@ -250,13 +250,6 @@ module _ {w : Owner} {q a size c b : ℕ} {new : Tables} (f : Fills w q a size c
 
   pub other_known : get w.places other ≡ Some b
   other_known = place_known w other other_object other_found ∙ ap Some other_at
-
-  -- no other number has its address
-  pub other_is : (r : ℕ) → get w.places r ≡ Some b → r ≡ other
-  other_is r e = elim (cases_eq r other) [
-    | inl is ↦ is
-    | inr ne ↦ absurd (k.sound.own_place r (placed_at w b) other other_object (held k r b e) other_found (λ same. ne (sym same)) (sym other_at))
-  ]
 
   pub other_may : MayFill w.paging (owned w) (placed_at w a) other_object
   other_may = filler_may k.paged k.serve k.occupied (placed_at w a) (filler_in other_fills) k.sound other other_found other_at

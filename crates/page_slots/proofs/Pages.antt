@@ -1,6 +1,6 @@
 -- For all calls: what the tables show of one page, which is free, foreign, or in one list of one class. A call that changes one page keeps every other
 -- (`IsSame`), and the rules of the tables.
-use Rattle.std.proofs.Common.{◌≡◌, ◌≢◌, ℕ, Bool, true, false, ◌<◌, ◌≤◌, List, [], ◌∷◌, length, get_or, set, arith, refl, sym, ◌∙◌, ap, subst, inl, inr, eqb}
+use Rattle.std.proofs.Common.{◌≡◌, ◌≢◌, ℕ, Bool, true, false, ◌<◌, ◌≤◌, List, [], ◌∷◌, length, get_or, set, arith, sym, ◌∙◌, ap, subst, inl, inr, eqb}
 use Rattle.std.specs.List.{Contains}
 use Rattle.std.proofs.lemmas.Bool.{cases_eq, true≢false, ne_eqb}
 use Rattle.std.proofs.lemmas.List.{get_or-set_same, get_or-set_other, length-set}
@@ -33,9 +33,6 @@ same_elsewhere old new g s e = record { taken = s.free ∙ e.taken; unlisted = �
 
 pub was_elsewhere : (old new : Tables) (g : ℕ) → IsSame old new g → IsForeign new g → IsForeign old g
 was_elsewhere old new g s e = record { taken = sym s.free ∙ e.taken; unlisted = λ d v h. e.unlisted d v (s.comes d v h) }
-
-pub keeps_all : (t : Tables) → KeepsForeign t t
-keeps_all t = record { still = λ _ e. e; slots = λ _ _. refl }
 
 -- if only one page changes, and it isn't foreign, the foreign pages stay as they are
 pub keeps_elsewhere : (old new : Tables) (page : ℕ) → ¬ IsForeign old page → ((g : ℕ) → g ≢ page → IsSame old new g) → KeepsForeign old new

@@ -1,7 +1,7 @@
 //! From addresses to slots and back. Addresses count words.
-ghost use Rattle.std.specs.Prelude.{◌≡◌, ◌+◌, ◌*◌, ◌^◌, ◌<◌, ◌≤◌, length};
+ghost use Rattle.std.specs.Prelude.{◌≡◌, ◌+◌, ◌*◌, ◌^◌, ◌<◌, length};
 ghost use Rattle.size_classes.specs.Table.{IsClassTable};
-ghost use Rattle.page_slots.specs.Tables.{address_in, page_at, slot_at, slots_in};
+ghost use Rattle.page_slots.specs.Tables.{address_in, slot_at, slots_in};
 
 use size_classes::Classes;
 

@@ -6,7 +6,7 @@ ghost use Rattle.std.specs.List.{Contains, position};
 ghost use Rattle.step_ledger.specs.Counting.{RoseAtMost, RoseBy};
 ghost use Rattle.class_lists.specs.PageLists.{AreApart, pages_in};
 ghost use Rattle.class_lists.specs.declared.Which.TheVariants.{Full, NotFull};
-ghost use Rattle.page_pool.specs.Pool.{IsPool, Pool, is_in_pool};
+ghost use Rattle.page_pool.specs.Pool.{IsPool, is_in_pool};
 ghost use Rattle.size_classes.specs.Table.{IsClassTable};
 ghost use Rattle.slot_bitmap.specs.Maps.{on_page};
 ghost use Rattle.page_slots.specs.PageTables.{tables_with};

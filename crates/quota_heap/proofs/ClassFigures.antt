@@ -9,7 +9,7 @@ use Rattle.page_model.specs.Figures.{figures_of}
 use Rattle.page_model.specs.Held.{Held, objects}
 use Rattle.page_model.specs.Paging.{Paging, classes, slot_words, slots_of}
 use Rattle.page_model.proofs.CallerLemmas.{home_at_most}
-use Rattle.page_slots.proofs.CallerLemmas.{home_pages_are, not_full_pages_are, as_many}
+use Rattle.page_slots.proofs.CallerLemmas.{home_pages_are, not_full_pages_are}
 use Rattle.quota_heap.specs.Layout.{ArePages, IsTask, IsTaskIn, IsValid, held_of, paging_at, state_of, tables_of}
 use Rattle.quota_heap.specs.State.{held_by}
 use Rattle.quota_heap.specs.declared.shared_pages.SharedPages.{SharedPages}
@@ -27,9 +27,6 @@ figures_same p m c w s l g n ew es el eg en = rw (ew, es, el, eg, en) refl
 module _ (g : SharedPages) (k : ArePages g) (t : ℕ) (x : Task) (i : IsTask g t x) (c : ℕ) (lt : c < classes (paging_at g)) where
   pub class_in : c < x.lists.classes
   class_in = (let e = i.serve.tables.classes in omega arith)
-
-  pub class_listed : c < length g.tables.classes.sizes
-  class_listed = (let e = as_many (paging_at g) (table_is g k) in omega arith)
 
   pub class_few : c < 128
   class_few = (let few = few_classes g k t x i in omega arith)

@@ -13,7 +13,7 @@ use Rattle.page_slots.specs.Occupying.{class_table}
 use Rattle.page_pool.proofs.CallerLemmas.{free_within}
 use Rattle.page_slots.specs.Tables.{AreTables}
 use Rattle.quota_model.proofs.CallerLemmas.{tasks_at_one, tasks_paged}
-use Rattle.size_classes.specs.Table.{ClassTable, IsClassTable}
+use Rattle.size_classes.specs.Table.{ClassTable}
 use Rattle.quota_heap.specs.Layout.{ArePages, IsTask, held_of, objects_of, paging_at, tables_of, as_owner}
 use Rattle.quota_heap.specs.declared.shared_pages.SharedPages.{SharedPages}
 use Rattle.quota_heap.specs.declared.task.Task.{Task}
@@ -33,9 +33,6 @@ module _ (g : SharedPages) where
     pub sizes_are : g.tables.classes.sizes ≡ sizes g.settings.page_words Words
     sizes_are = ap (λ (t : ClassTable). t.sizes) k.table
 
-    pub page_is : g.tables.classes.page_words ≡ g.settings.page_words
-    page_is = ap (λ (t : ClassTable). t.page_words) k.table
-
     pub size_is : (c : ℕ) → get_or g.tables.classes.sizes c 0 ≡ slot_words (paging_at g) c
     size_is c = ap (λ xs. get_or xs c 0) sizes_are
 
@@ -43,14 +40,8 @@ module _ (g : SharedPages) (k : ArePages g) (t : ℕ) (x : Task) (i : IsTask g t
   pub tables_ok : AreTables g.tables.classes (tables_of g x)
   tables_ok = subst (λ c. AreTables c (tables_of g x)) (table_is g k) i.serve.tables
 
-  pub table_ok : IsClassTable g.tables.classes.page_words g.tables.classes.sizes
-  table_ok = subst (λ (c : ClassTable). IsClassTable c.page_words c.sizes) (table_is g k) i.serve.tables.table
-
   pub few_classes : classes (paging_at g) ≤ 67
   few_classes = i.serve.tables.table.are_sizes.few
-
-  pub page_small : g.settings.page_words ≤ 16384
-  page_small = i.serve.tables.table.small
 
   pub number_few : (q a : ℕ) → get x.proxies.places q ≡ Some a → q < g.settings.proxies
   number_few q a e = (let lt = i.handles.below q a e in let s = i.numbers in omega arith)

@@ -36,7 +36,7 @@ use Rattle.quota_heap.specs.declared.open_tasks.OpenTasks.{OpenTasks}
 use Rattle.quota_heap.specs.declared.task.Task.{Task}
 use Rattle.quota_heap.proofs.Facts.{few_classes, paging_ok, table_is}
 use Rattle.quota_heap.proofs.PageAccount.{take_accounts}
-use Rattle.quota_heap.proofs.PagesAfter.{pages_after, used_after}
+use Rattle.quota_heap.proofs.PagesAfter.{pages_after}
 use Rattle.quota_heap.proofs.Preserved.{Becomes, becomes_kept, becomes_state, places_are, stored}
 use Rattle.quota_heap.proofs.Refusals.{reason}
 use Rattle.quota_heap.proofs.Tasks.{length_map, map_set, numbers, part_is, places_here, task_below}
@@ -79,14 +79,6 @@ module _ (g : SharedPages) (k : ArePages g) (t : ℕ) (x : Task) (i : IsTask g t
       let long = k.words_long in
       omega arith
 
-  -- the pool now has at most the free pages of before and the pages of the task
-  pub taken_account : (q n : ℕ) → get x.proxies.places q ≡ None → class_for (paging_at g) n ≡ c → length new.pool.free ≤ x.pages + length g.tables.pool.free
-  taken_account q n unused class =
-      let e = used_after g k t x i c lt (insert (held_of g x) q (zeros_at a n)) new taken_serves
-      (taken_occupies q (zeros_at a n) (no_place (as_owner g x) q unused) refl (class_of_zeros (paging_at g) a n c class))
-      (take_accounts g.tables.classes (tables_of g x) (tables_ok g k t x i) c new a taken) in
-      omega arith
-
 module _ (h n : OpenTasks) (k : IsValid h) (t : ℕ) (x x' : Task) (at : IsTaskIn h t x) (tasks : n.tasks.items ≡ set h.tasks.items t x')
     (granted : n.granted ≡ h.granted) (c bytes q : ℕ)
     (class : class_for (paging_at h.shared_pages) bytes ≡ c) (lt : c < classes (paging_at h.shared_pages)) (co : IsAdded h.shared_pages x t c bytes q n.shared_pages x')
@@ -96,9 +88,6 @@ module _ (h n : OpenTasks) (k : IsValid h) (t : ℕ) (x x' : Task) (at : IsTaskI
 
   abbrev asked : Request
   asked = record { number = q; length = bytes }
-
-  abbrev fresh : Placed
-  fresh = zeros_at co.place bytes
 
   abbrev pub after : Held
   after = insert (held_in h) (key_of t q) (zeros_at co.place bytes)

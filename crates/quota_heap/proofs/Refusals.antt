@@ -28,9 +28,6 @@ use Rattle.quota_heap.proofs.NextPage.{needed_next, not_full_few}
 use Rattle.quota_heap.proofs.Sums.{sum_less}
 use Rattle.quota_heap.proofs.Tasks.{part_is, quota_here}
 
-picks_size : (a : Bool) (rest : Option Refusal) → a ≡ true → cond a (Some Size) rest ≡ Some Size
-picks_size a rest ea = rw ea refl
-
 picks_proxy : (a b : Bool) (rest : Option Refusal) → a ≡ false → b ≡ true → cond a (Some Size) (cond b (Some Proxy) rest) ≡ Some Proxy
 picks_proxy a b rest ea eb = rw (ea, eb) refl
 
@@ -53,10 +50,6 @@ module _ (h : OpenTasks) (k : IsValid h) (t : ℕ) (x : Task) (at : IsTaskIn h t
 
   abbrev pub reason : ℕ → Option Refusal
   reason n = malloc_refusal (profile_of h.shared_pages.settings) (quota_of (state_of h) t) (objects_by (state_of h) t) n
-
-  -- an object of n bytes that is larger than a page is refused as `Size`
-  pub size_refused : (n : ℕ) → h.shared_pages.settings.page_words < need n → reason n ≡ Some Size
-  size_refused n more = picks_size _ _ (lt_yes h.shared_pages.settings.page_words (need n) more)
 
   module _ (c n : ℕ) (fits : need n ≤ h.shared_pages.settings.page_words) (class : class_for (paging_at h.shared_pages) n ≡ c) (lt : c < classes (paging_at h.shared_pages)) where
     few : length (pages_in x.lists c NotFull) ≤ 1

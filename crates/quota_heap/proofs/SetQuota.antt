@@ -39,9 +39,6 @@ sum_changed_at (x ∷ xs) (suc i) n lt =
     let rest = sum_changed_at xs i n (omega arith) in
     omega arith
 
-picks_sum : (a : Bool) (rest : Option QuotaFault) → a ≡ true → cond a (Some Sum) rest ≡ Some Sum
-picks_sum a rest ea = rw ea refl
-
 picks_used : (a b : Bool) → a ≡ false → b ≡ true → cond a (Some Sum) (cond b (Some Used) None) ≡ Some Used
 picks_used a b ea eb = rw (ea, eb) refl
 
@@ -65,9 +62,6 @@ module _ (h : OpenTasks) (k : IsValid h) (t : ℕ) (sixteen : t < 16) (n : ℕ) 
       let s = sum_changed_at (quotas_of h.tasks.items) t 0 (let m = k.quotas.many in omega arith) in
       let g = k.granted in
       omega arith)
-
-  pub sum_refused : h.shared_pages.settings.pages + quota_of (state_of h) t < h.granted + n → fault ≡ Some Sum
-  sum_refused more = picks_sum _ _ (lt_yes h.shared_pages.settings.pages (sum (set (quotas_of h.tasks.items) t n)) (let s = sum_is in omega arith))
 
   module _ (fits : h.granted + n ≤ h.shared_pages.settings.pages + quota_of (state_of h) t) where
     no_sum : nat_lt h.shared_pages.settings.pages (sum (set (quotas_of h.tasks.items) t n)) ≡ false

@@ -1,6 +1,6 @@
 //! `QuotaHeap`, the heap that sixteen tasks share, closed or open, with its public calls: quotas, malloc, free, read,
 //! write, lengths, figures and `peek`. `OpenTasks` does all the work.
-ghost use Rattle.std.specs.Prelude.{◌≡◌, ◌+◌, ◌^◌, ◌<◌, ◌≤◌, IsTrue, IfErr, IfOk, false, length, slice_get, sum};
+ghost use Rattle.std.specs.Prelude.{◌≡◌, ◌+◌, ◌^◌, ◌<◌, ◌≤◌, IsTrue, IfErr, IfOk, length, slice_get, sum};
 ghost use Rattle.std.specs.FinMap.{len};
 ghost use Rattle.step_ledger.specs.Counting.{RoseAtMost, RoseBy};
 ghost use Rattle.cf_base.specs.Settings.{profile_of};

@@ -1,7 +1,6 @@
 //! What all tasks share (`SharedPages`): the settings, the region, the used slots of each page, the free pages;
 //! and the lookup of a task's object and its length.
-ghost use Rattle.std.specs.Prelude.{◌≡◌, ℕ, ◌*◌, ◌+◌, ◌<◌, ◌≤◌, false, length, option_map, replicate, slice_get, slice_index, None, IfNone, IfOk, IfSome, if◌then◌else◌, is_some};
-ghost use Rattle.std.specs.List.{range_with_len};
+ghost use Rattle.std.specs.Prelude.{◌≡◌, ℕ, ◌*◌, ◌<◌, length, option_map, None, IfNone, IfOk, IfSome, if◌then◌else◌, is_some};
 ghost use Rattle.std.specs.FinMap.{get};
 ghost use Rattle.step_ledger.specs.Counting.{RoseBy};
 ghost use Rattle.page_model.specs.Held.{Placed};

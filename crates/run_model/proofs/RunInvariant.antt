@@ -5,7 +5,7 @@ use Rattle.run_model.specs.Terms.{AccessFault, AreTied, Bound, Command, CostsAtM
 use Rattle.run_model.specs.Steps.{Frees, Mallocs, Resizes, Stays, Writes, Step, class_to_bound, ids_given, session_resized}
 use Rattle.std.proofs.Common.{◌≡◌, Some, None, Result, Ok, Err, sym, ◌∙◌, ap, subst, refl}
 use Rattle.id_table.specs.Ties.{AreTiedTo}
-use Rattle.id_table.proofs.CallerLemmas.{counted_ids, names_of_held, names_of_objects, tied_less, tied_more, tied_same, costs_nothing, none_tied}
+use Rattle.id_table.proofs.CallerLemmas.{costs_at_most, counted_ids, names_of_held, names_of_objects, tied_less, tied_more, tied_same, costs_nothing, none_tied}
 use Rattle.page_model.proofs.CallerLemmas.{bytes_held}
 use Rattle.cf_model.specs.Families.{Family}
 use Rattle.cf_model.specs.Steps.{ChangesCost, IsMallocStep, IsResizeStep, IsLeftByRefusal, IsWriteStep}
@@ -55,11 +55,7 @@ unmoved_held k old new is = ap (λ (s : HeapState). s.held) (unmoved_changes_cos
 
 -- a cost within the bound of its kind is within the bound with pages, if the kind has pages
 pub costs_with_pages : (k : Kind) (cost n m : ℕ) → CostsByKind k cost n m → CostsAtMost k cost n
-costs_with_pages k cost n m within = by_family (family_of k) refl
-  where
-    by_family : (f : Family) → family_of k ≡ f → CostsAtMost k cost n
-    by_family paged is = (let le = rw (is, CostsByKind) at within in rw (is, CostsAtMost) le)
-    by_family tiled is = rw (is, CostsAtMost) tt
+costs_with_pages k cost n m within = costs_at_most k cost n (λ is. rw (is, CostsByKind) at within)
 
 module _ (old new : RunState) (tied : AreTied old.session old.heap) where
   abbrev names : AreTiedTo old.session.ids old.heap.held

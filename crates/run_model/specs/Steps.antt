@@ -1,7 +1,7 @@
 -- What each command does to the state of a run, and its reply. In each definition `old` is the state before the command, `new` the state after it, and `answer`
 -- the result of the manager's call. `ordered` fixes what the call uses, if the manager promises an order. `cost` bounds the steps of the call: its first number
 -- is the bound with pages, the second, if there is one, with blocks.
-use Rattle.std.specs.Prelude.{◌≡◌, ℕ, ◌+◌, ◌*◌, List, Option, Some, None, Result, Ok, Err, codes, if◌then◌else◌, nat_eq}
+use Rattle.std.specs.Prelude.{◌≡◌, ℕ, List, Option, Some, None, Result, Ok, Err, codes, if◌then◌else◌, nat_eq}
 use Rattle.std.specs.Option.{MatchOption}
 use Rattle.std.specs.FinMap.{get, len, remove}
 use Rattle.cf_base.specs.declared.answers.AccessFault.{AccessFault}

@@ -1,8 +1,8 @@
-//! What a call of the reader returns: the next item of a script, or that there is none yet, or none any more.
+//! `Next`, the result of a call of the reader.
 use crate::command::Command;
 use cf_base::Settings;
 
-/// What a call of the reader returns.
+/// The next item of a script, or why there is none.
 #[derive(Debug, PartialEq, Eq, Drop)]
 pub enum Next {
     /// The `heap` line, with its settings.

@@ -1,19 +1,11 @@
--- For `certificate.rt`: `most_pages` in closed form, and a sum by its terms.
-use Rattle.std.proofs.Common.{◌≡◌, ℕ, zero, suc, ◌+◌, ◌-◌, ◌*◌, ◌/◌, ◌%◌, ◌<◌, ◌≤◌, min, arith, ap, ◌∙◌, inl, inr}
-use Rattle.std.specs.Prelude.{◌⊎◌, sum_by}
-use Rattle.std.specs.List.{range_with_len}
+-- For `points.rt`: `most_pages` in closed form.
+use Rattle.std.proofs.Common.{◌≡◌, ℕ, zero, suc, ◌+◌, ◌-◌, ◌*◌, ◌/◌, ◌%◌, ◌<◌, ◌≤◌, min, arith, ap, inl, inr}
+use Rattle.std.specs.Prelude.{◌⊎◌}
 use Rattle.std.proofs.lemmas.Bool.{cases_lt}
-use Rattle.std.proofs.lemmas.List.Sums.{sum_by-cons}
 use Rattle.std.proofs.lemmas.Nat.{div-add-mod', le-div, mul-le}
 use Rattle.std.proofs.Math.Nat.{le-min, min-le_left, min-le_right, mod-lt}
 use Rattle.page_model.specs.Counts.{CanHold, most_pages}
 use Rattle.page_model.proofs.PageLaws.{most_pages_least, most_pages_reached}
-
--- one term more
-pub sum_next : (f : ℕ → ℕ) (c n : ℕ) → c < n → sum_by f (range_with_len c (n - c)) ≡ f c + sum_by f (range_with_len (c + 1) (n - (c + 1)))
-sum_next f c n lt =
-    let e : n - c ≡ suc (n - (c + 1)) = omega arith in
-    ap (λ k. sum_by f (range_with_len c k)) e ∙ sum_by-cons f c (range_with_len (c + 1) (n - (c + 1)))
 
 -- a product that is below that of one more
 under : (q k j : ℕ) → q * j < (k + 1) * j → q ≤ k

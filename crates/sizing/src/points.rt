@@ -1,5 +1,5 @@
 //! The conditions that each point of a certificate meets, tested one after the other.
-ghost use Rattle.std.specs.Prelude.{ℕ, ◌≡◌, ◌+◌, ◌^◌, ◌↔◌, ◌<◌, ◌≤◌, All, IsTrue, length, slice_index, sum_by};
+ghost use Rattle.std.specs.Prelude.{ℕ, ◌≡◌, ◌+◌, ◌↔◌, ◌<◌, ◌≤◌, All, IsTrue, length, slice_index, sum_by};
 ghost use Rattle.std.specs.List.{range_with_len};
 ghost use Rattle.page_model.specs.Counts.{ceil_div, most_pages};
 ghost use Rattle.page_model.specs.Paging.{IsPaging, classes, slots_of};

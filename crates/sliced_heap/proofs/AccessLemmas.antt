@@ -53,9 +53,6 @@ module _ (h : Heap) (k : IsValid h) (q : ℕ) (x : Placed) (there : get (state_o
   abbrev m : Held
   m = (state_of h).held
 
-  abbrev extent : ℕ
-  extent = slot_for (paging_at h) (length x.bytes)
-
   abbrev s : Halves
   s = halves_of h.job q x.place
 

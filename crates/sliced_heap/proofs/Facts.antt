@@ -14,7 +14,6 @@ use Rattle.class_lists.specs.PageLists.{PageLists}
 use Rattle.page_slots.specs.declared.page_tables.PageTables.{PageTables}
 use Rattle.page_slots.specs.Tables.{AreTables}
 use Rattle.page_slots.specs.Occupying.{class_table}
-use Rattle.size_classes.specs.Table.{ClassTable, IsClassTable}
 use Rattle.slice_model.specs.State.{IsPlan}
 use Rattle.sliced_heap.specs.declared.open_heap.OpenHeap.{OpenHeap}
 use Rattle.sliced_heap.specs.Heap.{Heap, seen}
@@ -39,9 +38,6 @@ module _ (h : Heap) (k : IsValid h) where
 
   pub tables_ok : AreTables h.classes (tables_in h)
   tables_ok = subst (λ t. AreTables t (tables_in h)) table_is k.serve.part.tables
-
-  pub table_ok : IsClassTable h.classes.page_words h.classes.sizes
-  table_ok = subst (λ (t : ClassTable). IsClassTable t.page_words t.sizes) table_is k.serve.part.tables.table
 
   -- the objects' addresses are those of the proxies; a number without one has no object
   pub places_are : h.proxies.places ≡ places (state_of h).held

@@ -14,7 +14,7 @@ use Rattle.page_model.specs.Figures.{asked_bytes, taken_bytes}
 use Rattle.page_model.specs.Held.{Held, Placed, objects}
 use Rattle.page_model.specs.Paging.{class_for, classes, slot_words, slots_of}
 use Rattle.page_model.proofs.CallerLemmas.{home_at_most, taken_added}
-use Rattle.page_slots.proofs.CallerLemmas.{as_many, class_is, class_some, free_pages_are, home_pages_are, not_full_pages_are, pages_are}
+use Rattle.page_slots.proofs.CallerLemmas.{class_is, class_some, free_pages_are, home_pages_are, not_full_pages_are, pages_are}
 use Rattle.size_classes.specs.Table.{ClassTable}
 use Rattle.slice_model.specs.declared.job_slot.JobSlot.{JobSlot}
 use Rattle.slice_model.specs.State.{Plan, Sliced, job_slot, occupied, placeholder, with_slot}
@@ -23,7 +23,7 @@ use Rattle.sliced_heap.specs.Figures.{class_figures, totals_in}
 use Rattle.sliced_heap.specs.Heap.{Heap}
 use Rattle.sliced_heap.specs.Layout.{IsValid, paging_at, plan_of, state_of, tables_in}
 use Rattle.sliced_heap.proofs.ByteCounts.{taken_room}
-use Rattle.sliced_heap.proofs.Facts.{few_classes, held_len, paging_ok, table_is}
+use Rattle.sliced_heap.proofs.Facts.{held_len, paging_ok, table_is}
 use Rattle.sliced_heap.proofs.Headers.{in_class}
 
 -- all figures of a class, and of the heap, at once
@@ -57,15 +57,6 @@ module _ (h : Heap) (k : IsValid h) where
     home_few = (let e = home_is in let l = home_at_most (paging_at h) all c in let few = h.settings.few_pages in omega arith)
 
     module _ (lt : c < classes (paging_at h)) where
-      pub class_in_lists : c < h.lists.classes
-      class_in_lists = (let e = k.serve.part.tables.classes in omega arith)
-
-      pub class_in_sizes : c < length h.classes.sizes
-      class_in_sizes = (let e = as_many (paging_at h) (table_is h k) in omega arith)
-
-      pub class_in_live : c < length h.live
-      class_in_live = (let few = few_classes h k in let long = k.live_long in omega arith)
-
       pub figures_are : (w n l g f : ℕ) → w ≡ get_or h.classes.sizes c 0 → n ≡ slots h.classes.page_words h.classes.sizes c → l ≡ get_or h.live c 0
           → g ≡ length (pages_in h.lists c Full) + length (pages_in h.lists c NotFull) → f ≡ length (pages_in h.lists c NotFull)
           → ◌≡◌ {A = Figures} (record { slot_words = w; slots = n; live = l; pages = g; not_full = f }) (class_figures (plan_of h) (state_of h) c)
@@ -112,9 +103,6 @@ module _ (h : Heap) (k : IsValid h) where
         let inserted = ap (taken_bytes (paging_at h)) (map_values-insert (λ (x : Placed). x.bytes) m h.settings.proxies stand) in
         let was = k.taken_all in
         omega arith
-
-  pub taken_idle : job_slot h.job ≡ None → h.taken ≡ taken_bytes (paging_at h) (objects (occupied (plan_of h) (state_of h)))
-  taken_idle none = k.taken_all ∙ sym (ap (λ o. taken_bytes (paging_at h) (objects (with_slot (plan_of h) (state_of h).held o))) none)
 
 -- an object of this length is found
 module _ (h : Heap) (k : IsValid h) (q size : ℕ) (shown : Some size ≡ option_map (λ (x : Placed). length x.bytes) (get (state_of h).held q)) where

@@ -1,6 +1,6 @@
 -- For `fill` and `move_to`: if the class has two partly full pages, the object that the order lists next gets the address of the slot to be cleared, and moving
 -- it there is the job; the heap stays valid.
-use Rattle.std.proofs.Common.{◌≡◌, ◌≢◌, ℕ, ◌+◌, ◌-◌, ◌*◌, ◌/◌, ◌%◌, ◌^◌, ◌<◌, ◌≤◌, [], length, get_or, replicate, Option, Some, None, arith, refl, sym, ◌∙◌, ap}
+use Rattle.std.proofs.Common.{◌≡◌, ◌≢◌, ℕ, ◌+◌, ◌-◌, ◌*◌, ◌/◌, ◌%◌, ◌^◌, ◌<◌, [], length, get_or, replicate, Option, Some, None, arith, refl, sym, ◌∙◌, ap}
 use Rattle.std.proofs.Common.{subst, inl, inr}
 use Rattle.std.specs.Prelude.{◌↔◌, IsSome, slice_index_or}
 use Rattle.std.specs.FinMap.{get, insert}
@@ -19,7 +19,7 @@ use Rattle.page_slots.specs.Release.{IsFiller, MovesObject}
 use Rattle.page_slots.specs.Occupying.{Occupies, FitPages, class_table}
 use Rattle.page_slots.specs.Orders.{order_of}
 use Rattle.page_slots.specs.Tables.{IsOf, page_at, slot_at, slots_on, used_in}
-use Rattle.page_slots.proofs.CallerLemmas.{fill_same, filler, filler_is, filler_next, filler_not_full, found_class, found_page, moves_is, moves_some}
+use Rattle.page_slots.proofs.CallerLemmas.{fill_same, filler, filler_is, filler_next, filler_not_full, found_page, moves_is}
 use Rattle.proxy_table.specs.Proxies.{AreBelowLimit, with_place}
 use Rattle.size_classes.specs.Table.{ClassTable}
 use Rattle.slice_model.specs.declared.job_slot.JobSlot.{JobSlot}
@@ -114,9 +114,6 @@ module _ (h : Heap) (k : IsValid h) (g : JobSlot) (at : h.job ≡ Clear g) where
   pub page_within : page_at h.classes g.address < length h.maps
   page_within = (let lt = found_page (paging_ok h k) k.serve.part occupied_clear h.settings.proxies stand_there in let e = page_is in rw e lt)
 
-  pub class_listed : g.class < h.lists.classes
-  class_listed = (let lt = found_class (paging_ok h k) k.serve.part occupied_clear h.settings.proxies stand_there in rw stand_class at lt)
-
   -- `must_move` returns true if and only if the slot must be filled (`MustMove`)
   pub must_is : MovesObject (slice_index_or h.maps (page_at h.classes g.address) []) (length (pages_in h.lists g.class NotFull)) 1
       ↔ MustMove (paging_at h) (insert (state_of h).held h.settings.proxies (placeholder (paging_at h) g)) (placeholder (paging_at h) g)
@@ -137,10 +134,6 @@ module _ (h : Heap) (k : IsValid h) (g : JobSlot) (at : h.job ≡ Clear g) where
   module _ (must : MustMove (paging_at h) (insert (state_of h).held h.settings.proxies (placeholder (paging_at h) g)) (placeholder (paging_at h) g)) where
     pub two : not_full_pages (paging_at h) (state_of h).held g.class ≡ 2
     two = must_is_two (plan_of h) (plan_ok h k) m g none_there class_in sound_clear must
-
-    pub one_listed : 1 ≤ length (pages_in h.lists g.class NotFull)
-    one_listed = (let some = moves_some (paging_ok h k) k.serve.part occupied_clear h.settings.proxies stand_there must (rw stand_class class_in) in
-        rw stand_class at some)
 
     -- the object that fills the slot
     module _ (a : ℕ) (f : IsFiller h.classes h.maps h.lists g.class a) where

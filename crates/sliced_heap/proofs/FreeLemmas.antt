@@ -11,7 +11,7 @@ use Rattle.page_model.specs.Order.{Order, IsNextToMove, IsTaken, drop_steps, ste
 use Rattle.page_model.specs.Paging.{Paging, page_of, slot_words, slots_of}
 use Rattle.page_model.specs.Steps.{Moves, MustMove}
 use Rattle.page_model.proofs.CallerLemmas.{not_full-same, objects_on-exchanged}
-use Rattle.slice_model.specs.State.{Sliced, IsKept, job_slot, occupied, placeholder, with_slot, Clear, Idle, Move}
+use Rattle.slice_model.specs.State.{Sliced, job_slot, occupied, placeholder, with_slot, Clear, Idle, Move}
 use Rattle.slice_model.specs.Steps.{BeginsMove, fresh_slot}
 use Rattle.slice_model.specs.Ordered.{FreesInOrder, SlicesInOrder}
 use Rattle.slice_model.proofs.CallerLemmas.{no_placeholder, other_than, same_elsewhere, placeholder_class}
@@ -38,9 +38,6 @@ module _ (h : Heap) (k : IsValid h) (idle : h.job ≡ Idle) (q : ℕ) (x : Place
 
   abbrev all : Held
   all = insert (remove m q) h.settings.proxies (placeholder (paging_at h) g)
-
-  at_idle : IsKept (plan_of h) (record { held = m; job = Idle })
-  at_idle = subst (λ j. IsKept (plan_of h) (record { held = m; job = j })) idle k.kept
 
   stand_class : class_at (paging_at h) (placeholder (paging_at h) g) ≡ c
   stand_class = placeholder_class (paging_at h) (paging_ok h k) g (in_class h k q x there)

@@ -1,6 +1,6 @@
 -- For `malloc`: after a slot is taken and an object is bound to it and counted, the heap is valid and has the new object, as its order determines; each test
 -- for a refusal means its cause in the model.
-use Rattle.std.proofs.Common.{◌≡◌, ◌≢◌, ℕ, ◌+◌, ◌*◌, ◌<◌, ◌≤◌, List, length, get_or, set, replicate, ◌∷◌, true, Some, None, Ok, arith, refl, sym, ◌∙◌, ap}
+use Rattle.std.proofs.Common.{◌≡◌, ◌≢◌, ℕ, ◌+◌, ◌*◌, ◌<◌, ◌≤◌, List, length, get_or, set, replicate, ◌∷◌, Some, None, Ok, arith, refl, sym, ◌∙◌, ap}
 use Rattle.std.proofs.Common.{subst, inl, inr}
 use Rattle.std.specs.Prelude.{◌↔◌, Bool, IsTrue, false, nat_eq, option_map}
 use Rattle.std.proofs.lemmas.Bool.{cases_lt, false≢true}
@@ -83,9 +83,6 @@ slot_is_room h k c some l = elim (cases_lt 0 (length (pages_in h.lists c NotFull
 module _ (h : Heap) (k : IsValid h) (bytes c : ℕ) (found : Some c ≡ class_of h.classes.sizes bytes) where
   is : (need bytes ≤ h.settings.page_words) × (class_for (paging_at h) bytes ≡ c) × (c < classes (paging_at h))
   is = class_is (paging_ok h k) (table_is h k) bytes c found
-
-  pub class_listed : c < length h.classes.sizes
-  class_listed = (let e : length h.classes.sizes ≡ classes (paging_at h) = ap (λ (t : ClassTable). length t.sizes) k.table in let lt = is.2 in omega arith)
 
   pub class_counted : c < length h.live
   class_counted = (let few = few_classes h k in let lt = is.2 in let long = k.live_long in omega arith)

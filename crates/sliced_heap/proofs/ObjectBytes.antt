@@ -43,9 +43,6 @@ byte_by_halves j h x words k = ap (λ w. byte_of (k % 8) (get_or words w 0)) (wo
 module _ (place : ℕ → ℕ) (h : ℕ) (v : List ℕ) (old new : List ℕ) (at : ℕ) (bytes : List ℕ)
     (low : h < 2 ^ 32) (short : length v < 2 ^ 32) (are : AreBytes v) (are' : AreBytes bytes) (fits : at + length bytes ≤ length v)
     (was : (i : ℕ) → i < 1 + (length v + 7) / 8 → get_or old (place i) 0 ≡ object_word h v i) (w : WritesByPlaces old new place at bytes) where
-  abbrev u : List ℕ
-  u = written v at bytes
-
   old_byte : (k : ℕ) → 1 + k / 8 < 1 + (length v + 7) / 8 → byte_by place old k ≡ get_or v k 0
   old_byte k lt =
       let e : 1 + k / 8 ≡ suc (k / 8) = omega arith in

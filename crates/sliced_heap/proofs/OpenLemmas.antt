@@ -15,8 +15,8 @@ use Rattle.page_model.specs.Arrangement.{live, pages_needed}
 use Rattle.page_model.specs.Bytes.{bytes_at, held_at}
 use Rattle.page_model.specs.Held.{Placed, objects}
 use Rattle.page_model.specs.Order.{first_order}
-use Rattle.page_model.specs.Paging.{IsPaging, classes}
-use Rattle.page_model.proofs.CallerLemmas.{first_paged, sound_empty, no_objects, none_asked, none_needed, none_live, none_taken}
+use Rattle.page_model.specs.Paging.{classes}
+use Rattle.page_model.proofs.CallerLemmas.{sound_empty, no_objects, none_asked, none_needed, none_live, none_taken}
 use Rattle.size_classes.specs.Table.{ClassTable, table_of}
 use Rattle.proxy_table.specs.Proxies.{Proxies, AreBelowLimit, no_proxies}
 use Rattle.page_slots.specs.PageTables.{new_tables}
@@ -27,7 +27,7 @@ use Rattle.page_slots.proofs.CallerLemmas.{first_occupied, first_table, new_serv
 use Rattle.slice_model.specs.State.{Sliced, IsKept, Idle, occupied}
 use Rattle.slice_model.specs.Words.{HasWords}
 use Rattle.sliced_heap.specs.Heap.{Heap}
-use Rattle.sliced_heap.specs.Layout.{IsNew, IsValid, words_after_job, order_in, paging_at, paging_for, plan_of, profile_at, state_of, tables_in}
+use Rattle.sliced_heap.specs.Layout.{IsNew, IsValid, words_after_job, order_in, paging_at, paging_for, plan_of, state_of, tables_in}
 
 -- the fields of a heap that was just opened
 pub record IsFirst (s : Settings) (n : ℕ) (h : Heap) : Type 0 where
@@ -61,9 +61,6 @@ module _ (s : Settings) (n : ℕ) (h : Heap) (f : IsFirst s n h) where
 
   many : length h.classes.sizes ≡ classes (paging_at h)
   many = ap (λ (t : ClassTable). length t.sizes) f.table
-
-  paging_ok : IsPaging (paging_at h)
-  paging_ok = first_paged (profile_at h.settings) Words h.settings.page_size (omega arith)
 
   few : classes (paging_at h) ≤ 67
   few = (are_sizes h.settings.page_words Words h.settings.page_size).few

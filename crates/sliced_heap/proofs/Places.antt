@@ -37,9 +37,6 @@ module _ (p : Paging) (m : Held) (t : Tables) (P : ℕ) (f : Placed) (o : Occupi
   abbrev g : Placed
   g = record { place = y.place; bytes = f.bytes }
 
-  abbrev changed : Held
-  changed = insert (insert m q z) P g
-
   was_there : get (insert m P f) q ≡ Some y
   was_there = get_insert_other m P f q ne ∙ there
 

@@ -26,10 +26,6 @@ use Rattle.sliced_heap.proofs.HeldFromWords.{AreEnded}
 use Rattle.sliced_heap.proofs.Preserved.{Becomes, becomes_state, becomes_valid}
 use Rattle.sliced_heap.proofs.StepCounts.{words_last, words_left}
 
--- if the job of heap h is j, the state of h has the job j
-pub state_at : (h : Heap) (j : Job) → h.job ≡ j → state_of h ≡ record { held = (state_of h).held; job = j }
-state_at h j at = ap (λ j. record { held = (state_of h).held; job = j }) at
-
 -- if j is the pending job, a slice of j is a slice as the model has it
 pub slices_at : (plan : Plan) (old : HeapWithWords) (j : Job) → old.state.job ≡ j → (new : HeapWithWords)
     → IsSlice plan (record { held = old.state.held; job = j }) new.state

@@ -1,6 +1,6 @@
 //! Reads and writes bytes of the objects of an open sliced heap, also of an object in motion, whose words are in two
 //! halves; returns an object's address and length; and reads a word of the region (`peek`).
-ghost use Rattle.std.specs.Prelude.{◌≡◌, ◌+◌, ◌≤◌, if◌then◌else◌, is_some, length, slice_get, IsErr};
+ghost use Rattle.std.specs.Prelude.{◌≡◌, if◌then◌else◌, is_some, length, slice_get, IsErr};
 ghost use Rattle.step_ledger.specs.Counting.{RoseBy};
 ghost use Rattle.slice_model.specs.Runs.{Happens, Read, Write};
 ghost use Rattle.sliced_heap.specs.Halves.{halves_of};

@@ -1,6 +1,6 @@
 //! The end of a job, after the last word of its slot is cleared or moved: the slot becomes free, or the next
 //! job moves an object into it.
-ghost use Rattle.std.specs.Prelude.{◌≡◌, ℕ, ◌+◌, ◌<◌, ◌≤◌, slice_index};
+ghost use Rattle.std.specs.Prelude.{◌≡◌, ℕ, ◌+◌, ◌<◌, slice_index};
 ghost use Rattle.step_ledger.specs.Counting.{RoseBy};
 ghost use Rattle.page_model.specs.Paging.{slot_words};
 ghost use Rattle.slice_model.specs.State.{Clear};

@@ -1,6 +1,6 @@
 //! `fill`: if freeing the slot of the pending job would give its class two partly full pages, replaces the job
 //! by one that moves an object into the slot. A free and the end of a job call it.
-ghost use Rattle.std.specs.Prelude.{◌≡◌, ℕ, ◌+◌, ◌%◌, ◌^◌, ◌<◌, ◌≤◌, IsSome, if◌then◌else◌, length, slice_index};
+ghost use Rattle.std.specs.Prelude.{◌≡◌, ℕ, ◌%◌, ◌^◌, ◌<◌, ◌≤◌, IsSome, if◌then◌else◌, length, slice_index};
 ghost use Rattle.std.specs.FinMap as map;
 ghost use Rattle.step_ledger.specs.Counting.{RoseBy};
 ghost use Rattle.class_lists.specs.PageLists.{pages_in};
@@ -8,7 +8,6 @@ ghost use Rattle.class_lists.specs.declared.Which.TheVariants.{NotFull};
 ghost use Rattle.page_slots.specs.PageTables.{tables_with};
 ghost use Rattle.page_slots.specs.Release.{IsFiller};
 ghost use Rattle.page_slots.specs.Tables.{AreTables};
-ghost use Rattle.proxy_table.specs.Proxies.{AreBelowLimit};
 ghost use Rattle.slice_model.specs.State.{Clear};
 ghost use Rattle.sliced_heap.specs.Heap.{job_of, seen};
 ghost use Rattle.sliced_heap.specs.Layout.{IsValid};

@@ -1,6 +1,6 @@
 //! The call `free` of an open sliced heap: it removes the object, leaves the job to clear its slot or to move
 //! another object into it, and does the first slice of that job.
-ghost use Rattle.std.specs.Prelude.{◌≡◌, ◌+◌, ◌*◌, ◌-◌, ◌<◌, ◌≤◌, Some, length, slice_index, slice_set};
+ghost use Rattle.std.specs.Prelude.{◌≡◌, ◌*◌, ◌-◌, ◌<◌, ◌≤◌, Some, length, slice_index, slice_set};
 ghost use Rattle.std.specs.FinMap as map;
 ghost use Rattle.cf_base.specs.Classes.{slots};
 ghost use Rattle.step_ledger.specs.Counting.{RoseBy};
