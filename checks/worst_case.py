@@ -508,7 +508,7 @@ HEAD = """`checks/worst_case --write` writes this page, and `checks/worst_case` 
 
 # The most steps, instructions and stack of each call from C
 
-[SPEED](SPEED.md#the-most-instructions-of-a-call-from-c) shows how to compute time from these bounds. The steps are [proved](C.md#what-is-proved). The instructions and the stack are computed from the machine code, without those of `memcpy`, `memmove`, `memset` and the allocator. Calls of a library with equal bounds share a row; for those with no entry under "steps" no bound is proved. Of bounds with "or" between them the greatest holds.
+[SPEED](SPEED.md#the-most-instructions-of-a-call-from-c) shows how to compute time from these bounds. The steps are [proved](C.md#what-is-proved). The instructions and the stack are computed from the machine code, without those of `memcpy`, `memmove`, `memset` and the allocator. Calls of a library with equal entries share a row; for those with no entry under "steps" no step bound is proved. Of bounds with "or" between them the greatest holds.
 
 - "Longest": the instructions of the longest call counted on 16 pages of 16 KiB with k = 1 and 4,096 proxies; if the bound has letters, also its value for that call.
 - "Stack": bytes, with return addresses.
@@ -519,9 +519,9 @@ HEAD = """`checks/worst_case --write` writes this page, and `checks/worst_case` 
 
 | letter | counts |
 |---|---|
-| s | words of the old slot or block |
-| t | words of the smaller slot |
-| m | words of the slot that moves |
+| s | words of the slot or block that is freed, in a resize of the old slot |
+| t | words of the smaller slot of a resize |
+| m | words of the slot of the object that moves |
 | r | words of the slot after the word in which the new length ends |
 | c | those of r that are cleared |
 | w | words that contain one of the bytes read or written |
