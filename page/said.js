@@ -120,7 +120,7 @@ function otherSaid({ verb, id, ok, reply, tokens: [, , one, two] }) {
 
 // Sentences of README and docs/GUARANTEES.md with the name that carries each; checks/page compares them with the two.
 const CLAIM = {
-  step: ["Each call of a manager makes the change that its contract describes, and no other. It returns a refusal only if the refusal's cause holds.", 'MovingHeap, NonMovingHeap, TagHeap'],
+  step: ["Each call of a manager makes the change that its contract describes, and no other. It returns a refusal other than OutOfMemory only if its cause holds.", 'MovingHeap, NonMovingHeap, TagHeap'],
   run: ["fixed, but for a manager's choices: a new object's number, the address of a new or resized object, which object moves, the steps (within the bound)", 'MeetsHeadline'],
   refused: ['With pages and every bound 1, Space means that the objects with the new one need more pages than there are', 'lack_of_room_is_arithmetic_at_bound_one'],
   malloc: ['an unused handle, an object of zeros', 'Manager::malloc'],
@@ -129,9 +129,9 @@ const CLAIM = {
   blocks: ['the blocks fill the region, no two free ones are neighbours', 'KeepsRules'],
   resize: ['the first bytes stay, added ones are zeros', 'Manager::resize'],
   cost: ['A refused malloc, free or, with pages, resize changes only the recorded steps of the last call.', ''],
-  read: ["A read prints its object's bytes as last written (at first zeros), whatever moved.", 'reads_give_what_was_written'],
+  read: ["A read returns its object's bytes as last written (new ones are zeros), whatever moved.", 'reads_give_what_was_written'],
   output: ['With pages and every bound k = 1, the output is a function of kind and script, unless the script has a q, b, p or steps.', 'one_transcript'],
-  equal: ['Equal arguments and input give equal output in every mode, however the input is chunked. Conditions: each line has its reply or the image is loaded; the managers passed are of equal kinds, and promise an order, as those of main do.', 'equal_scripts_get_equal_output'],
+  equal: ['Two calls of cf_main with equal arguments and input give equal output, however the input is chunked. Conditions: both end in status 0, 3 or 7; the managers passed are of equal kinds, and promise an order, as those of main do.', 'equal_scripts_get_equal_output'],
   physical: ["On NonMovingHeap an object keeps its physical blocks until it is freed or resized to another class", 'PagedHeap::free'],
   bad: ['a line within the limit is not in the grammar at its place', ''],
   slice: ['a function of script and quantum, but for the word p prints', 'MeetsSliced'],
@@ -148,7 +148,7 @@ const CLAIM = {
   alone: ['Other tasks affect a task only in that its quota lines may be refused.', 'tasks_are_isolated_in_a_script'],
   quota: ["the task's objects with the new one would need more pages than its quota", 'QuotaHeap::malloc'],
   set: ['all quotas would exceed the pages. Used: the task uses more', 'QuotaHeap::set_quota'],
-  admit: ["After yes the task's mallocs reply ok or live while its quota is not lowered and its live objects, the new one included, are within what it declared", 'an_admitted_task_is_served'],
+  admit: ["After yes the task's mallocs reply ok or live while its quota is no smaller and its live objects, the new one included, are within what it had declared", 'an_admitted_task_is_served'],
   parts: ['all spines and parts would need more pages than there are', 'LargeHeap::malloc'],
   long: ['A malloc or free of a long object takes at most the steps of one malloc or free for each part and for the spine, and of an access of four bytes for each part.', 'LargeHeap'],
   counted: ['A step is an access to one table entry or one word.', ''],
