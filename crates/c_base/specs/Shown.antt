@@ -30,6 +30,11 @@ abbrev pub found_number : Option ℕ → ℕ → ℕ
 found_number (Some n) before = n
 found_number None before = before
 
+-- the code of a call for the class of a length: 0, or 1 (`SIZE`) if an object of that length needs more than a page
+abbrev pub class_code : Option ℕ → ℤ
+class_code (Some c) = pos 0
+class_code None = pos 1
+
 -- the figures of a class, as C gets them
 abbrev pub class_shown : Figures → NphClass
 class_shown f = record { slot_words = f.slot_words; slots = f.slots; live = f.live; pages = f.pages; not_full = f.not_full }

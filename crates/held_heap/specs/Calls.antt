@@ -1,6 +1,6 @@
 -- For `Held`: what each call of a C library does to an open heap with its step count (`old`, `new`) and to the caller's number, structure or buffer (`before`,
 -- `after`), and the `code` that it returns.
-use Rattle.std.specs.Prelude.{◌≡◌, ℕ, ℤ, pos, List, Option, Some, None, Result, Ok, Err, length}
+use Rattle.std.specs.Prelude.{◌≡◌, ℕ, ℤ, pos, List, Option, Some, Result, Ok, Err, length}
 use Rattle.cf_base.specs.Settings.{Profile}
 use Rattle.cf_base.specs.declared.answers.Handle.{Handle}
 use Rattle.cf_base.specs.declared.answers.Freed.{Freed}
@@ -9,8 +9,6 @@ use Rattle.cf_base.specs.declared.answers.Refusal.{Refusal}
 use Rattle.cf_base.specs.declared.answers.AccessFault.{AccessFault}
 use Rattle.cf_base.specs.declared.answers.Resized.{Resized}
 use Rattle.cf_base.specs.declared.answers.ResizeFault.{ResizeFault}
-use Rattle.cf_base.specs.declared.answers.Figures.{Figures}
-use Rattle.cf_base.specs.declared.answers.Totals.{Totals}
 use Rattle.cf_base.specs.declared.kind.Kind.{Kind}
 use Rattle.cf_model.specs.Answers.{figures_in, place_of, totals_in}
 use Rattle.cf_model.specs.Bounds.{Bounds, ByOwn}
@@ -18,12 +16,12 @@ use Rattle.cf_model.specs.Costs.{RoseByCost, length_steps}
 use Rattle.cf_model.specs.Ordered.{IsOrderedFree, IsOrderedMalloc, IsOrderedResize}
 use Rattle.cf_model.specs.Room.{IsHasRoomAnswer, length_of}
 use Rattle.cf_model.specs.Rules.{KeepsRules}
-use Rattle.cf_model.specs.State.{HeapState}
 use Rattle.cf_model.specs.Steps.{IsFreeStep, IsMallocStep, IsOpeningWords, IsReadAnswer, IsResizeStep, IsWriteStep, opening_order, ordered_heap}
 use Rattle.step_ledger.specs.Counting.{RoseAtMost, RoseBy}
 use Rattle.c_base.specs.Codes.{access_code, free_code, malloc_code, resize_code}
 use Rattle.c_base.specs.HandleRules.{AreFirstHandles}
-use Rattle.c_base.specs.Handles.{handle_of, moved_handle, number_in, raised_by}
+use Rattle.c_base.specs.Handles.{moved_handle, number_in, raised_by}
+use Rattle.c_base.specs.Shown.{figures_shown, found_code, found_number, freed_shown, malloc_number, totals_shown}
 use Rattle.held_heap.specs.Counts.{free_counts, free_left, malloc_counts, opening_counts, resize_counts}
 use Rattle.held_heap.specs.HeldState.{HeldState}
 use Rattle.c_base.specs.declared.answers.NphClass.{NphClass}
@@ -42,11 +40,6 @@ pub record IsFreshHeap (kind : Kind) (p : Profile) (last : ℕ) (new : HeldState
   pub handles : AreFirstHandles p.proxies last new.handles
   pub counts : new.counts ≡ opening_counts (free_left new.heap)
 
--- the caller's number after a malloc: the new handle, or after a refusal the number before the call
-abbrev pub malloc_number : List ℕ → ℕ → Result Handle Refusal → ℕ
-malloc_number handles before (Ok h) = handle_of handles h.0
-malloc_number handles before (Err e) = before
-
 -- A malloc of `bytes` bytes. Its steps are the cost that the new heap records. Here and below `answer` is the result of the manager's call, whose steps, counted
 -- from 0, are `new.steps`, and `most` has the manager's own step bounds.
 pub record IsMallocCall (most : Option Bounds) (old : HeldState) (bytes before : ℕ) (code : ℤ) (after : ℕ) (new : HeldState) : Type 0 where
@@ -60,11 +53,6 @@ pub record IsMallocCall (most : Option Bounds) (old : HeldState) (bytes before :
   pub cost : new.steps ≡ new.heap.cost
   pub same : new.handles ≡ old.handles
   pub counts : new.counts ≡ malloc_counts old.counts answer new.heap
-
--- the caller's structure after a free with this result: what was freed and moved, or after a refusal the structure before the call
-abbrev pub freed_shown : List ℕ → NphFreed → Result Freed NotLive → NphFreed
-freed_shown handles before (Ok f) = record { slot_words = f.slot_words; moved = moved_handle handles f.moved }
-freed_shown handles before (Err e) = before
 
 -- a free of the object that `handle` names, which is given up if the free succeeds; its steps are the cost that the new heap records
 pub record IsFreeCall (most : Option Bounds) (old : HeldState) (handle : ℕ) (before : NphFreed) (code : ℤ) (after : NphFreed) (new : HeldState) : Type 0 where
@@ -119,16 +107,6 @@ pub record IsReadCall (most : Option Bounds) (old : HeldState) (handle from : �
   pub same : new.handles ≡ old.handles
   pub counts : new.counts ≡ old.counts
 
--- the code of a call for a length or an address: 0, or 4 (`UNKNOWN`) if the handle is not live and there is none
-abbrev pub found_code : Option ℕ → ℤ
-found_code (Some n) = pos 0
-found_code None = pos 4
-
--- the caller's number after a call for a length or an address: this, or the number before the call if there is none
-abbrev pub found_number : Option ℕ → ℕ → ℕ
-found_number (Some n) before = n
-found_number None before = before
-
 -- a call for the length of the object that `handle` names in a heap of the kind `of_kind`; the heap is unchanged
 pub record IsLengthCall (of_kind : Kind) (old : HeldState) (handle before : ℕ) (code : ℤ) (after : ℕ) (new : HeldState) : Type 0 where
   pub by_code : code ≡ found_code (length_of old.heap (number_in old.handles handle))
@@ -164,39 +142,16 @@ pub record IsRoomCall (most : Option Bounds) (old : HeldState) (bytes : ℕ) (co
   pub bound : ByOwn most (λ b. RoseAtMost 0 new.steps (b.room answer))
   pub exact : ByOwn most (λ b. RoseBy 0 new.steps (b.room_exact old.heap bytes answer))
 
--- the code of a call for the figures of a class: 4 (`UNKNOWN`) if there is no such class
-abbrev pub figures_code : HeapState → ℕ → ℤ
-figures_code s class = code (figures_in s class)
-  where
-    code : Option Figures → ℤ
-    code (Some f) = pos 0
-    code None = pos 4
-
--- the caller's structure after a call for the figures of a class; unchanged if there is no such class
-abbrev pub figures_shown : HeapState → ℕ → NphClass → NphClass
-figures_shown s class before = shown (figures_in s class)
-  where
-    shown : Option Figures → NphClass
-    shown (Some f) = record { slot_words = f.slot_words; slots = f.slots; live = f.live; pages = f.pages; not_full = f.not_full }
-    shown None = before
-
--- the caller's structure after a call for the figures of the whole heap
-abbrev pub totals_shown : HeapState → NphHeapTotals
-totals_shown s = shown (totals_in s.kind s)
-  where
-    shown : Totals → NphHeapTotals
-    shown t = record { asked = t.asked; taken = t.taken; held = t.held; live = t.live; used = t.used; free = t.free; largest = t.largest }
-
 -- a call for the figures of a class; it changes nothing, and counts no steps: `steps` is still that of the call before
 pub record IsFiguresCall (old : HeldState) (class : ℕ) (before : NphClass) (code : ℤ) (after : NphClass) (new : HeldState) : Type 0 where
-  pub by_code : code ≡ figures_code old.heap class
-  pub by_figures : after ≡ figures_shown old.heap class before
+  pub by_code : code ≡ found_code (figures_in old.heap class)
+  pub by_figures : after ≡ figures_shown (figures_in old.heap class) before
   pub kept : new ≡ old
 
 -- a call for the figures of the whole heap; the heap is unchanged
 pub record IsTotalsCall (most : Option Bounds) (old : HeldState) (code : ℤ) (after : NphHeapTotals) (new : HeldState) : Type 0 where
   pub by_code : code ≡ pos 0
-  pub by_totals : after ≡ totals_shown old.heap
+  pub by_totals : after ≡ totals_shown (totals_in old.heap.kind old.heap)
   pub kept : new.heap ≡ old.heap
   pub same : new.handles ≡ old.handles
   pub counts : new.counts ≡ old.counts

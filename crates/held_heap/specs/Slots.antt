@@ -1,5 +1,5 @@
 -- For `Held`: the words of an object's slot or block, before a free clears them, and over a manager with pages the class of a length.
-use Rattle.std.specs.Prelude.{◌≡◌, ℕ, ℤ, pos, Option, Some, None, option_map}
+use Rattle.std.specs.Prelude.{◌≡◌, ℕ, ℤ, Option, option_map}
 use Rattle.std.specs.FinMap.{get}
 use Rattle.cf_base.specs.Classes.{class_of}
 use Rattle.cf_base.specs.declared.kind.Kind.{Kind}
@@ -9,7 +9,7 @@ use Rattle.cf_model.specs.Steps.{slot_in}
 use Rattle.paged_heap.specs.Slots as page
 use Rattle.step_ledger.specs.Counting.{RoseBy}
 use Rattle.tag_heap.specs.Costs.{block_words_steps}
-use Rattle.held_heap.specs.Calls.{found_code, found_number}
+use Rattle.c_base.specs.Shown.{class_code, found_code, found_number}
 use Rattle.c_base.specs.Handles.{number_in}
 use Rattle.held_heap.specs.HeldState.{HeldState}
 
@@ -30,11 +30,6 @@ pub record IsSlotWordsCall (of_kind : Kind) (old : HeldState) (handle before : �
   pub same : new.handles ≡ old.handles
   pub counts : new.counts ≡ old.counts
   pub exact : RoseBy 0 new.steps (slot_words_steps of_kind (slot_words_of of_kind old.heap (number_in old.handles handle)))
-
--- the code of a call for the class of a length: 0, or 1 (`SIZE`) if an object of that length needs more than a page
-abbrev pub class_code : Option ℕ → ℤ
-class_code (Some c) = pos 0
-class_code None = pos 1
 
 -- a call for the class of an object of `bytes` bytes; the heap is unchanged
 pub record IsClassCall (old : HeldState) (bytes before : ℕ) (code : ℤ) (after : ℕ) (new : HeldState) : Type 0 where

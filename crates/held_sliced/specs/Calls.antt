@@ -24,7 +24,7 @@ use Rattle.step_ledger.specs.Counting.{RoseAtMost, RoseBy}
 use Rattle.c_base.specs.Codes.{access_code}
 use Rattle.c_base.specs.HandleRules.{AreFirstHandles}
 use Rattle.c_base.specs.Handles.{handle_of, none, number_in, raised_by}
-use Rattle.c_base.specs.Shown.{figures_shown, found_code, found_number, malloc_number, totals_shown}
+use Rattle.c_base.specs.Shown.{class_code, figures_shown, found_code, found_number, malloc_number, totals_shown}
 use Rattle.c_base.specs.declared.answers.NphClass.{NphClass}
 use Rattle.c_base.specs.declared.answers.NphHeapTotals.{NphHeapTotals}
 use Rattle.held_sliced.specs.Codes.{free_code, malloc_code}
@@ -154,11 +154,6 @@ pub record IsPlaceCall (old : HeldState) (handle before : ℕ) (code : ℤ) (aft
   pub kept : new.heap ≡ old.heap
   pub same : new.handles ≡ old.handles
   pub exact : RoseBy 0 new.steps 1
-
--- the code of a call for the class of a length: 0, or 1 (`SIZE`) if an object of that length needs more than a page
-abbrev pub class_code : Option ℕ → ℤ
-class_code (Some c) = pos 0
-class_code None = pos 1
 
 -- a call for the class of an object of `bytes` bytes; the heap is unchanged
 pub record IsClassCall (old : HeldState) (bytes before : ℕ) (code : ℤ) (after : ℕ) (new : HeldState) : Type 0 where
