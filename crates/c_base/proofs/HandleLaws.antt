@@ -1,5 +1,7 @@
--- For `laws`, and for the laws of each library: a free keeps the rules of the handles, the handles of a heap that was just opened keep them, and a handle of an earlier heap names nothing.
-use Rattle.std.proofs.Common.{◌≡◌, ◌≢◌, ℕ, zero, suc, ◌+◌, ◌-◌, ◌*◌, ◌/◌, ◌%◌, ◌^◌, ◌<◌, ◌≤◌, List, [], ◌∷◌, length, max, refl, sym, ◌∙◌, ap, subst, inl, inr, arith, cond}
+-- For `laws`, and for the laws of each library: what keeps the rules of the handles, that the handle of a malloc is new, that no object has the number `none`, and that a handle of an earlier heap names nothing.
+use Rattle.std.proofs.Common.{◌≡◌, ◌≢◌, ℕ, zero, suc, ◌+◌, ◌-◌, ◌*◌, ◌/◌, ◌%◌, ◌^◌, ◌<◌, ◌≤◌, List, [], ◌∷◌, length, max, refl, sym, ◌∙◌, ap, subst, inl, inr, arith, cond, ℤ, pos, Option, Some, None}
+use Rattle.std.specs.FinMap.{FinMap, get}
+use Rattle.std.specs.Ordering.{nat_cmp}
 use Rattle.std.specs.Prelude.{Result, Ok, Err, nat_eq, nat_lt, slice_index}
 use Rattle.std.specs.List.{fold}
 use Rattle.std.proofs.lemmas.Bool.{cond-true, cond-false, le-ltb, lt-ltb, ne_eqb, cases_eq, cases_lt}
@@ -7,9 +9,10 @@ use Rattle.std.proofs.lemmas.Nat.{div-add-mod', mod_below, mul-le}
 use Rattle.std.proofs.Math.Nat.{le-max_left, le-max_right, mod-eq_of_lt}
 use Rattle.std.proofs.lemmas.List.{get_or-set_same, get_or-set_other}
 use Rattle.std.proofs.lemmas.List.FromFn.{get_or-range_with_len}
-use Rattle.c_base.specs.HandleRules.{AreFirstHandles, AreHandles, IsCount, IsHandleOf}
+use Rattle.c_base.specs.HandleRules.{AreFirstHandles, AreHandles, HasHandles, IsCount, IsHandleOf, IsNewOf}
 use Rattle.c_base.specs.Handles.{base_of, handle_of, largest, next, none, number_in, raised, raised_by}
-use Rattle.c_base.proofs.Generations.{generations_whole, length-raised, named, next_is}
+use Rattle.c_base.specs.Shown.{found_code, found_number}
+use Rattle.c_base.proofs.Generations.{generations_whole, handle_small, length-raised, named, names_itself, next_is}
 
 -- the generation after g is one of those that are used
 few_next : (g most : ℕ) → g + 1 < most → cond (nat_lt (g + 1) (most - 1)) (g + 1) 0 + 1 < most
@@ -120,3 +123,60 @@ earlier_names_nothing old new n proxies within first room =
     let now = first_at proxies last new first (h % count) index in
     let other : slice_index new (h % count) ≢ h = λ e. omega (arith, e, now, base, rest, low, at) in
     named new h (h % count) refl ∙ cond-false (nat_eq (slice_index new (h % count)) h) (h % count) none (ne_eqb (slice_index new (h % count)) h other)
+
+-- ---- a heap with its handles: `old` and `new` are the handles before and after a call
+
+-- a call that keeps the number of proxies and the handles
+pub same_handles : {R S : Type 0} {p q : ℕ} {old new : List ℕ} → HasHandles R p old → S → q ≡ p → new ≡ old → HasHandles S q new
+same_handles {R} {S} {p} {q} {old} {new} k rules few same = record {
+  rules = rules;
+  handles = subst AreHandles (sym same) k.handles;
+  enough = (let e = ap length same in let m = k.enough in omega arith);
+}
+
+-- a free
+pub freed_handles : {R S T E : Type 0} {p q : ℕ} {old new : List ℕ} (handle : ℕ) (r : Result T E) → HasHandles R p old → S → q ≡ p → new ≡ raised_by old handle r
+    → HasHandles S q new
+freed_handles {R} {S} {T} {E} {p} {q} {old} {new} handle r k rules few raises = record {
+  rules = rules;
+  handles = subst AreHandles (sym raises) (raised_by_handles old handle r k.handles (let some = k.handles.count.some in omega arith));
+  enough = (let e = ap length raises ∙ length-raised_by old handle r in let m = k.enough in omega arith);
+}
+
+-- a heap that was just opened
+pub opened_handles : {R : Type 0} {p q : ℕ} {new : List ℕ} (last : ℕ) → R → q ≡ p → AreFirstHandles p last new → HasHandles R q new
+opened_handles {R} {p} {q} {new} last rules few first =
+    record { rules = rules; handles = first_are_handles p last new first; enough = (let m = first.enough in omega arith) }
+
+-- the handle of a malloc that uses number n names n before and after it, and is less than `none`
+pub names_new : {R : Type 0} {p : ℕ} {old new : List ℕ} (n handle : ℕ) → HasHandles R p old → n < p → handle ≡ handle_of old n → new ≡ old
+    → (number_in old handle ≡ n) × (number_in new handle ≡ n) × (handle < none)
+names_new {R} {p} {old} {new} n handle k low is same =
+    let below : n < length old = (let m = k.enough in omega arith) in
+    let named : number_in old handle ≡ n = ap (number_in old) is ∙ names_itself old k.handles n below in (
+      named,
+      subst (λ (hs : List ℕ). number_in hs handle ≡ n) (sym same) named,
+      subst (λ x. x < none) (sym is) (handle_small old k.handles n below),
+    )
+
+pub new_handle : {R V : Type 0} {p : ℕ} {old new : List ℕ} {objects : FinMap nat_cmp V} (n handle : ℕ) → HasHandles R p old → n < p → get objects n ≡ None
+    → handle ≡ handle_of old n → new ≡ old → IsNewOf objects old handle new
+new_handle {R} {V} {p} {old} {new} {objects} n handle k low unused is same =
+    let named = names_new n handle k low is same in
+    record { number = n; whole = is; unused = unused; before = named.0; names = named.1; in_range = named.2 }
+
+-- no object has the number `none`
+pub no_number : {R A : Type 0} {p n : ℕ} {handles : List ℕ} → HasHandles R p handles → n ≡ none → n < p → A
+no_number {R} {A} {p} {n} {handles} k is low = absurd (let m = k.enough in let few = k.handles.count.few in omega arith)
+
+pub none_there : {R V : Type 0} {p n : ℕ} {handles : List ℕ} (objects : FinMap nat_cmp V) → HasHandles R p handles → n ≡ none
+    → ((q : ℕ) (x : V) → get objects q ≡ Some x → q < p) → get objects n ≡ None
+none_there {R} {V} {p} {n} {handles} objects k is below = by_cases (get objects n) refl
+  where
+    by_cases : (x : Option V) → get objects n ≡ x → get objects n ≡ None
+    by_cases None e = e
+    by_cases (Some x) e = no_number k is (below n x e)
+
+-- a call for a number that there is not
+pub not_found : {before after : ℕ} {code : ℤ} (o : Option ℕ) → o ≡ None → code ≡ found_code o → after ≡ found_number o before → (code ≡ pos 4) × (after ≡ before)
+not_found {before} {after} {code} o none by_code by_number = (by_code ∙ ap found_code none, by_number ∙ ap (λ x. found_number x before) none)

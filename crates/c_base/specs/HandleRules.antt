@@ -1,6 +1,8 @@
 -- What is true of the handles of a heap: when it is opened, and in every state.
-use Rattle.std.specs.Prelude.{◌≡◌, ℕ, ◌/◌, ◌*◌, ◌^◌, ◌+◌, ◌<◌, ◌≤◌, List, length, slice_index}
-use Rattle.c_base.specs.Handles.{first_handles}
+use Rattle.std.specs.Prelude.{◌≡◌, ℕ, ◌/◌, ◌*◌, ◌^◌, ◌+◌, ◌<◌, ◌≤◌, List, None, length, slice_index}
+use Rattle.std.specs.FinMap.{FinMap, get}
+use Rattle.std.specs.Ordering.{nat_cmp}
+use Rattle.c_base.specs.Handles.{first_handles, handle_of, none, number_in}
 
 -- a count of handles: a power of two, at most 65,536
 pub record IsCount (count : ℕ) : Type 0 where
@@ -32,3 +34,18 @@ pub record IsHandleOf (count n handle : ℕ) : Type 0 where
 pub record AreHandles (handles : List ℕ) : Type 0 where
   pub count : IsCount (length handles)
   pub each : (n : ℕ) → n < length handles → IsHandleOf (length handles) n (slice_index handles n)
+
+-- a heap keeps its rules (`heap_rules`), and each number that an object can have, all below `proxies`, has a handle
+pub record HasHandles (heap_rules : Type 0) (proxies : ℕ) (table : List ℕ) : Type 0 where
+  pub rules : heap_rules
+  pub handles : AreHandles table
+  pub enough : proxies ≤ length table
+
+-- This handle is that of a new object: it named a number without an object (`objects`) in the handles `old`, still names it in `new`, and is less than `none`.
+pub record IsNewOf {V : Type 0} (objects : FinMap nat_cmp V) (old : List ℕ) (handle : ℕ) (new : List ℕ) : Type 0 where
+  pub number : ℕ
+  pub whole : handle ≡ handle_of old number
+  pub unused : get objects number ≡ None
+  pub before : number_in old handle ≡ number
+  pub names : number_in new handle ≡ number
+  pub in_range : handle < none

@@ -1,5 +1,5 @@
 //! `Loan`: the words of an open heap, apart from it, which C may read and write while it has them.
-ghost use Rattle.std.specs.Prelude.{◌≡◌, List, [], Option, Some, None, IsSome};
+ghost use Rattle.std.specs.Prelude.{◌≡◌, [], Option, None, IsSome};
 ghost use Rattle.std.specs.Borrow.{Array, Lends, sem, u64};
 ghost use Rattle.c_base.specs.Lending.{AreOf, AreWords, IsFit, Lending};
 ghost use Rattle.c_base.specs.Lent.{loan_owns};

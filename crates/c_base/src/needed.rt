@@ -1,8 +1,8 @@
 //! The memory that `nph_open` asks for, as a caller in C gets it.
-ghost use Rattle.std.specs.Prelude.{◌≡◌, ℕ, ◌*◌, ◌^◌, ◌<◌, ◌≤◌};
-ghost use Rattle.std.specs.Int.{IsNextPowerOfTwo};
+ghost use Rattle.std.specs.Prelude.{◌≡◌, ◌*◌, ◌^◌, ◌<◌, ◌≤◌};
 ghost use Rattle.cf_base.specs.Needed.{both, one_block};
-ghost use Rattle.c_base.specs.Needed.{shown_bytes};
+ghost use Rattle.cf_base.specs.declared.needed.BytesNeeded.{BytesNeeded};
+ghost use Rattle.c_base.specs.Needed.{IsOfHandles, shown_bytes};
 
 use crate::answers::NphNeeded;
 use crate::handles::Handles;
@@ -16,7 +16,7 @@ pub fn needed_with(manager: BytesNeeded, proxies: u32, held_bytes: u64) -> NphNe
     requires few { manager.blocks < 2 ^ 31 }
     requires fits { manager.total < 2 ^ 45 }
     requires held { held_bytes < 2 ^ 32 }
-    ensures { (count : ℕ) × IsNextPowerOfTwo proxies count × (result ≡ shown_bytes (both manager (both (one_block (4 * count)) (one_block held_bytes)))) }
+    ensures { (needed : BytesNeeded) × IsOfHandles proxies (λ count. both manager (both (one_block (4 * count)) (one_block held_bytes))) needed × (result ≡ shown_bytes needed) }
 {
     let all = manager.and(Handles::bytes_needed(proxies).and(BytesNeeded::block(held_bytes)));
     NphNeeded {

@@ -2,10 +2,8 @@ pub mod FreeParts
 pub mod SlotSteps
 pub mod Fresh
 pub mod Loosen
-pub mod MovingWords
 pub mod Rights
 pub mod LoosenTag
-pub mod TagWords
 pub mod TagRights
 pub mod TagSent
 pub mod Sent

@@ -1,6 +1,6 @@
 -- For `Held`: what each call of a C library does to an open heap with its step count (`old`, `new`) and to the caller's number, structure or buffer (`before`,
 -- `after`), and the `code` that it returns.
-use Rattle.std.specs.Prelude.{◌≡◌, ℕ, ℤ, pos, List, Option, Result, Ok, Err, length}
+use Rattle.std.specs.Prelude.{◌≡◌, ℕ, ℤ, pos, List, Option, Some, Result, Ok, Err, length}
 use Rattle.cf_base.specs.Settings.{Profile}
 use Rattle.cf_base.specs.declared.answers.Handle.{Handle}
 use Rattle.cf_base.specs.declared.answers.Freed.{Freed}
@@ -16,7 +16,6 @@ use Rattle.cf_model.specs.Costs.{RoseByCost, length_steps}
 use Rattle.cf_model.specs.Ordered.{IsOrderedFree, IsOrderedMalloc, IsOrderedResize}
 use Rattle.cf_model.specs.Room.{IsHasRoomAnswer, length_of}
 use Rattle.cf_model.specs.Rules.{KeepsRules}
-use Rattle.cf_model.specs.State.{HeapState}
 use Rattle.cf_model.specs.Steps.{IsFreeStep, IsMallocStep, IsOpeningWords, IsReadAnswer, IsResizeStep, IsWriteStep, opening_order, ordered_heap}
 use Rattle.step_ledger.specs.Counting.{RoseAtMost, RoseBy}
 use Rattle.c_base.specs.Codes.{access_code, free_code, malloc_code, resize_code}

@@ -1,6 +1,6 @@
 //! What the contracts of `Held` imply together, of the handles that C has and of a heap with as many pages as a program
 //! needs. The functions do nothing; each contract is a law.
-ghost use Rattle.std.specs.Prelude.{◌≡◌, ◌≢◌, ◌+◌, ◌*◌, ◌/◌, ◌^◌, ◌<◌, ◌≤◌, ℕ, ℤ, List, None, Option, Some, length, pos, replicate};
+ghost use Rattle.std.specs.Prelude.{◌≡◌, ◌≢◌, ◌/◌, ◌≤◌, ℕ, ℤ, List, None, Option, Some, length, pos, replicate};
 ghost use Rattle.std.specs.FinMap.{get, insert};
 ghost use Rattle.cf_base.specs.Settings.{Profile};
 ghost use Rattle.cf_base.specs.declared.kind.Kind.{Kind};

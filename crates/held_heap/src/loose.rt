@@ -1,7 +1,7 @@
 //! `LooseHeld`: an open heap of the moving manager with its step count, as `Held` has it, field by field, but with no
 //! invariant. A `Held` is a `LooseHeld` whose heap is valid, in the same memory; so the words of its region can be
 //! borrowed all at once.
-ghost use Rattle.std.specs.Prelude.{◌≡◌, IsSome, length, refl};
+ghost use Rattle.std.specs.Prelude.{◌≡◌, IsSome, refl};
 ghost use Rattle.c_base.specs.Lending.{AreOf, IsFit};
 ghost use Rattle.std.specs.Borrow.{sem};
 ghost use Rattle.paged_heap.specs.PagedState.{region_in};

@@ -1,7 +1,7 @@
 //! `LooseTag`: an open heap with blocks and its step count, as `Held` has it, field by field, but with no invariant. A
 //! `Held` of TLSF or Half-Fit is a `LooseTag` whose heap is valid, in the same memory; so the words of its region can be
 //! borrowed all at once.
-ghost use Rattle.std.specs.Prelude.{◌≡◌, IsSome, length, refl};
+ghost use Rattle.std.specs.Prelude.{◌≡◌, IsSome, refl};
 ghost use Rattle.c_base.specs.Lending.{AreOf, IsFit};
 ghost use Rattle.std.specs.Borrow.{sem};
 ghost use Rattle.held_heap.specs.LooseTag.{lending as of_held, region_in, words_of};

@@ -1,6 +1,6 @@
 //! The most steps of each call by the manager's kind, for a caller in C that plans before the call: the bounds of the
 //! contracts of `Held` as numbers. A call that is refused takes at most as many.
-ghost use Rattle.std.specs.Prelude.{◌≡◌, ◌+◌, ◌^◌, ◌<◌, ◌≤◌};
+ghost use Rattle.std.specs.Prelude.{◌≡◌, ◌+◌, ◌^◌, ◌<◌};
 ghost use Rattle.cf_model.specs.Costs.{words_touched};
 ghost use Rattle.page_model.specs.WordSteps.{blocks_of};
 ghost use Rattle.held_heap.specs.Most.{IsMostAccess, IsMostFree, IsMostLength, IsMostMalloc, IsMostResize, IsMostRoom, IsMostTotals, bounds_of, kind_code};

@@ -1,7 +1,5 @@
 //! A walk over the live objects of an open heap.
-ghost use Rattle.std.specs.Prelude.{◌≡◌, ◌+◌, ◌<◌, ◌≤◌, IsTrue, Some, if◌then◌else◌, option_map};
-ghost use Rattle.std.specs.FinMap.{get};
-ghost use Rattle.page_model.specs.Held.{Placed};
+ghost use Rattle.std.specs.Prelude.{◌≡◌, ◌+◌, ◌<◌, IsTrue, Some};
 ghost use Rattle.step_ledger.specs.Counting.{RoseBy};
 ghost use Rattle.held_heap.specs.Walk.{IsNextCall, IsNextLive, looked_at};
 

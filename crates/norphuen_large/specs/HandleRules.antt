@@ -1,16 +1,14 @@
 -- What is true of a heap of long objects and its handles: in every state, and of the handle of a malloc.
-use Rattle.std.specs.Prelude.{◌≡◌, ℕ, ◌<◌, ◌≤◌, None, Some, length, replicate}
+use Rattle.std.specs.Prelude.{◌≡◌, ℕ, ◌<◌, None, Some, replicate}
 use Rattle.std.specs.FinMap.{get}
 use Rattle.large_objects.specs.Large.{KeepsParts}
-use Rattle.c_base.specs.HandleRules.{AreHandles}
+use Rattle.c_base.specs.HandleRules.{HasHandles}
 use Rattle.c_base.specs.Handles.{none, number_in}
 use Rattle.norphuen_large.specs.HeldState.{HeldState}
 
 -- the heap keeps its rules, and each number that an object can have has a handle
-pub record KeepsHandles (h : HeldState) : Type 0 where
-  pub rules : KeepsParts h.heap
-  pub handles : AreHandles h.handles
-  pub enough : h.heap.inner.profile.proxies ≤ length h.handles
+abbrev pub KeepsHandles : HeldState → Type 0
+KeepsHandles h = HasHandles (KeepsParts h.heap) h.heap.inner.profile.proxies h.handles
 
 -- a malloc of `bytes` bytes that leads from `old` to `new` gives this handle: its number had no object before, and has the new one after; it is less than `none`
 pub record IsNewHandle (old : HeldState) (bytes handle : ℕ) (new : HeldState) : Type 0 where
