@@ -1,5 +1,5 @@
 -- For the callers of `leave_slot`: once the number of an owner's object is released, its slot can be left; and the object that then moves there is the other one.
-use Rattle.std.proofs.Common.{◌≡◌, ℕ, ◌+◌, ◌-◌, ◌%◌, ◌^◌, Bool, List, get_or, arith, ◌∙◌, ap, subst}
+use Rattle.std.proofs.Common.{◌≡◌, ℕ, ◌+◌, ◌-◌, ◌%◌, ◌^◌, Bool, List, get_or, arith, ◌∙◌, ap, subst, sym}
 use Rattle.std.specs.Prelude.{◌↔◌, IsTrue, is_some}
 use Rattle.std.specs.FinMap.{get, remove}
 use Rattle.cf_base.specs.declared.kind.Kind.{Kind}
