@@ -1,6 +1,6 @@
 -- For the law `printed_scripts_are_read_back`, clauses `read` and `clean`: the printed script is plain and within the limit.
 use Rattle.std.proofs.Common.{◌≡◌, ◌∙◌, ◌++◌, ◌+◌, ◌*◌, ◌/◌, ◌%◌, ◌≤◌, ◌<◌, ℕ, zero, suc, true, List, [], ◌∷◌, Option, Some, None, length, take, drop, map, refl, ap, sym, subst, arith, length-drop, inl, inr, ◌-◌, false, mul_assoc, mul-le-mul_left, mul-le-mul_right, add-mul, length-append, take-append-drop, ◌^◌, length-take-le, take_all, ◌==◌, nat_le, nat_eq, sum_by, codes, div-add-mod'}
-use Rattle.std.specs.Int.{div_ceil, w16, w32}
+use Rattle.std.specs.Int.{div_ceil}
 use Rattle.std.specs.FinMap.{entries, get, empty, insert, get-empty, len, len-empty}
 use Rattle.std.proofs.lemmas.Bool.{cases_lt, and_from, cond-true, cases_eq}
 use Rattle.std.proofs.lemmas.Bool.Decides.{nat_tests}
@@ -13,7 +13,7 @@ use Rattle.heap_image.specs.Listed.{listed_objects}
 use Rattle.image_run.proofs.OnlyImages.{bytes_left, bytes_taken}
 use Rattle.image_run.specs.Script.{commands_of, object_commands, script_under, writes_from, script_items}
 use Rattle.generator.specs.ReadBack.{ArePlain, CanOpen, IsWord, heap_line, lines_of}
-use Rattle.heap_image.proofs.CallerLemmas.{listed_all, listed_end, listed_none, listed_some, page_small, profile_is, AreBelow, below_none, below_some, below_end, length-number_2, length-number_4}
+use Rattle.heap_image.proofs.CallerLemmas.{listed_all, listed_end, listed_none, listed_some, page_small, profile_is, AreBelow, below_none, below_some, below_end, length-entry, length-header}
 use Rattle.generator.proofs.CallerLemmas.{script_back, numbers_short}
 use Rattle.cf_lemmas.proofs.Tests.{le_yes}
 use Rattle.std.specs.List.{range_with_len}
@@ -36,7 +36,7 @@ use Rattle.cf_base.specs.declared.kind.Layout.TheVariants.{Words}
 use Rattle.heap_image.specs.Decoded.{image_paging}
 use Rattle.generator.specs.CommandText.{after_spaces, line_of}
 use Rattle.script_loop.specs.ScriptOutcome.{MOST_BYTES, IsClean, has_bad}
-use Rattle.heap_image.specs.Image.{entries_of, entry_of, header_of, mark, number_bytes}
+use Rattle.heap_image.specs.Image.{entries_of, entry_of, header_of}
 
 -- For the law `printed_scripts_are_read_back`, clause `read`: the text of the script that mode `load` prints for some objects is read back as its items, a
 -- `heap` line and valid commands.
@@ -336,22 +336,7 @@ module _ (p : Profile) (o : Objects) (h : HaveImage p o) where
 -- `load` prints has no bad line and isn't too long.
 
 entry_long : (id : ℕ) (v rest : List ℕ) → length (entry_of id v ++ rest) ≡ 6 + length v + length rest
-entry_long id v rest =
-    let a = length-append (entry_of id v) rest in
-    let b = length-append (number_bytes w16 id) (number_bytes w32 (length v) ++ v) in
-    let c = length-append (number_bytes w32 (length v)) v in
-    let d = length-number_2 id in
-    let e = length-number_4 (length v) in
-    omega (arith, a, b, c, d, e)
-
-header_long : (a b c d : ℕ) → length (header_of a b c d) ≡ 20
-header_long a b c d =
-    let e = length-append mark (number_bytes w32 a ++ (number_bytes w32 b ++ (number_bytes w32 c ++ number_bytes w32 d))) in
-    let f = length-append (number_bytes w32 a) (number_bytes w32 b ++ (number_bytes w32 c ++ number_bytes w32 d)) in
-    let g = length-append (number_bytes w32 b) (number_bytes w32 c ++ number_bytes w32 d) in
-    let h = length-append (number_bytes w32 c) (number_bytes w32 d) in
-    let i = length-number_4 a in let j = length-number_4 b in let k = length-number_4 c in let l = length-number_4 d in
-    omega (arith, e, f, g, h, i, j, k, l)
+entry_long id v rest = (let a = length-append (entry_of id v) rest in let b = length-entry id v in omega arith)
 
 module _ (o : Objects) (ids : (id : ℕ) (v : List ℕ) → get o id ≡ Some v → id < 2 ^ 16) where
   all_long : (n k : ℕ) (m : Objects) → k + n ≡ 65536 → AreBelow o k m
@@ -384,7 +369,7 @@ module _ (o : Objects) (ids : (id : ℕ) (v : List ℕ) → get o id ≡ Some v 
   pub image_long : (p : Profile) → length (image_under p o) ≡ 20 + 6 * len o + asked_bytes o
   image_long p =
       let a = length-append (header_of p.pages (8 * p.page_words) p.proxies (len o)) (entries_of (entries o)) in
-      let h = header_long p.pages (8 * p.page_words) p.proxies (len o) in
+      let h = length-header p.pages (8 * p.page_words) p.proxies (len o) in
       let all = all_long 65536 0 empty (omega arith) (record { low = λ q lt. absurd (omega (arith, lt)); high = λ q le. get-empty nat_cmp q }) in
       let is = ap (λ (es : List (ℕ × List ℕ)). length (entries_of es)) (listed_all o 65536 ids) in
       let none = none_asked in

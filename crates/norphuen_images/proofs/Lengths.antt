@@ -1,8 +1,7 @@
 -- For `image_length`: the length of a heap's image, by its objects and their bytes; it fits 64 bits.
-use Rattle.std.proofs.Common.{◌≡◌, ◌∙◌, ◌+◌, ◌*◌, ◌≤◌, ◌<◌, ◌^◌, ◌++◌, ℕ, List, [], ◌∷◌, Some, length, map, length-append, refl, ap, arith, inl, inr}
+use Rattle.std.proofs.Common.{◌≡◌, ◌∙◌, ◌+◌, ◌*◌, ◌≤◌, ◌<◌, ◌^◌, ℕ, List, [], ◌∷◌, Some, length, map, length-append, refl, ap, arith, inl, inr}
 use Rattle.std.specs.Prelude.{sum_by}
 use Rattle.std.specs.FinMap.{entries, get, len, len-entries, values}
-use Rattle.std.specs.Int.{w16, w32}
 use Rattle.std.proofs.lemmas.Bool.{cases_eq}
 use Rattle.std.proofs.lemmas.List.Sums.{sum_by-cons}
 use Rattle.cf_base.specs.declared.kind.Kind.{Kind}
@@ -20,36 +19,17 @@ use Rattle.page_model.proofs.CallerLemmas.{len-objects}
 use Rattle.id_table.specs.Sessions.{AreTied, RunState}
 use Rattle.id_table.proofs.CallerLemmas.{by_id_counts, clash, names_of_objects}
 use Rattle.heap_image.specs.Heaps.{HaveImage, heap_image, live_objects}
-use Rattle.heap_image.specs.Image.{entries_of, entry_of, header_of, number_bytes}
-use Rattle.heap_image.proofs.CallerLemmas.{length-number_2, length-number_4, page_small}
-
-entry_length : (id : ℕ) (v : List ℕ) → length (entry_of id v) ≡ 6 + length v
-entry_length id v =
-    let a = length-append (number_bytes w16 id) (number_bytes w32 (length v) ++ v) in
-    let b = length-append (number_bytes w32 (length v)) v in
-    let c = length-number_2 id in
-    let d = length-number_4 (length v) in
-    omega (arith, a, b, c, d)
+use Rattle.heap_image.specs.Image.{entries_of, entry_of, header_of}
+use Rattle.heap_image.proofs.CallerLemmas.{length-entry, length-header, page_small}
 
 entries_length : (es : List (ℕ × List ℕ)) → length (entries_of es) ≡ 6 * length es + sum_by length (map (λ e. e.1) es)
 entries_length [] = refl
 entries_length (e ∷ es) =
     let rest = entries_length es in
     let a = length-append (entry_of e.0 e.1) (entries_of es) in
-    let b = entry_length e.0 e.1 in
+    let b = length-entry e.0 e.1 in
     let c = sum_by-cons (length {A = ℕ}) e.1 (map (λ e. e.1) es) in
     omega (arith, rest, a, b, c)
-
-header_length : (pages page_bytes proxies count : ℕ) → length (header_of pages page_bytes proxies count) ≡ 20
-header_length pages page_bytes proxies count =
-    let a = length-append (number_bytes w32 pages) (number_bytes w32 page_bytes ++ (number_bytes w32 proxies ++ number_bytes w32 count)) in
-    let b = length-append (number_bytes w32 page_bytes) (number_bytes w32 proxies ++ number_bytes w32 count) in
-    let c = length-append (number_bytes w32 proxies) (number_bytes w32 count) in
-    let d = length-number_4 pages in
-    let e = length-number_4 page_bytes in
-    let f = length-number_4 proxies in
-    let g = length-number_4 count in
-    omega (arith, a, b, c, d, e, f, g)
 
 -- if no object is longer than 2^26 bytes, all have at most as many bytes for each
 few_bytes : (m : Objects) → ((q : ℕ) (v : List ℕ) → get m q ≡ Some v → length v ≤ 67108864) → sum_by length (values m) ≤ 67108864 * len m
@@ -79,7 +59,7 @@ module _ (s : RunState) (tied : AreTied s.session s.heap) (moving : s.heap.kind 
       let a = alike.count in
       let b = alike.sums length in
       let c = len-objects s.heap.held in
-      let d = header_length s.heap.profile.pages (8 * s.heap.profile.page_words) s.heap.profile.proxies (len (live_objects s)) in
+      let d = length-header s.heap.profile.pages (8 * s.heap.profile.page_words) s.heap.profile.proxies (len (live_objects s)) in
       let e = entries_length (entries (live_objects s)) in
       let f = length-append (header_of s.heap.profile.pages (8 * s.heap.profile.page_words) s.heap.profile.proxies (len (live_objects s))) (entries_of (entries (live_objects s))) in
       let g = len-entries (live_objects s) in
