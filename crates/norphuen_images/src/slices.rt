@@ -1,6 +1,6 @@
 //! A source that reads a slice of bytes, and a sink that fills one.
 ghost use Rattle.std.specs.Prelude.{◌≡◌};
-ghost use Rattle.held_images.specs.Slices.{sink_seen, source_seen};
+ghost use Rattle.norphuen_images.specs.Slices.{sink_seen, source_seen};
 
 use cf_base::Failed;
 use cf_io::{Sink, Source};
