@@ -6,9 +6,9 @@ use Rattle.std.specs.List.{Contains, IsDistinct}
 use Rattle.std.proofs.lemmas.Bool.{cases_eq, cases_lt}
 use Rattle.std.proofs.lemmas.List.{get_or-set_same, get_or-set_other, length-map, length-replicate, length-set}
 use Rattle.std.proofs.lemmas.Option.{same_Some as same_place, same_Some as same_block}
-use Rattle.cf_lemmas.specs.Lists.{without_number}
-use Rattle.cf_lemmas.proofs.Members.{contains_cases, contains_head, contains_nil, contains_tail, contains_without, distinct_cons, distinct_nil, distinct_without, without_absent, without_contains}
-use Rattle.cf_lemmas.proofs.Tests.{eq_yes, eq_no, le_yes, le_no}
+use Rattle.cf_base.specs.Lists.{without_number}
+use Rattle.cf_base.proofs.Members.{contains_cases, contains_head, contains_nil, contains_tail, contains_without, distinct_cons, distinct_nil, distinct_without, without_absent, without_contains}
+use Rattle.cf_base.proofs.Tests.{eq_yes, eq_no, le_yes, le_no}
 use Rattle.block_model.specs.Buckets.{FreeLists, AreLawful}
 use Rattle.block_model.specs.Tiling.{Block, Demand, Fill, IsTiling, Carves, Serves, block_at, one_free_block, size_at, size_of, carved, carved_at}
 use Rattle.block_model.specs.FreeOrder.{AreListsOf, CarvesNext, IsFreeOf, BlocksWithLists, first_listed, first_lists, last_listed, later_or, list_in, lists_carved, lists_led_by, lists_without, next_block}

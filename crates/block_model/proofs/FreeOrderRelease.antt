@@ -4,7 +4,7 @@ use Rattle.std.proofs.Common.{◌≡◌, ◌≢◌, ℕ, Bool, true, false, ◌+
 use Rattle.std.specs.Prelude.{◌&&◌, is_none, nat_eq}
 use Rattle.std.proofs.lemmas.Bool.{cases_Bool, cases_eq}
 use Rattle.std.proofs.lemmas.Option.{same_Some as same_block}
-use Rattle.cf_lemmas.proofs.Tests.{eq_yes, eq_no}
+use Rattle.cf_base.proofs.Tests.{eq_yes, eq_no}
 use Rattle.block_model.specs.Buckets.{FreeLists, AreLawful}
 use Rattle.block_model.specs.Tiling.{Block, Fill, AreMerged, IsTiling, is_free, starts_free, block_at, size_at, size_of, freed_at, joined, merged, released}
 use Rattle.block_model.specs.FreeOrder.{AreListsOf, BlocksWithLists, free_from, free_size, free_up_to, lists_released, lists_without, merged_size, merged_start}

@@ -7,7 +7,7 @@ use Rattle.std.proofs.lemmas.Option.{same_Some as some_injective}
 use Rattle.block_model.specs.Buckets.{FreeLists, AreLawful}
 use Rattle.block_model.specs.Tiling.{Block, is_free, Fill, IsTiling, block_at, Demand, carved, carved_at, Carves, joined, merged, freed_at, released}
 use Rattle.block_model.specs.Tiling.{IsCarvedTo, StaysUsed}
-use Rattle.cf_lemmas.proofs.Tests.{eq_yes, eq_no, le_yes, le_no}
+use Rattle.cf_base.proofs.Tests.{eq_yes, eq_no, le_yes, le_no}
 use Rattle.block_model.proofs.Releases.{freed_fill, merged_fill}
 
 pub fill_le : (bs : List Block) (from to : ℕ) → Fill bs from to → from ≤ to

@@ -8,7 +8,7 @@ use Rattle.block_model.specs.Tiling.{Block, Fill, IsTiling, block_at}
 use Rattle.block_model.specs.Words.{HaveHeaders, block_header}
 use Rattle.block_model.specs.ReadWords.{HaveTags, read_block, read_blocks, read_owner}
 use Rattle.block_model.proofs.Others.{lies, fill_le}
-use Rattle.cf_lemmas.proofs.Tests.{eq_yes, eq_no}
+use Rattle.cf_base.proofs.Tests.{eq_yes, eq_no}
 
 header_parts : (w s before u : ℕ) → u < 2 → s < 2 ^ 31 → w ≡ s + 2 ^ 31 * u + 2 ^ 32 * before → (w % 2 ^ 31 ≡ s) × (w / 2 ^ 31 % 2 ≡ u)
 header_parts w s before u few small e = (omega arith, omega arith)

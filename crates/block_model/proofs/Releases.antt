@@ -3,7 +3,7 @@
 use Rattle.std.proofs.Common.{◌≡◌, ℕ, Bool, true, false, ◌+◌, List, [], ◌∷◌, arith, inl, inr, refl, subst}
 use Rattle.std.specs.Prelude.{◌&&◌}
 use Rattle.std.proofs.lemmas.Bool.{cases_eq, and_parts}
-use Rattle.cf_lemmas.proofs.Tests.{eq_yes, eq_no, and_false}
+use Rattle.cf_base.proofs.Tests.{eq_yes, eq_no, and_false}
 use Rattle.block_model.specs.Tiling.{Block, is_free, Fill, starts_free, AreMerged, IsTiling, joined, merged, freed_at, released}
 
 behind_free : (x y : Bool) → x ≡ true → (x && y) ≡ false → y ≡ false

@@ -10,7 +10,7 @@ use Rattle.std.proofs.lemmas.List.{get_or_past}
 use Rattle.block_model.specs.Tiling.{Block, Fill, IsTiling, block_at}
 use Rattle.block_model.specs.Words.{AreTilingWords, HaveHeaders}
 use Rattle.block_model.proofs.Others.{IsBlockWithin, lies}
-use Rattle.cf_lemmas.proofs.Tests.{eq_yes, eq_no, le_yes, le_no, lt_yes, lt_no}
+use Rattle.cf_base.proofs.Tests.{eq_yes, eq_no, le_yes, le_no, lt_yes, lt_no}
 
 -- the block at an address stays the same if one more block is put before the list
 pub behind : (x : Block) (xs : List Block) (from to a : ℕ) (b : Block) → Fill (x ∷ xs) from to → block_at xs a ≡ Some b → block_at (x ∷ xs) a ≡ Some b

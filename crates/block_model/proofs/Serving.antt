@@ -5,7 +5,7 @@ use Rattle.std.specs.Prelude.{◌⊎◌}
 use Rattle.std.proofs.lemmas.Bool.{cases_eq, cases_lt}
 use Rattle.block_model.specs.Buckets.{FreeLists}
 use Rattle.block_model.specs.Tiling.{Block, Carves, Demand, Fill, IsTiling, LacksBlock, Serves, block_at, carved_at}
-use Rattle.cf_lemmas.proofs.Tests.{eq_yes, eq_no}
+use Rattle.cf_base.proofs.Tests.{eq_yes, eq_no}
 use Rattle.block_model.proofs.Rewriting.{behind}
 
 module _ (rule : FreeLists) (need : ℕ) where

@@ -9,7 +9,7 @@ use Rattle.std.proofs.lemmas.List.FromFn.{length-map-range_with_len, get_or-map-
 use Rattle.block_model.specs.Tiling.{Block, Fill, IsTiling, block_at}
 use Rattle.block_model.specs.Words.{AreTilingWords, HaveHeaders, block_header}
 use Rattle.block_model.specs.ReadWords.{inner_word, tiling_words}
-use Rattle.cf_lemmas.proofs.Tests.{eq_yes, eq_no}
+use Rattle.cf_base.proofs.Tests.{eq_yes, eq_no}
 
 module _ (content : ℕ → ℕ → ℕ) where
   abbrev own : ℕ → Block → List ℕ

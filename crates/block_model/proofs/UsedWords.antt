@@ -5,7 +5,7 @@ use Rattle.std.proofs.lemmas.Bool.{cases_lt, cases_eq}
 use Rattle.std.proofs.lemmas.List.Sums.{sum_by-cons}
 use Rattle.std.proofs.lemmas.Option.{same_Some as some_injective}
 use Rattle.block_model.specs.Tiling.{Block, is_free, Fill, block_at, Demand, carved, carved_at, joined, merged, freed_at, released, size_at, used_words}
-use Rattle.cf_lemmas.proofs.Tests.{eq_yes, eq_no, le_yes, le_no}
+use Rattle.cf_base.proofs.Tests.{eq_yes, eq_no, le_yes, le_no}
 
 used_none : used_words [] ≡ 0
 unfolding used_words

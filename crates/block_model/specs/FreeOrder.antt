@@ -3,7 +3,7 @@
 use Rattle.std.specs.Prelude.{◌≡◌, ℕ, ◌+◌, ◌-◌, ◌*◌, ◌^◌, ◌↔◌, List, [], ◌∷◌, Option, Some, None, length, slice_index, slice_index_or, slice_set, map, drop, nat_eq, nat_le}
 use Rattle.std.specs.Prelude.{not, replicate, cond, if◌then◌else◌}
 use Rattle.std.specs.List.{Contains, IsDistinct, filter}
-use Rattle.cf_lemmas.specs.Lists.{without_number}
+use Rattle.cf_base.specs.Lists.{without_number}
 use Rattle.block_model.specs.Buckets.{FreeLists}
 use Rattle.block_model.specs.Tiling.{Block, Demand, is_free, block_at, size_at, carved_at}
 

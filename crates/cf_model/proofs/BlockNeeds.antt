@@ -5,7 +5,7 @@ use Rattle.cf_base.specs.Classes.{need}
 use Rattle.cf_base.specs.Settings.{Profile}
 use Rattle.cf_base.specs.declared.kind.Kind.{Kind}
 use Rattle.cf_base.specs.declared.kind.Kind.TheVariants.{Moving, NonMoving, Tlsf, HalfFit}
-use Rattle.cf_base.proofs.CallerLemmas.{page_size}
+use Rattle.cf_base.proofs.Rising.{page_size}
 use Rattle.block_model.specs.Buckets.{AreLawful}
 use Rattle.block_model.specs.Tiling.{block_need}
 use Rattle.block_model.proofs.CallerLemmas.{half_fit_lawful, tlsf_lawful}

@@ -7,7 +7,7 @@ use Rattle.std.specs.List.{Contains}
 use Rattle.std.proofs.lemmas.Bool.{cases_eq, cases_lt}
 use Rattle.std.proofs.lemmas.Grind.{same_number_lists}
 use Rattle.std.proofs.lemmas.Option.{same_Some as same_block}
-use Rattle.cf_lemmas.proofs.Members.{contains_cases, contains_head, contains_nil, contains_tail}
+use Rattle.cf_base.proofs.Members.{contains_cases, contains_head, contains_nil, contains_tail}
 use Rattle.page_model.specs.Order.{Order}
 use Rattle.block_model.specs.FreeOrder.{AreThreaded, HaveLinks, list_in}
 use Rattle.block_model.specs.Tiling.{Block, Fill, IsTiling, block_at}

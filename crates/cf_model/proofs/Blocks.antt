@@ -2,7 +2,7 @@
 use Rattle.std.proofs.Common.{◌≡◌, ◌≢◌, ℕ, ◌+◌, ◌*◌, ◌/◌, ◌%◌, ◌<◌, List, Some, length, get_or, arith, sym, ◌∙◌, subst, ap, refl}
 use Rattle.std.proofs.lemmas.Option.{same_Some as some_equal, same_Some as placed_equal}
 use Rattle.std.specs.FinMap.{get}
-use Rattle.cf_lemmas.proofs.Maps.{get_insert_other, get_remove_other}
+use Rattle.cf_base.proofs.Maps.{get_insert_other, get_remove_other}
 use Rattle.cf_base.specs.declared.answers.Freed.{Freed}
 use Rattle.cf_base.specs.declared.answers.Resized.{Resized}
 use Rattle.cf_base.specs.declared.kind.Kind.TheVariants.{NonMoving}

@@ -16,7 +16,7 @@ use Rattle.page_model.specs.Held.{Placed}
 use Rattle.page_model.specs.Order.{IsOrderOf, Order}
 use Rattle.page_model.specs.Paging.{first_bounds}
 use Rattle.page_model.proofs.CallerLemmas.{sound_empty, image_empty, first_permuted, first_paged, in_blocks}
-use Rattle.cf_base.proofs.CallerLemmas.{are_sizes, size_within}
+use Rattle.cf_base.proofs.Rising.{are_sizes, size_within}
 use Rattle.cf_base.specs.declared.kind.Layout.TheVariants.{Words}
 use Rattle.std.proofs.lemmas.Nat.{mul-le}
 use Rattle.std.proofs.lemmas.List.FromFn.{length-range_with_len}

@@ -1,7 +1,7 @@
 -- For `refusals_come_exactly_by_their_causes`: a call that succeeds has no cause for a refusal, and a malloc has at most one.
 use Rattle.std.proofs.Common.{◌≡◌, ℕ, ◌+◌, ◌<◌, ◌≤◌, Some, None, length, arith, sym, ◌∙◌, subst, inl, inr, ap, refl}
 use Rattle.std.specs.FinMap.{get}
-use Rattle.cf_lemmas.proofs.Maps.{found_once}
+use Rattle.cf_base.proofs.Maps.{found_once}
 use Rattle.cf_base.specs.declared.answers.AccessFault.{AccessFault}
 use Rattle.cf_base.specs.declared.answers.AccessFault.TheVariants as access
 use Rattle.cf_base.specs.declared.answers.Refusal.{Refusal}

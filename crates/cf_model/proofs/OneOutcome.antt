@@ -3,7 +3,7 @@
 use Rattle.std.proofs.Common.{◌≡◌, ℕ, ◌+◌, true, false, List, ◌∷◌, Option, Some, None, Result, Ok, Err, arith, length, refl, sym, ◌∙◌, ap, subst}
 use Rattle.std.specs.Prelude.{IfSome, IsSome, is_some, option_map, slice_index}
 use Rattle.std.specs.FinMap.{get, insert}
-use Rattle.cf_lemmas.proofs.Maps.{found_once, get_inserted}
+use Rattle.cf_base.proofs.Maps.{found_once, get_inserted}
 use Rattle.cf_base.specs.Classes.{need}
 use Rattle.cf_base.specs.declared.answers.AccessFault.{AccessFault}
 use Rattle.cf_base.specs.declared.answers.AccessFault.TheVariants as access

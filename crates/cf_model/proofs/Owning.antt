@@ -4,7 +4,7 @@ use Rattle.std.proofs.lemmas.List.{length-replicate}
 use Rattle.std.proofs.lemmas.Bool.{cases_eq}
 use Rattle.std.proofs.lemmas.Option.{same_Some as some_block, same_Some as some_placed, same_Some as some_number}
 use Rattle.std.specs.FinMap.{get, insert, remove}
-use Rattle.cf_lemmas.proofs.Maps.{get_inserted, get_insert_other, get_removed, get_remove_other}
+use Rattle.cf_base.proofs.Maps.{get_inserted, get_insert_other, get_removed, get_remove_other}
 use Rattle.page_model.specs.Held.{Held, Placed}
 use Rattle.page_model.specs.Steps.{zeros_at}
 use Rattle.block_model.specs.Buckets.{FreeLists}

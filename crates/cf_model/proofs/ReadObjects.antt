@@ -7,8 +7,8 @@ use Rattle.std.proofs.lemmas.Bool.{cases_eq}
 use Rattle.std.proofs.lemmas.List.{length-replicate}
 use Rattle.std.specs.FinMap.{get, insert}
 use Rattle.std.proofs.lemmas.Option.{same_Some as some_block, same_Some as some_number}
-use Rattle.cf_lemmas.proofs.Maps.{equal_maps, get_inserted, get_insert_other}
-use Rattle.cf_lemmas.proofs.MapValues.{get-map_values}
+use Rattle.cf_base.proofs.Maps.{equal_maps, get_inserted, get_insert_other}
+use Rattle.cf_base.proofs.MapValues.{get-map_values}
 pub use Rattle.page_model.proofs.CallerLemmas.{fresh_word}
 use Rattle.page_model.specs.Held.{Held, Placed, places}
 use Rattle.page_model.specs.Bytes.{bytes_at}

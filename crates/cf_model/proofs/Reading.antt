@@ -6,8 +6,8 @@ use Rattle.std.proofs.Math.Seq.{drop-append_seam, take-append_seam}
 use Rattle.std.proofs.lemmas.Grind.{common_steps}
 use Rattle.std.proofs.lemmas.Option.{same_Some as placed_equal}
 use Rattle.std.specs.FinMap.{get}
-use Rattle.cf_lemmas.proofs.Maps.{get_inserted, get_insert_other, get_removed}
-use Rattle.cf_lemmas.proofs.MapValues.{get-map_values}
+use Rattle.cf_base.proofs.Maps.{get_inserted, get_insert_other, get_removed}
+use Rattle.cf_base.proofs.MapValues.{get-map_values}
 use Rattle.cf_base.specs.declared.answers.Freed.{Freed}
 use Rattle.page_model.specs.Held.{Placed, objects}
 use Rattle.page_model.specs.Bytes.{written}

@@ -4,8 +4,8 @@ use Rattle.std.proofs.Common.{Bool, ◌≡◌, ◌∙◌, ◌++◌, ℕ, true, f
 use Rattle.std.specs.Ordering.{nat_cmp}
 use Rattle.std.specs.FinMap.{get, len, empty, empty_of_len, get-empty, len-empty}
 use Rattle.run_model.specs.Terms.{AreTied, Bound, HeapState, Held, IsGoing, KeepsRules, Kind, Moving, NonMoving, Placed, said, SessionState, with_bound, with_number}
-use Rattle.cf_lemmas.proofs.Maps.{equal_maps}
-use Rattle.cf_lemmas.proofs.Tests.{eq_no}
+use Rattle.cf_base.proofs.Maps.{equal_maps}
+use Rattle.cf_base.proofs.Tests.{eq_no}
 use Rattle.cf_model.specs.Answers.{class_with}
 use Rattle.run_model.specs.Steps.{Step, bound_text, class_to_bound}
 use Rattle.run_model.specs.Replies.{steps_text}

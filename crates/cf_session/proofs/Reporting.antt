@@ -6,7 +6,7 @@ use Rattle.run_model.specs.Terms.{AccessFault, Command, Failed, Frag, get, HalfF
 use Rattle.hex.specs.Hex.{encode_lower, encode_with, hex_digit_value, lower_digits}
 use Rattle.hex.proofs.HexLemmas.{IsDigits-lower_digits}
 use Rattle.cf_io.specs.Lines.{word_text}
-use Rattle.cf_lemmas.proofs.Tests.{le_no}
+use Rattle.cf_base.proofs.Tests.{le_no}
 use Rattle.cf_model.specs.Steps.{IsFault, ReadsBytes}
 use Rattle.run_model.specs.Replies.{place_text, read_text, steps_text, write_text, object_of, shown}
 use Rattle.cf_session.specs.Apply.{outcome_in, AppliesOneManager, outcome_of, run_at, IsEnded}

@@ -5,8 +5,8 @@ use Rattle.std.specs.Prelude.{nat_eq}
 use Rattle.std.specs.List.{Contains, IsDistinct}
 use Rattle.std.proofs.lemmas.Bool.{cases_eq}
 use Rattle.std.proofs.lemmas.List.{get_or-set_same, get_or-set_other, length-set, same_lists, get_or_default}
-use Rattle.cf_lemmas.specs.Lists.{without_number}
-use Rattle.cf_lemmas.proofs.Members.{contains_cases, contains_head, contains_without, distinct_cons, distinct_without, length-without}
+use Rattle.cf_base.specs.Lists.{without_number}
+use Rattle.cf_base.proofs.Members.{contains_cases, contains_head, contains_without, distinct_cons, distinct_without, length-without}
 use Rattle.class_lists.specs.Layout.{chain, chains, list_at, IsLinked, AreRings, HoldPagesOnce}
 use Rattle.class_lists.proofs.Chains.{linked_chain, linked_kept, first_in, next_in, previous_in, linked_after_push, linked_after_unlink}
 

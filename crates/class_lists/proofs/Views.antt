@@ -6,8 +6,8 @@ use Rattle.std.specs.List.{Contains, range_with_len}
 use Rattle.std.proofs.lemmas.Bool.{cases_eq, cases_lt}
 use Rattle.std.proofs.lemmas.List.{get_or_read, get_or-set_same, get_or-set_other, length-set, get_or_past, length-replicate, get_or-replicate}
 use Rattle.std.proofs.lemmas.List.FromFn.{length-range_with_len, get_or-range_with_len}
-use Rattle.cf_lemmas.specs.Lists.{without_number}
-use Rattle.cf_lemmas.proofs.Members.{contains_cases, contains_head, contains_nil, contains_without, distinct_cons, distinct_nil, length-without, length_within}
+use Rattle.cf_base.specs.Lists.{without_number}
+use Rattle.cf_base.proofs.Members.{contains_cases, contains_head, contains_nil, contains_without, distinct_cons, distinct_nil, length-without, length_within}
 use Rattle.class_lists.specs.declared.Which.{Which}
 use Rattle.class_lists.specs.declared.Which.TheVariants.{Full, NotFull}
 use Rattle.class_lists.specs.PageLists.{PageLists, AreApart, AreEmpty, IsUnlisted, KeepsOthers, empty_lists, list_number, pages_in, with_list}

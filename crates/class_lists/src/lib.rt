@@ -4,7 +4,7 @@
 
 ghost use Rattle.std.specs.Prelude.{◌≡◌, ◌+◌, ◌*◌, ◌<◌, ◌^◌, ◌↔◌, [], ◌∷◌, IfOk, IfSome, IsNone, length, slice_get, slice_set};
 ghost use Rattle.std.specs.List.{Contains, range_with_len};
-ghost use Rattle.cf_lemmas.specs.Lists.{without_number};
+ghost use Rattle.cf_base.specs.Lists.{without_number};
 ghost use Rattle.class_lists.specs.Needed.{list_bytes};
 ghost use Rattle.step_ledger.specs.Counting.{RoseBy};
 ghost use Rattle.class_lists.specs.PageLists.{AreApart, AreEmpty, IsUnlisted, KeepsOthers, empty_lists, list_number, pages_in, with_list};

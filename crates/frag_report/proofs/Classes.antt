@@ -11,7 +11,7 @@ use Rattle.cf_base.specs.declared.answers.Failed.{Failed}
 use Rattle.cf_base.specs.declared.answers.Figures.{Figures}
 use Rattle.cf_io.specs.Feeds.{SinkState, Writes, WritesAll}
 use Rattle.cf_io.proofs.CallerLemmas.{led-append, puts_cut, puts_same, puts_then}
-use Rattle.cf_lemmas.proofs.Tests.{lt_no, lt_yes}
+use Rattle.cf_base.proofs.Tests.{lt_no, lt_yes}
 use Rattle.page_model.specs.Arrangement.{live}
 use Rattle.page_model.specs.Figures.{figures_of}
 use Rattle.page_model.specs.Held.{Held, objects}

@@ -9,7 +9,7 @@ use Rattle.std.proofs.lemmas.Bool.Decides.{nat_tests}
 use Rattle.hex.specs.Hex.{IsBytes, encode_lower}
 use Rattle.hex.proofs.HexLemmas.{decode_of-encode_lower}
 use Rattle.cf_base.specs.Settings.{profile_from}
-use Rattle.cf_base.proofs.CallerLemmas.{within_limits}
+use Rattle.cf_base.proofs.Tests.{within_limits}
 use Rattle.cf_io.specs.Numbers.{number_in}
 use Rattle.cf_io.proofs.CallerLemmas.{length_in_hex, number_of_decimal}
 use Rattle.script_reader.specs.Commands.{bytes_in, number_from, settings_in}

@@ -9,8 +9,8 @@ use Rattle.std.proofs.lemmas.Bool.{cases_eq, cond-true}
 use Rattle.std.proofs.lemmas.List.{drop-replicate, length-replicate}
 use Rattle.std.proofs.Math.Seq.{drop-append-add, take-append_seam}
 use Rattle.cf_base.specs.Settings.{Profile}
-use Rattle.cf_lemmas.proofs.Maps.{equal_maps, get_inserted, get_insert_other, insert_twice, remove_inserted, remove_missing}
-use Rattle.cf_lemmas.proofs.Tests.{lt_yes}
+use Rattle.cf_base.proofs.Maps.{equal_maps, get_inserted, get_insert_other, insert_twice, remove_inserted, remove_missing}
+use Rattle.cf_base.proofs.Tests.{lt_yes}
 use Rattle.page_model.specs.Bytes.{written}
 use Rattle.page_model.specs.Held.{Objects}
 use Rattle.id_table.specs.Sessions.{RunState}

@@ -12,8 +12,7 @@ use Rattle.std.proofs.lemmas.Bool.Decides.{nat_tests}
 use Rattle.std.proofs.lemmas.Nat.{mul-le}
 use Rattle.cf_base.specs.Limits.{is_page_size, is_within}
 use Rattle.cf_base.specs.Settings.{Profile, profile_from}
-use Rattle.cf_base.proofs.CallerLemmas.{within_limits}
-use Rattle.cf_lemmas.proofs.Tests.{le_yes, lt_no}
+use Rattle.cf_base.proofs.Tests.{within_limits, le_yes, lt_no}
 use Rattle.cf_model.specs.Rules.{AreInRange}
 use Rattle.page_model.specs.Arrangement.{pages_needed}
 use Rattle.page_model.specs.Held.{Objects}

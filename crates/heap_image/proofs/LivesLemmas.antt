@@ -9,8 +9,8 @@ use Rattle.cf_base.specs.Settings.{Profile, at_bound_one}
 use Rattle.cf_base.specs.declared.kind.Kind.{Kind}
 use Rattle.cf_base.specs.declared.kind.Kind.TheVariants.{Moving}
 use Rattle.cf_base.specs.declared.kind.Layout.TheVariants.{Words}
-use Rattle.cf_lemmas.proofs.Maps.{equal_maps}
-use Rattle.cf_lemmas.proofs.Renaming.{CountAlike}
+use Rattle.cf_base.proofs.Maps.{equal_maps}
+use Rattle.cf_base.proofs.Renaming.{CountAlike}
 use Rattle.cf_model.specs.State.{layout_of, paging_in}
 use Rattle.id_table.specs.Ids.{AreWithin}
 use Rattle.page_model.specs.Arrangement.{IsSound, free_pages, live, pages_needed, used_pages}

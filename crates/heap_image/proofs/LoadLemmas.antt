@@ -9,7 +9,7 @@ use Rattle.cf_base.specs.declared.kind.Kind.{Kind}
 use Rattle.cf_base.specs.declared.kind.Kind.TheVariants.{Moving}
 use Rattle.cf_base.specs.declared.kind.Layout.TheVariants.{Words}
 use Rattle.cf_base.specs.declared.settings.Settings.{Settings}
-use Rattle.cf_lemmas.proofs.Maps.{equal_maps}
+use Rattle.cf_base.proofs.Maps.{equal_maps}
 use Rattle.cf_model.specs.Rules.{KeepsRules}
 use Rattle.cf_model.specs.State.{HeapState, layout_of}
 use Rattle.cf_model.specs.Steps.{IsClosed, IsEmptyHeap, opening_bounds}

@@ -14,8 +14,8 @@ use Rattle.cf_base.specs.declared.answers.Refusal.TheVariants as refusal
 use Rattle.cf_base.specs.declared.kind.Kind.{Kind}
 use Rattle.cf_base.specs.declared.kind.Kind.TheVariants.{Moving}
 use Rattle.cf_base.specs.declared.kind.Layout.TheVariants.{Words}
-use Rattle.cf_lemmas.proofs.MapValues.{map_values-insert}
-use Rattle.cf_lemmas.proofs.Renaming.{CountAlike}
+use Rattle.cf_base.proofs.MapValues.{map_values-insert}
+use Rattle.cf_base.proofs.Renaming.{CountAlike}
 use Rattle.cf_model.specs.State.{HeapState, layout_of, paging_in}
 use Rattle.cf_model.specs.Steps.{ChangesCost, IsMallocStep}
 use Rattle.id_table.specs.ById.{objects_by_id}

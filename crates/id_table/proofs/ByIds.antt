@@ -6,10 +6,10 @@ use Rattle.std.specs.Option.{unwrap_or}
 use Rattle.std.proofs.lemmas.Bool.{cases_eq}
 use Rattle.std.specs.Ordering.{nat_cmp}
 use Rattle.std.specs.FinMap.{FinMap, empty, get, get-empty, insert, remove}
-use Rattle.cf_lemmas.specs.Maps.{map_values}
-use Rattle.cf_lemmas.proofs.Maps.{equal_maps, get_inserted, get_insert_other, get_remove_other, get_removed}
-use Rattle.cf_lemmas.proofs.MapValues.{get-map_values}
-use Rattle.cf_lemmas.proofs.Renaming.{CountAlike, counted_alike}
+use Rattle.cf_base.specs.Maps.{map_values}
+use Rattle.cf_base.proofs.Maps.{equal_maps, get_inserted, get_insert_other, get_remove_other, get_removed}
+use Rattle.cf_base.proofs.MapValues.{get-map_values}
+use Rattle.cf_base.proofs.Renaming.{CountAlike, counted_alike}
 use Rattle.page_model.specs.Held.{Objects}
 use Rattle.id_table.specs.Ids.{Ids}
 use Rattle.id_table.specs.Ties.{AreTiedTo}

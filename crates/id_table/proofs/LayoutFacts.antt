@@ -10,11 +10,11 @@ use Rattle.std.proofs.lemmas.Bool.{cases_lt, false≢true}
 use Rattle.std.proofs.lemmas.List.{length-replicate, length-set}
 use Rattle.std.proofs.lemmas.List.Sums.{count_by-le-length}
 use mir.Val.{bool_byte}
-use Rattle.cf_lemmas.specs.Maps.{numbered}
-use Rattle.cf_lemmas.proofs.Maps.{len_fresh, len_gone, len_rebound}
-use Rattle.cf_lemmas.proofs.Numbered.{get-numbered, len-numbered, numbered-clear, numbered-set, numbered_live}
+use Rattle.cf_base.specs.Maps.{numbered}
+use Rattle.cf_base.proofs.Maps.{len_fresh, len_gone, len_rebound}
+use Rattle.cf_base.proofs.Numbered.{get-numbered, len-numbered, numbered-clear, numbered-set, numbered_live}
 use Rattle.id_table.specs.Ids.{AreWithin, Ids}
-use Rattle.cf_lemmas.specs.Maps.{vacant}
+use Rattle.cf_base.specs.Maps.{vacant}
 use Rattle.id_table.specs.Layout.{IsValid}
 
 pub numbered-vacant : (n k : ℕ) → numbered k (vacant {X = ℕ} n) ≡ empty

@@ -2,7 +2,7 @@
 use Rattle.std.specs.Prelude.{ℕ, List, [], Option, None, Some, option_map}
 use Rattle.std.specs.Option.{unwrap_or}
 use Rattle.std.specs.FinMap.{get}
-use Rattle.cf_lemmas.specs.Maps.{map_values}
+use Rattle.cf_base.specs.Maps.{map_values}
 use Rattle.page_model.specs.Held.{Objects, Placed}
 use Rattle.id_table.specs.Ids.{Ids}
 use Rattle.id_table.specs.Sessions.{RunState}

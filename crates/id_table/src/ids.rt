@@ -3,7 +3,7 @@ ghost use Rattle.std.specs.Prelude.{◌≡◌, ◌↔◌, IfOk, IsTrue, option_m
 ghost use Rattle.std.specs.FinMap as map;
 ghost use Rattle.cf_base.specs.declared.answers.Handle.{Handle as AHandle};
 ghost use Rattle.id_table.specs.Ids.{AreWithin};
-ghost use Rattle.cf_lemmas.specs.Maps.{vacant};
+ghost use Rattle.cf_base.specs.Maps.{vacant};
 
 use cf_base::{Handle, OutOfMemory};
 use std::alloc::{AllocError, Global};
@@ -21,7 +21,7 @@ pub struct IdTable {
 }
 
 impl Model for IdTable {
-    ghost use Rattle.cf_lemmas.specs.Maps.{numbered};
+    ghost use Rattle.cf_base.specs.Maps.{numbered};
     ghost use Rattle.id_table.specs.Ids.{Ids, ids_code};
     ghost use Rattle.id_table.specs.Layout.{IsValid};
 

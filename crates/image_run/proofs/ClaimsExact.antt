@@ -2,7 +2,7 @@
 -- objects doesn't meet them.
 use Rattle.std.proofs.Common.{◌≡◌, ◌≢◌, ◌∙◌, ◌+◌, ◌*◌, ℕ, List, [], Option, Some, None, true, length, arith, refl, ap, sym, option_map}
 use Rattle.run_model.specs.Terms.{get, insert, items, len, Moving, Objects, Profile}
-use Rattle.cf_lemmas.proofs.Maps.{len_fresh}
+use Rattle.cf_base.proofs.Maps.{len_fresh}
 use Rattle.script_laws.proofs.CallerLemmas.{view}
 use Rattle.script_laws.specs.ShownHeap.{ShownHeap}
 use Rattle.heap_image.specs.Decoded.{Decoded, decoded, whole}

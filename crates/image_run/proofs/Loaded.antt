@@ -2,7 +2,7 @@
 use Rattle.std.proofs.Common.{◌≡◌, ◌∙◌, List, [], ◌∷◌, Option, Some, sym, ap, subst, ◌++◌, ◌+◌, ◌-◌, ◌*◌, ◌≤◌, ◌<◌, ℕ, zero, suc, true, false, None, length, take, drop, map, refl, arith, append_assoc, append-nil, inl, inr, length-append, length-drop, ◌≢◌}
 use Rattle.std.specs.Prelude.{option_map, ⊤, Err, codes, nat_eq, nat_le, nat_lt, replicate, Ok, if◌then◌else◌}
 use Rattle.run_model.specs.Terms.{IsGoing, IsPaged, Item, Kind, Objects, Reply, RunState, asks, Command, Malloc, Moving, need, Profile, said, Write, written, appended, items, profile_of}
-use Rattle.cf_lemmas.proofs.Maps.{equal_maps, get_inserted, len_fresh, insert_twice}
+use Rattle.cf_base.proofs.Maps.{equal_maps, get_inserted, len_fresh, insert_twice}
 use Rattle.script_laws.proofs.CallerLemmas.{IsInOrder, bytes_are, item_is, shown, view, one_shown, run_met, shown_at, run_keeps, stays_at_one}
 use Rattle.script_laws.specs.Headline.{MayReply, OpensEmpty}
 use Rattle.script_laws.specs.ShownHeap.{ShownHeap}

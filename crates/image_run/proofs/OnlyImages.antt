@@ -12,7 +12,7 @@ use Rattle.run_model.specs.Terms.{Objects, AreBytes, need, Profile, AreInRange}
 use Rattle.std.specs.Int.{Width, w16, w32, byte_len}
 use Rattle.std.proofs.lemmas.Bool.{cases_lt, and_parts, leb-true, ltb-false}
 use Rattle.std.proofs.lemmas.List.{get_or-drop, get_or-take, get_or_past, length-take, length-take-le, take-append-drop}
-use Rattle.cf_lemmas.proofs.Maps.{some_inserted}
+use Rattle.cf_base.proofs.Maps.{some_inserted}
 use Rattle.page_model.specs.Arrangement.{pages_needed, pages_needed_with}
 use Rattle.page_model.proofs.CallerLemmas.{none_needed}
 use Rattle.heap_image.specs.Decoded.{Decoded, Reached, breaks_in, bytes_decoded, cut, end_decoded, entries_decoded, entry_decoded, has_room, image_paging, length_decoded, number, passed, IsHeapImage, at_first, breaks_after, count_decoded, decoded, is_page_of, page_bytes_decoded, pages_decoded, proxies_decoded, unopened, whole}

@@ -7,7 +7,7 @@ use Rattle.std.proofs.lemmas.Bool.Decides.{nat_tests}
 use Rattle.cf_base.specs.Limits.{is_page_bytes, is_page_size}
 use Rattle.run_model.specs.Terms.{AreBytes, asks, Command, items, Objects, Profile, starts, classes, IsPaging, need, Paging, slot_words, slots_of, Malloc, Write}
 use Rattle.cf_base.specs.Settings.{setting_fault}
-use Rattle.cf_base.proofs.CallerLemmas.{within_limits}
+use Rattle.cf_base.proofs.Tests.{within_limits, le_yes}
 use Rattle.heap_image.specs.Heaps.{HaveImage, image_under}
 use Rattle.heap_image.specs.Listed.{listed_objects}
 use Rattle.image_run.proofs.OnlyImages.{bytes_left, bytes_taken}
@@ -15,15 +15,14 @@ use Rattle.image_run.specs.Script.{commands_of, object_commands, script_under, w
 use Rattle.generator.specs.ReadBack.{ArePlain, CanOpen, IsWord, heap_line, lines_of}
 use Rattle.heap_image.proofs.CallerLemmas.{listed_all, listed_end, listed_none, listed_some, page_small, profile_is, AreBelow, below_none, below_some, below_end, length-entry, length-header}
 use Rattle.generator.proofs.CallerLemmas.{script_back, numbers_short}
-use Rattle.cf_lemmas.proofs.Tests.{le_yes}
 use Rattle.std.specs.List.{range_with_len}
 use Rattle.std.specs.Ordering.{nat_cmp}
 use Rattle.std.proofs.lemmas.List.Sums.{sum_by-cons}
 use Rattle.std.proofs.Math.Nat.{div-mul-le_self, mod-lt}
-use Rattle.cf_lemmas.proofs.Induction.{map_induction}
-use Rattle.cf_lemmas.proofs.Maps.{get_inserted, len_fresh}
-use Rattle.cf_lemmas.proofs.Ranges.{one, sum_le}
-use Rattle.cf_lemmas.proofs.Values.{no_values, still}
+use Rattle.cf_base.proofs.Induction.{map_induction}
+use Rattle.cf_base.proofs.Maps.{get_inserted, len_fresh}
+use Rattle.cf_base.proofs.Ranges.{one, sum_le}
+use Rattle.cf_base.proofs.Values.{no_values, still}
 use Rattle.page_model.specs.Arrangement.{live, pages_needed}
 use Rattle.page_model.specs.Counts.{ceil_div}
 use Rattle.page_model.specs.Figures.{asked_bytes}

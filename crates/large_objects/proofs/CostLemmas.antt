@@ -5,9 +5,9 @@ use Rattle.std.proofs.Math.Nat.{div-add-mod, mod-lt}
 use Rattle.std.proofs.lemmas.Nat.{le-div, mul-le}
 use Rattle.std.proofs.lemmas.Bool.{cases_eq, cases_lt, eqb-true}
 use Rattle.std.specs.FinMap.{get}
-use Rattle.cf_lemmas.proofs.Tests.{eq_no, le_no}
+use Rattle.cf_base.proofs.Tests.{eq_no, le_no}
 use Rattle.std.specs.List.{range_with_len}
-use Rattle.cf_lemmas.proofs.Ranges.{sum_next, sum_range_same}
+use Rattle.cf_base.proofs.Ranges.{sum_next, sum_range_same}
 use Rattle.step_ledger.specs.Counting.{RoseAtMost, RoseBy}
 use Rattle.cf_base.specs.Classes.{need}
 use Rattle.cf_base.specs.declared.answers.AccessFault.{AccessFault}

@@ -11,8 +11,8 @@ use Rattle.std.specs.List.{range_with_len}
 use Rattle.std.proofs.lemmas.List.Sums.{fails_before_first, sum_by-append, sum_by-cons}
 use Rattle.std.proofs.lemmas.List.Folds.{sum_by-replicate}
 use Rattle.cf_base.specs.Classes.{need}
-use Rattle.cf_lemmas.proofs.Ranges.{one}
-use Rattle.cf_lemmas.proofs.Tests.{eq_yes, eq_no, le_yes, le_no, lt_yes, lt_no}
+use Rattle.cf_base.proofs.Ranges.{one}
+use Rattle.cf_base.proofs.Tests.{eq_yes, eq_no, le_yes, le_no, lt_yes, lt_no}
 use Rattle.page_model.specs.Arrangement.{live}
 use Rattle.page_model.specs.Counts.{ceil_div}
 use Rattle.page_model.specs.Held.{Objects}

@@ -9,8 +9,8 @@ use Rattle.std.proofs.lemmas.Bool.{cases_eq}
 use Rattle.std.proofs.lemmas.List.{length-replicate}
 use Rattle.std.proofs.lemmas.Option.{same_Some}
 use Rattle.std.specs.FinMap.{get, insert}
-use Rattle.cf_lemmas.proofs.Maps.{get_inserted, get_insert_other, len_fresh, len_rebound, some_inserted}
-use Rattle.cf_lemmas.proofs.Ranges.{one}
+use Rattle.cf_base.proofs.Maps.{get_inserted, get_insert_other, len_fresh, len_rebound, some_inserted}
+use Rattle.cf_base.proofs.Ranges.{one}
 use Rattle.cf_base.specs.Settings.{Profile}
 use Rattle.page_model.specs.Arrangement.{live, pages_needed_with}
 use Rattle.page_model.specs.Bytes.{written}

@@ -12,7 +12,7 @@ use Rattle.cf_base.specs.declared.answers.Handle.{Handle}
 use Rattle.cf_base.specs.declared.answers.NotLive.{NotLive}
 use Rattle.cf_base.specs.declared.answers.Refusal.{Refusal}
 use Rattle.cf_base.specs.declared.answers.Refusal.TheVariants as refusal
-use Rattle.cf_lemmas.proofs.MapValues.{map_values-insert}
+use Rattle.cf_base.proofs.MapValues.{map_values-insert}
 use Rattle.page_model.specs.Arrangement.{LacksRoom}
 use Rattle.page_model.specs.Held.{Objects, Placed, objects}
 use Rattle.page_model.specs.Paging.{EveryBoundIsOne, Paging, class_for, paging_of}

@@ -8,7 +8,7 @@ use Rattle.std.proofs.lemmas.List.{get_or_past, length-replicate}
 use Rattle.std.proofs.lemmas.Option.{same_Some}
 use Rattle.std.specs.FinMap.{get, insert, remove, len}
 use Rattle.cf_base.specs.Settings.{Profile}
-use Rattle.cf_lemmas.proofs.Maps.{get_inserted, get_insert_other, some_inserted}
+use Rattle.cf_base.proofs.Maps.{get_inserted, get_insert_other, some_inserted}
 use Rattle.cf_base.specs.declared.kind.Kind.{Kind}
 use Rattle.step_ledger.specs.Counting.{RoseAtMost}
 use Rattle.page_model.specs.Arrangement.{live, pages_for}

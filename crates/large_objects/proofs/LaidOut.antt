@@ -5,7 +5,7 @@ use Rattle.std.specs.Prelude.{◌⊎◌, Option}
 use Rattle.std.proofs.lemmas.Bool.{cases_eq, cases_lt}
 use Rattle.std.proofs.lemmas.Option.{same_Some}
 use Rattle.std.specs.FinMap.{get, insert, remove}
-use Rattle.cf_lemmas.proofs.Maps.{get_inserted, get_insert_other, get_remove_other, some_inserted, some_removed}
+use Rattle.cf_base.proofs.Maps.{get_inserted, get_insert_other, get_remove_other, some_inserted, some_removed}
 use Rattle.page_model.specs.Held.{Objects}
 use Rattle.large_objects.specs.Large.{AreLaidOut, HasSpine, IsPart, bytes_found, handle_at, named, part_bytes_at}
 use Rattle.large_objects.specs.InnerObjects.{part_count, spine_bytes}

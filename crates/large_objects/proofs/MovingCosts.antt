@@ -6,7 +6,7 @@ use Rattle.std.proofs.Math.Nat.{div-add-mod, div_self, mod-lt}
 use Rattle.std.proofs.lemmas.Bool.{cases_lt}
 use Rattle.std.proofs.lemmas.List.Sums.{sum_by-cons}
 use Rattle.std.proofs.lemmas.Nat.{le-div}
-use Rattle.cf_lemmas.proofs.Tests.{eq_no}
+use Rattle.cf_base.proofs.Tests.{eq_no}
 use Rattle.page_model.specs.Image.{slot_for}
 use Rattle.page_model.specs.Paging.{Paging, class_for, slot_words}
 use Rattle.page_model.proofs.CallerLemmas.{between_multiples, class_fits, class_holds, slot_fits}

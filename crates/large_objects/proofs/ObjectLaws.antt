@@ -6,7 +6,7 @@ use Rattle.cf_base.specs.declared.answers.AccessFault.{AccessFault}
 use Rattle.cf_base.specs.declared.answers.AccessFault.TheVariants as access
 use Rattle.cf_base.specs.declared.answers.Refusal.{Refusal}
 use Rattle.cf_base.specs.declared.answers.Refusal.TheVariants as refusal
-use Rattle.cf_lemmas.proofs.Maps.{get_inserted, get_insert_other}
+use Rattle.cf_base.proofs.Maps.{get_inserted, get_insert_other}
 use Rattle.cf_model.specs.State.{paging_in}
 use Rattle.cf_model.specs.Steps.{Position}
 use Rattle.page_model.specs.Arrangement.{live, pages_for, pages_needed, used_pages}

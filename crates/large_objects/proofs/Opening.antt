@@ -9,8 +9,8 @@ use Rattle.cf_base.specs.Limits.{is_page_size}
 use Rattle.cf_base.specs.Settings.{Profile, profile_of}
 use Rattle.cf_base.specs.declared.kind.Kind.{Kind}
 use Rattle.cf_base.specs.declared.settings.Settings.{Settings}
-use Rattle.cf_lemmas.specs.Maps.{vacant}
-use Rattle.cf_lemmas.proofs.Values.{map_values-empty, no_values}
+use Rattle.cf_base.specs.Maps.{vacant}
+use Rattle.cf_base.proofs.Values.{map_values-empty, no_values}
 use Rattle.page_model.specs.Arrangement.{live}
 use Rattle.page_model.specs.Held.{Objects, Placed, objects}
 use Rattle.page_model.specs.Paging.{EveryBoundIsOne, Paging, first_bounds, paging_of}

@@ -10,9 +10,9 @@ use Rattle.std.specs.FinMap.{len}
 use Rattle.cf_base.specs.Classes.{need}
 use Rattle.cf_base.specs.declared.answers.Figures.{Figures}
 use Rattle.cf_base.specs.declared.kind.Kind.{Kind}
-use Rattle.cf_lemmas.proofs.Ranges.{one}
-use Rattle.cf_lemmas.proofs.Tests.{lt_yes}
-use Rattle.cf_lemmas.proofs.Values.{sum_at_most}
+use Rattle.cf_base.proofs.Ranges.{one}
+use Rattle.cf_base.proofs.Tests.{lt_yes}
+use Rattle.cf_base.proofs.Values.{sum_at_most}
 use Rattle.page_model.specs.Arrangement.{live}
 use Rattle.page_model.specs.Counts.{ceil_div}
 use Rattle.page_model.specs.Figures.{figures_of}

@@ -5,9 +5,9 @@ use Rattle.std.specs.Prelude.{nat_eq}
 use Rattle.std.proofs.lemmas.Bool.{cases_eq}
 use Rattle.std.proofs.lemmas.List.{get_or-drop}
 use Rattle.std.specs.FinMap.{get, remove, len}
-use Rattle.cf_lemmas.proofs.Maps.{get_removed, get_remove_other, len_fresh}
-use Rattle.cf_lemmas.proofs.Ranges.{one}
-use Rattle.cf_lemmas.proofs.Sums.{put_back}
+use Rattle.cf_base.proofs.Maps.{get_removed, get_remove_other, len_fresh}
+use Rattle.cf_base.proofs.Ranges.{one}
+use Rattle.cf_base.proofs.Sums.{put_back}
 use Rattle.step_ledger.specs.Counting.{RoseAtMost}
 use Rattle.page_model.specs.Held.{Objects, objects}
 use Rattle.page_model.specs.Paging.{Paging, class_for}

@@ -3,7 +3,7 @@ use Rattle.std.proofs.Common.{◌≡◌, ℕ, ◌+◌, ◌<◌, List, [], ◌∷
 use Rattle.std.specs.Prelude.{sum_by}
 use Rattle.std.specs.FinMap.{get, insert, remove}
 use Rattle.std.proofs.lemmas.List.Sums.{sum_by-cons, sum_by_more}
-use Rattle.cf_lemmas.proofs.Sums.{sum_by-inserted, sum_by-removed, sum_by-replaced}
+use Rattle.cf_base.proofs.Sums.{sum_by-inserted, sum_by-removed, sum_by-replaced}
 use Rattle.page_model.specs.Held.{Objects}
 use Rattle.large_objects.specs.InnerObjects.{inner_sum, length_sum, inner_lengths}
 

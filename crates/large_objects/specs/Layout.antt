@@ -3,7 +3,7 @@
 use Rattle.std.specs.Prelude.{◌≡◌, ℕ, ◌+◌, ◌<◌, Bool, true, false, List, [], ◌∷◌, Option, Some, None, length, option_map, nat_le, if◌then◌else◌, slice_index_or}
 use Rattle.std.specs.FinMap.{get, empty}
 use Rattle.std.specs.List.{flat_map, range_with_len}
-use Rattle.cf_lemmas.specs.Maps.{numbered}
+use Rattle.cf_base.specs.Maps.{numbered}
 use Rattle.page_model.specs.Held.{Objects, objects}
 use Rattle.cf_model.specs.State.{HeapState}
 use Rattle.large_objects.specs.Large.{KeepsParts, LargeState, bytes_found, named}

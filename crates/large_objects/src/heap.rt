@@ -2,7 +2,7 @@
 //! opened, and its calls `malloc`, `free`, `write` and `read`.
 ghost use Rattle.std.specs.Prelude.{◌≡◌, ◌+◌, ◌^◌, ◌<◌, ◌≤◌, IsTrue, OnOk, OnErr, IfOk, IfErr, Some, None, false, length, option_map};
 ghost use Rattle.std.specs.FinMap.{get};
-ghost use Rattle.cf_lemmas.specs.Maps.{vacant};
+ghost use Rattle.cf_base.specs.Maps.{vacant};
 ghost use Rattle.cf_model.specs.Families.{IsPaged};
 ghost use Rattle.cf_model.specs.Ordered.{KeepsPromise};
 ghost use Rattle.cf_model.specs.State.{paging_in};

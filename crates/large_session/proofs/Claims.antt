@@ -4,8 +4,8 @@ use Rattle.std.specs.Prelude.{◌&&◌, filter, nat_eq, nat_lt, not, sum_by, Res
 use Rattle.std.specs.List.{range_with_len}
 use Rattle.run_model.specs.Terms.{asks, at_bound_one, bad, classes, Command, Handle, HeapState, IsPaged, Item, Kind, len, Objects, objects, Paging, paging_in, Profile, Refusal, Reply, said, slot_words, slots_of, starts, totals_in}
 use Rattle.cf_base.specs.Classes.{sizes}
-use Rattle.cf_lemmas.proofs.Renaming.{CountAlike}
-use Rattle.cf_lemmas.proofs.Tests.{and_false, lt_no, lt_yes}
+use Rattle.cf_base.proofs.Renaming.{CountAlike}
+use Rattle.cf_base.proofs.Tests.{and_false, lt_no, lt_yes}
 use Rattle.cf_model.specs.Answers.{classes_in}
 use Rattle.cf_model.specs.Rules.{KeepsPages}
 use Rattle.cf_model.specs.State.{layout_of}
@@ -24,7 +24,7 @@ use Rattle.large_session.specs.LargeRun.{IsGoingLarge, LargeRun, LargeStep, larg
 use Rattle.large_objects.specs.LargeSteps.{FitsSpine, HasLargeRoom, IsRefusedLarge, IsLargeMalloc}
 use Rattle.large_objects.specs.InnerObjects.{in_class, inner_count, inner_live, inner_pages_with, inner_sum, length_sum, inner_lengths, whole_part_bytes, spine_bytes}
 use Rattle.large_session.specs.LargeHeadline.{large_figures, large_refusal, large_totals, large_walk, live_inner, pages_of_inner, large_after, large_reply, large_malloc_leaves, large_malloc_line, MeetsLarge, after_in, large_replies, large_reply_in}
-use Rattle.cf_lemmas.proofs.Maps.{remove_missing}
+use Rattle.cf_base.proofs.Maps.{remove_missing}
 use Rattle.run_model.specs.Replies.{malloc_text}
 use Rattle.script_laws.specs.IdBytes.{read_shown}
 use Rattle.script_laws.specs.RepliesById.{free_said, ok_or, put_unless}

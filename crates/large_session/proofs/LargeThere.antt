@@ -5,8 +5,8 @@ use Rattle.run_model.specs.Terms.{AreBytes, AreTied, CostsAtMost, Free, get, Han
 use Rattle.std.proofs.lemmas.Bool.{cases_lt}
 use Rattle.std.proofs.lemmas.List.{get_or_past, length-drop, length-take}
 use Rattle.std.proofs.lemmas.Option.{same_Some}
-use Rattle.cf_lemmas.specs.Maps.{numbered}
-use Rattle.cf_lemmas.proofs.Numbered.{get-numbered}
+use Rattle.cf_base.specs.Maps.{numbered}
+use Rattle.cf_base.proofs.Numbered.{get-numbered}
 use Rattle.cf_model.specs.Ordered.{IsOrderedMalloc}
 use Rattle.cf_model.specs.Steps.{IsMallocStep}
 use Rattle.run_model.specs.Steps.{Frees, Mallocs, Stays, Writes}

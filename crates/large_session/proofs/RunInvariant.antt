@@ -18,7 +18,7 @@ use Rattle.script_loop.specs.Semantics.{Snapshot, snapshot}
 use Rattle.script_loop.specs.Applying.{Applies}
 use Rattle.script_loop.proofs.CallerLemmas.{reported}
 use Rattle.std.proofs.lemmas.Bool.{cases_lt}
-use Rattle.cf_lemmas.specs.Maps.{vacant}
+use Rattle.cf_base.specs.Maps.{vacant}
 use Rattle.large_objects.proofs.CallerLemmas.{parts as empty_parts}
 use Rattle.large_session.proofs.LargeThere.{free_there, kept_same, malloc_there, room_or_cause, write_there}
 use Rattle.cf_base.specs.declared.answers.AccessFault.TheVariants as access

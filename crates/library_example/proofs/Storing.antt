@@ -13,9 +13,9 @@ use Rattle.cf_base.specs.declared.answers.OutOfMemory.{OutOfMemory}
 use Rattle.cf_base.specs.declared.answers.Refusal.{Refusal}
 use Rattle.cf_base.specs.declared.kind.Kind.{Kind}
 use Rattle.cf_base.specs.declared.settings.Settings.{Settings}
-use Rattle.cf_lemmas.proofs.Maps.{get_inserted, insert_twice}
-use Rattle.cf_lemmas.proofs.MapValues.{map_values-insert}
-use Rattle.cf_lemmas.proofs.Values.{map_values-empty}
+use Rattle.cf_base.proofs.Maps.{get_inserted, insert_twice}
+use Rattle.cf_base.proofs.MapValues.{map_values-insert}
+use Rattle.cf_base.proofs.Values.{map_values-empty}
 use Rattle.page_model.specs.Held.{Placed, objects}
 use Rattle.page_model.specs.Bytes.{written}
 use Rattle.page_model.specs.Steps.{Request, zeros_at}

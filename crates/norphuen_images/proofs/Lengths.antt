@@ -8,10 +8,10 @@ use Rattle.cf_base.specs.declared.kind.Kind.{Kind}
 use Rattle.cf_base.specs.declared.kind.Kind.TheVariants.{Moving}
 use Rattle.cf_base.specs.Settings.{at_bound_one}
 use Rattle.cf_base.specs.declared.answers.Totals.{Totals}
-use Rattle.cf_lemmas.proofs.Induction.{map_induction}
-use Rattle.cf_lemmas.proofs.Maps.{get_inserted, get_insert_other, len_fresh}
-use Rattle.cf_lemmas.proofs.Sums.{sum_by-inserted}
-use Rattle.cf_lemmas.proofs.Values.{no_values}
+use Rattle.cf_base.proofs.Induction.{map_induction}
+use Rattle.cf_base.proofs.Maps.{get_inserted, get_insert_other, len_fresh}
+use Rattle.cf_base.proofs.Sums.{sum_by-inserted}
+use Rattle.cf_base.proofs.Values.{no_values}
 use Rattle.cf_model.specs.Answers.{totals_in}
 use Rattle.page_model.specs.Figures.{asked_bytes}
 use Rattle.page_model.specs.Held.{Objects, objects}

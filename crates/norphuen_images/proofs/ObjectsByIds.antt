@@ -8,7 +8,7 @@ use Rattle.cf_base.specs.declared.answers.AccessFault.TheVariants.{Unknown, Rang
 use Rattle.cf_base.specs.declared.answers.Handle.{Handle}
 use Rattle.cf_base.specs.declared.answers.Refusal.{Refusal}
 use Rattle.cf_base.specs.declared.answers.Refusal.TheVariants as refusal
-use Rattle.cf_lemmas.proofs.MapValues.{map_values-insert}
+use Rattle.cf_base.proofs.MapValues.{map_values-insert}
 use Rattle.cf_model.specs.State.{HeapState}
 use Rattle.cf_model.specs.Steps.{IsMallocStep, IsReadAnswer, IsWriteStep}
 use Rattle.page_model.specs.Bytes.{written}

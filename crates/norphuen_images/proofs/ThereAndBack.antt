@@ -2,7 +2,7 @@
 use Rattle.std.proofs.Common.{◌≡◌, ◌∙◌, ◌≤◌, ℕ, ℤ, pos, Some, None, length, take, ap, subst, sym, inl, inr}
 use Rattle.std.proofs.Math.Seq.{take-append_seam}
 use Rattle.cf_base.specs.Settings.{Profile, at_bound_one}
-use Rattle.cf_base.proofs.CallerLemmas.{within_limits}
+use Rattle.cf_base.proofs.Tests.{within_limits}
 use Rattle.c_base.specs.CallerHeap.{CallerHeap, Closed, Opened, Lent}
 use Rattle.page_model.specs.Held.{Objects}
 use Rattle.id_table.specs.ById.{bytes_of}

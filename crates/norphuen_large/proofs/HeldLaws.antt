@@ -4,7 +4,7 @@ use Rattle.std.specs.Prelude.{Result, replicate}
 use Rattle.std.specs.FinMap.{get}
 use Rattle.std.proofs.lemmas.Bool.{cases_lt}
 use Rattle.std.proofs.lemmas.Option.{same_Some}
-use Rattle.cf_lemmas.proofs.Maps.{get_inserted}
+use Rattle.cf_base.proofs.Maps.{get_inserted}
 use Rattle.cf_base.specs.declared.answers.AccessFault.{AccessFault}
 use Rattle.cf_base.specs.declared.answers.AccessFault.TheVariants.{Unknown, Range}
 use Rattle.cf_base.specs.declared.answers.NotLive.{NotLive}

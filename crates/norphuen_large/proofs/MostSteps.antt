@@ -7,14 +7,14 @@ use Rattle.std.proofs.lemmas.Bool.{cases_lt}
 use Rattle.std.proofs.lemmas.List.Sums.{sum_by-cons}
 use Rattle.std.proofs.lemmas.Nat.{le-div}
 use Rattle.std.proofs.Math.Nat.{div-add-mod}
-use Rattle.cf_lemmas.proofs.Tests.{eq_no, le_no, le_yes}
+use Rattle.cf_base.proofs.Tests.{eq_no, le_no, le_yes}
 use Rattle.cf_base.specs.Classes.{need, sizes_from}
-use Rattle.cf_base.proofs.CallerLemmas.{sizes_from-below, sizes_from-page}
+use Rattle.cf_base.proofs.Sizes.{sizes_from-below, sizes_from-page}
 use Rattle.cf_base.specs.declared.kind.Layout.TheVariants.{Words}
 use Rattle.page_model.specs.Image.{slot_for}
 use Rattle.page_model.specs.Paging.{class_for, paging_of}
 use Rattle.cf_base.specs.Settings.{Profile}
-use Rattle.cf_base.proofs.CallerLemmas.{page_size}
+use Rattle.cf_base.proofs.Rising.{page_size}
 use Rattle.cf_base.specs.declared.kind.Kind.{Kind}
 use Rattle.cf_model.specs.Costs.{words_touched}
 use Rattle.cf_model.specs.State.{layout_of, paging_in}

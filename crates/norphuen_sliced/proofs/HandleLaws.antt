@@ -16,7 +16,7 @@ use Rattle.slice_model.proofs.CallerLemmas.{byte_there}
 use Rattle.sliced_heap.specs.Access.{access_fault, bytes_or_fault}
 use Rattle.sliced_heap.specs.Shown.{plan_in, working_in}
 use Rattle.sliced_heap.specs.Steps.{fault_in}
-use Rattle.cf_lemmas.proofs.MapValues.{get-map_values}
+use Rattle.cf_base.proofs.MapValues.{get-map_values}
 use Rattle.c_base.specs.Codes.{access_code}
 use Rattle.c_base.specs.Handles.{none, raised_by}
 use Rattle.c_base.specs.Shown.{malloc_number}

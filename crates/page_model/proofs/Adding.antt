@@ -3,10 +3,10 @@
 use Rattle.std.proofs.Common.{◌≡◌, ℕ, ◌+◌, ◌*◌, ◌≤◌, List, Some, None, length, arith, ap}
 use Rattle.std.specs.Prelude.{nat_eq}
 use Rattle.std.specs.FinMap.{get, insert, remove, len}
-use Rattle.cf_lemmas.proofs.Maps.{get_removed}
-use Rattle.cf_lemmas.proofs.Sums.{insert_again, sum_by-inserted, sum_by-removed}
-use Rattle.cf_lemmas.proofs.Ranges.{count_at_most, one}
-use Rattle.cf_lemmas.proofs.Values.{len-map_values, sum_at_most}
+use Rattle.cf_base.proofs.Maps.{get_removed}
+use Rattle.cf_base.proofs.Sums.{insert_again, sum_by-inserted, sum_by-removed}
+use Rattle.cf_base.proofs.Ranges.{count_at_most, one}
+use Rattle.cf_base.proofs.Values.{len-map_values, sum_at_most}
 use Rattle.page_model.specs.Held.{Held, Objects, Placed, objects}
 use Rattle.page_model.specs.Paging.{Paging, slot_words, class_for}
 use Rattle.page_model.specs.Arrangement.{pages_of_class, live, used_pages, free_pages, IsSound}

@@ -2,7 +2,7 @@
 -- object resized within its class.
 use Rattle.std.proofs.Common.{◌≡◌, ◌≢◌, ℕ, ◌*◌, ◌/◌, ◌<◌, List, Some, length, ◌∙◌, inl, inr, ap, refl}
 use Rattle.std.specs.FinMap.{get}
-use Rattle.cf_lemmas.proofs.Maps.{get_inserted, get_insert_other}
+use Rattle.cf_base.proofs.Maps.{get_inserted, get_insert_other}
 use Rattle.page_model.specs.Held.{Held, Placed}
 use Rattle.page_model.specs.Paging.{Paging, IsPaging}
 use Rattle.page_model.specs.Arrangement.{IsSound}

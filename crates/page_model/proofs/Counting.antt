@@ -6,12 +6,12 @@ use Rattle.std.proofs.lemmas.Bool.{cases_eq, false≢true}
 use Rattle.std.proofs.lemmas.Bool.Decides.{nat_tests}
 use Rattle.std.specs.Ordering.{nat_cmp}
 use Rattle.std.specs.FinMap.{FinMap, get, insert, empty, values}
-use Rattle.cf_lemmas.proofs.Maps.{get_inserted}
-use Rattle.cf_lemmas.proofs.Sums.{sum_by-inserted, sum_by-removed}
-use Rattle.cf_lemmas.proofs.Induction.{map_induction}
-use Rattle.cf_lemmas.proofs.Tests.{eq_yes, eq_no, and_false}
-use Rattle.cf_lemmas.proofs.Values.{no_values, still}
-use Rattle.cf_lemmas.proofs.Ranges.{one, count_same, count_changed}
+use Rattle.cf_base.proofs.Maps.{get_inserted}
+use Rattle.cf_base.proofs.Sums.{sum_by-inserted, sum_by-removed}
+use Rattle.cf_base.proofs.Induction.{map_induction}
+use Rattle.cf_base.proofs.Tests.{eq_yes, eq_no, and_false}
+use Rattle.cf_base.proofs.Values.{no_values, still}
+use Rattle.cf_base.proofs.Ranges.{one, count_same, count_changed}
 use Rattle.page_model.specs.Held.{Held, Placed}
 use Rattle.page_model.specs.Paging.{Paging, slots_of, page_of}
 use Rattle.page_model.specs.Arrangement.{class_at, is_on, objects_on, count_on, not_full_pages, pages_of_class}

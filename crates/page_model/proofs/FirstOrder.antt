@@ -7,7 +7,7 @@ use Rattle.std.specs.Ordering.{nat_cmp}
 use Rattle.std.specs.FinMap.{empty, get-empty, len-empty}
 use Rattle.std.proofs.lemmas.List.{get_or-replicate, length-replicate}
 use Rattle.std.proofs.lemmas.List.FromFn.{length-range_with_len}
-use Rattle.cf_lemmas.proofs.Members.{contains_nil, distinct_nil, range_below, range_distinct, range_has}
+use Rattle.cf_base.proofs.Members.{contains_nil, distinct_nil, range_below, range_distinct, range_has}
 use Rattle.page_model.specs.Held.{Placed}
 use Rattle.page_model.specs.Order.{IsOrderOf, IsPartlyFull, first_order}
 use Rattle.page_model.specs.Paging.{Paging, classes}

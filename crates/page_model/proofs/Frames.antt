@@ -6,10 +6,10 @@ use Rattle.std.proofs.Math.Nat.{mul-mod_left}
 use Rattle.std.proofs.lemmas.Bool.{cases_eq}
 use Rattle.std.proofs.lemmas.Nat.{div-add-mod'}
 use Rattle.std.specs.FinMap.{get, remove}
-use Rattle.cf_lemmas.proofs.Maps.{get_inserted, get_insert_other, get_remove_other}
-use Rattle.cf_lemmas.specs.Exchanges.{exchanged}
-use Rattle.cf_lemmas.proofs.Exchanges.{partner_second, partner_else, length-exchanged, get_or-exchanged}
-use Rattle.cf_lemmas.proofs.Permutations.{entry_once, exchanged_permuted, range_permuted}
+use Rattle.cf_base.proofs.Maps.{get_inserted, get_insert_other, get_remove_other}
+use Rattle.cf_base.specs.Exchanges.{exchanged}
+use Rattle.cf_base.proofs.Exchanges.{partner_second, partner_else, length-exchanged, get_or-exchanged}
+use Rattle.cf_base.proofs.Permutations.{entry_once, exchanged_permuted, range_permuted}
 use Rattle.page_model.specs.Held.{Held, Placed}
 use Rattle.page_model.specs.Paging.{Paging, IsPaging, slot_words, class_for}
 use Rattle.page_model.specs.Arrangement.{class_at, IsSound}

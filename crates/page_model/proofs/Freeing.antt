@@ -4,9 +4,9 @@ use Rattle.std.proofs.Common.{◌≡◌, ◌≢◌, ℕ, ◌+◌, ◌<◌, ◌�
 use Rattle.std.specs.Prelude.{◌⊎◌, ◌&&◌, nat_eq}
 use Rattle.std.proofs.lemmas.Bool.{cases_eq}
 use Rattle.std.specs.FinMap.{get, insert, remove}
-use Rattle.cf_lemmas.proofs.Maps.{some_inserted, some_removed}
-use Rattle.cf_lemmas.proofs.Sums.{sum_by-removed}
-use Rattle.cf_lemmas.proofs.Ranges.{one}
+use Rattle.cf_base.proofs.Maps.{some_inserted, some_removed}
+use Rattle.cf_base.proofs.Sums.{sum_by-removed}
+use Rattle.cf_base.proofs.Ranges.{one}
 use Rattle.page_model.specs.Held.{Held, Placed}
 use Rattle.page_model.specs.Paging.{Paging, classes, slots_of, bound_of, page_of}
 use Rattle.page_model.specs.Arrangement.{class_at, is_on, objects_on, not_full_pages, IsSound}

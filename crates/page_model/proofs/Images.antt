@@ -6,7 +6,7 @@ use Rattle.std.proofs.lemmas.Bool.{cases_eq, cases_lt}
 use Rattle.std.specs.FinMap.{get, insert, remove}
 use Rattle.page_model.specs.Held.{Held, Placed}
 use Rattle.page_model.specs.Image.{object_word, IsOutside, IsOutsideOf, IsDisjoint, IsImageOver, IsApartFrom, Rewrites, Clears}
-use Rattle.cf_lemmas.proofs.Maps.{get_inserted, get_insert_other, get_remove_other, some_removed, some_inserted}
+use Rattle.cf_base.proofs.Maps.{get_inserted, get_insert_other, get_remove_other, some_removed, some_inserted}
 
 -- either w is one of the n words from a on, or it is outside of them
 pub within_or : (a n w : ℕ) → ((i : ℕ) × (i < n) × (a + i ≡ w)) ⊎ IsOutside a n w

@@ -8,13 +8,13 @@ use Rattle.std.proofs.lemmas.List.Sums.{sum_by-cons}
 use Rattle.std.proofs.lemmas.Bool.{cases_eq, cases_lt}
 use Rattle.std.proofs.lemmas.Nat.{div-add-mod'}
 use Rattle.std.specs.FinMap.{get}
-use Rattle.cf_lemmas.proofs.Ranges.{one}
+use Rattle.cf_base.proofs.Ranges.{one}
 use Rattle.page_model.specs.Held.{Held, Placed, objects}
 use Rattle.page_model.specs.Paging.{Paging, IsPaging, classes, slots_of, bound_of, page_of}
 use Rattle.page_model.specs.Counts.{LieOn, most_pages}
 use Rattle.page_model.specs.Arrangement.{class_at, live, objects_on, count_on, pages_of_class, not_full_pages, used_pages, free_pages, most_pages_besides}
 use Rattle.page_model.specs.Arrangement.{IsSound, LacksRoom}
-use Rattle.cf_lemmas.proofs.Tests.{eq_yes, eq_no}
+use Rattle.cf_base.proofs.Tests.{eq_yes, eq_no}
 use Rattle.page_model.proofs.Counting.{less_counts, not_less_counts_none, here, counted_here, on_page, standing}
 use Rattle.page_model.proofs.Totals.{sum_same, sum_plus, sum_zeros, count_at}
 use Rattle.page_model.proofs.PageCounts.{slots_some, sound_stand, sound_can_hold}

@@ -4,8 +4,8 @@ use Rattle.std.proofs.Common.{◌≡◌, ℕ, ◌+◌, ◌/◌, ◌%◌, ◌<◌
 use Rattle.std.specs.Prelude.{◌⊎◌}
 use Rattle.std.specs.List.{Contains}
 use Rattle.std.specs.FinMap.{get}
-use Rattle.cf_lemmas.proofs.Ranges.{one}
-use Rattle.cf_lemmas.proofs.Members.{contains_head, contains_nil, empty_or_not}
+use Rattle.cf_base.proofs.Ranges.{one}
+use Rattle.cf_base.proofs.Members.{contains_head, contains_nil, empty_or_not}
 use Rattle.page_model.specs.Held.{Held, Placed}
 use Rattle.page_model.specs.Paging.{Paging, IsPaging, address_of, classes, page_of, slots_of, slot_words}
 use Rattle.page_model.specs.Arrangement.{IsSlotAt, IsSound, class_at, is_on, not_full_pages, objects_on}

@@ -4,7 +4,7 @@ use Rattle.std.proofs.Common.{◌≡◌, ℕ, Bool, true, false, zero, suc, ◌+
 use Rattle.std.specs.Prelude.{◌⊎◌, nat_eq, if◌then◌else◌}
 use Rattle.std.specs.List.{Contains}
 use Rattle.std.proofs.lemmas.Bool.{cases_eq, cases_lt}
-use Rattle.cf_lemmas.proofs.Members.{contains_head, contains_nil, empty_or_not}
+use Rattle.cf_base.proofs.Members.{contains_head, contains_nil, empty_or_not}
 use Rattle.page_model.specs.Held.{Held}
 use Rattle.page_model.specs.Paging.{Paging, IsPaging, address_of, class_for, classes, page_of, slots_of}
 use Rattle.page_model.specs.Arrangement.{IsSound, LacksRoom, not_full_pages, objects_on, count_on}

@@ -7,7 +7,7 @@ use Rattle.std.proofs.lemmas.Bool.{cases_lt}
 use Rattle.std.proofs.lemmas.List.{get_or-replicate, get_or_past, length-replicate}
 use Rattle.std.specs.Ordering.{nat_cmp}
 use Rattle.std.specs.FinMap.{get, empty, get-empty}
-use Rattle.cf_lemmas.proofs.Values.{no_values, map_values-empty}
+use Rattle.cf_base.proofs.Values.{no_values, map_values-empty}
 use Rattle.page_model.specs.Held.{Placed, objects}
 use Rattle.page_model.specs.Bytes.{bytes_at, held_at}
 use Rattle.page_model.specs.Figures.{asked_bytes, taken_bytes}

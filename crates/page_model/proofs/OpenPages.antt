@@ -5,9 +5,9 @@ use Rattle.std.specs.Prelude.{◌⊎◌, ◌&&◌, count_by, nat_eq, nat_lt}
 use Rattle.std.proofs.lemmas.Bool.{cases_eq, cases_lt, false≢true, and_parts as both, eqb-true}
 use Rattle.std.proofs.lemmas.Bool.Decides.{nat_tests}
 use Rattle.std.specs.FinMap.{get, remove, values}
-use Rattle.cf_lemmas.proofs.Maps.{get_remove_other, some_removed}
-use Rattle.cf_lemmas.proofs.Ranges.{some_in_range}
-use Rattle.cf_lemmas.proofs.Tests.{eq_yes}
+use Rattle.cf_base.proofs.Maps.{get_remove_other, some_removed}
+use Rattle.cf_base.proofs.Ranges.{some_in_range}
+use Rattle.cf_base.proofs.Tests.{eq_yes}
 use Rattle.page_model.specs.Arrangement.{IsSlotAt, IsSound, LacksRoom, class_at, not_full_pages, objects_on}
 use Rattle.page_model.specs.Held.{Held, Placed}
 use Rattle.page_model.specs.Order.{IsTaken}
@@ -18,7 +18,7 @@ use Rattle.page_model.proofs.Freeing.{objects_on-left}
 use Rattle.page_model.proofs.Addresses.{address_is_slot}
 use Rattle.page_model.proofs.PageCounts.{size_some}
 use Rattle.page_model.proofs.Totals.{page_below}
-use Rattle.cf_lemmas.proofs.Searches.{counted_in_range, search_below}
+use Rattle.cf_base.proofs.Searches.{counted_in_range, search_below}
 
 -- no object is at the address
 abbrev pub IsVacant : Held → ℕ → Type 0

@@ -5,9 +5,9 @@ use Rattle.std.specs.Prelude.{nat_eq, not, if◌then◌else◌}
 use Rattle.std.specs.List.{Contains, IsDistinct, filter}
 use Rattle.std.specs.FinMap.{get}
 use Rattle.std.proofs.lemmas.Bool.{cases_eq, cases_lt}
-use Rattle.cf_lemmas.proofs.Tests.{eq_no, eq_yes}
-use Rattle.cf_lemmas.specs.Lists.{without_number}
-use Rattle.cf_lemmas.proofs.Members.{contains_cases, contains_head, contains_tail, contains_without, distinct_cons, distinct_without, without_contains}
+use Rattle.cf_base.proofs.Tests.{eq_no, eq_yes}
+use Rattle.cf_base.specs.Lists.{without_number}
+use Rattle.cf_base.proofs.Members.{contains_cases, contains_head, contains_tail, contains_without, distinct_cons, distinct_without, without_contains}
 use Rattle.page_model.specs.Held.{Held, Placed}
 use Rattle.page_model.specs.Paging.{IsPaging, Paging, classes, page_of, slots_of}
 use Rattle.page_model.specs.Arrangement.{IsSound, class_at, objects_on, count_on}

@@ -5,7 +5,7 @@ use Rattle.std.specs.Prelude.{◌⊎◌, ◌↔◌, nat_eq}
 use Rattle.std.specs.List.{Contains, IsDistinct}
 use Rattle.std.proofs.lemmas.Bool.{cases_eq, cases_lt}
 use Rattle.std.proofs.lemmas.List.{get_or-set_same, get_or-set_other, length-set}
-use Rattle.cf_lemmas.proofs.Ranges.{one}
+use Rattle.cf_base.proofs.Ranges.{one}
 use Rattle.page_model.specs.Held.{Held, Placed}
 use Rattle.page_model.specs.Paging.{Paging, classes, page_of}
 use Rattle.page_model.specs.Arrangement.{class_at, is_on, objects_on, count_on}

@@ -5,9 +5,9 @@ use Rattle.std.specs.Prelude.{nat_eq}
 use Rattle.std.specs.List.{Contains, IsDistinct}
 use Rattle.std.proofs.lemmas.Bool.{cases_eq}
 use Rattle.std.specs.FinMap.{get, insert, len, remove}
-use Rattle.cf_lemmas.proofs.Maps.{get_insert_other, get_remove_other, get_removed, len_fresh, len_rebound}
-use Rattle.cf_lemmas.proofs.Searches.{len_without}
-use Rattle.cf_lemmas.proofs.Members.{contains_cases, contains_head, contains_tail, distinct_cons, distinct_head, distinct_tail}
+use Rattle.cf_base.proofs.Maps.{get_insert_other, get_remove_other, get_removed, len_fresh, len_rebound}
+use Rattle.cf_base.proofs.Searches.{len_without}
+use Rattle.cf_base.proofs.Members.{contains_cases, contains_head, contains_tail, distinct_cons, distinct_head, distinct_tail}
 use Rattle.page_model.specs.Held.{Held, Placed}
 use Rattle.page_model.specs.Paging.{IsPaging, Paging, class_for}
 use Rattle.page_model.specs.Arrangement.{IsSound, objects_on, count_on}

@@ -4,10 +4,10 @@ use Rattle.std.proofs.Common.{◌≡◌, ◌≢◌, ℕ, ◌+◌, ◌<◌, List,
 use Rattle.std.proofs.lemmas.Bool.{cases_eq}
 use Rattle.std.proofs.lemmas.List.{length-replicate}
 use Rattle.std.specs.FinMap.{get, insert, len}
-use Rattle.cf_lemmas.proofs.Maps.{get_inserted}
-use Rattle.cf_lemmas.proofs.Ranges.{one}
-use Rattle.cf_lemmas.proofs.Searches.{fresh_key}
-use Rattle.cf_lemmas.proofs.Members.{contains_head, empty_or_not}
+use Rattle.cf_base.proofs.Maps.{get_inserted}
+use Rattle.cf_base.proofs.Ranges.{one}
+use Rattle.cf_base.proofs.Searches.{fresh_key}
+use Rattle.cf_base.proofs.Members.{contains_head, empty_or_not}
 use Rattle.page_model.specs.Held.{Held, Placed}
 use Rattle.page_model.specs.Paging.{Paging, IsPaging, class_for, classes, page_of}
 use Rattle.page_model.specs.Arrangement.{IsSound, LacksRoom, class_at, is_on, objects_on}

@@ -4,8 +4,8 @@ use Rattle.std.proofs.Common.{◌≡◌, ◌≢◌, ℕ, Bool, ◌+◌, ◌<◌,
 use Rattle.std.specs.Prelude.{nat_eq, if◌then◌else◌}
 use Rattle.std.specs.List.{Contains, IsDistinct}
 use Rattle.std.proofs.lemmas.Bool.{cases_eq}
-use Rattle.cf_lemmas.proofs.Tests.{eq_no, eq_yes}
-use Rattle.cf_lemmas.proofs.Members.{contains_cases, contains_head, contains_nil, contains_tail, distinct_head, distinct_one, distinct_tail}
+use Rattle.cf_base.proofs.Tests.{eq_no, eq_yes}
+use Rattle.cf_base.proofs.Members.{contains_cases, contains_head, contains_nil, contains_tail, distinct_head, distinct_one, distinct_tail}
 use Rattle.page_model.specs.Held.{Held}
 use Rattle.page_model.specs.Paging.{Paging, classes, slots_of}
 use Rattle.page_model.specs.Arrangement.{objects_on, count_on}

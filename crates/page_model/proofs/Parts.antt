@@ -6,9 +6,9 @@ use Rattle.std.proofs.lemmas.Bool.{cases_eq}
 use Rattle.std.proofs.lemmas.List.{length-replicate}
 use Rattle.std.specs.Ordering.{nat_cmp}
 use Rattle.std.specs.FinMap.{FinMap, get, insert, remove}
-use Rattle.cf_lemmas.proofs.Maps.{equal_maps, get_inserted, get_insert_other, get_removed, get_remove_other}
-use Rattle.cf_lemmas.proofs.MapValues.{get-map_values, map_values-insert, map_values-remove}
-use Rattle.cf_lemmas.proofs.Ranges.{one}
+use Rattle.cf_base.proofs.Maps.{equal_maps, get_inserted, get_insert_other, get_removed, get_remove_other}
+use Rattle.cf_base.proofs.MapValues.{get-map_values, map_values-insert, map_values-remove}
+use Rattle.cf_base.proofs.Ranges.{one}
 use Rattle.page_model.specs.Held.{Held, Placed, objects, places}
 use Rattle.page_model.specs.Paging.{Paging, IsPaging, class_for}
 use Rattle.page_model.specs.Arrangement.{class_at, is_on, objects_on, IsSound}

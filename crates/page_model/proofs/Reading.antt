@@ -12,8 +12,8 @@ use Rattle.std.specs.FinMap.{FinMap, get}
 use Rattle.cf_base.specs.Classes.{need}
 use Rattle.page_model.specs.Held.{Held, Placed, places}
 use Rattle.page_model.specs.Image.{object_word, word_of_bytes, IsImageOver}
-use Rattle.cf_lemmas.proofs.Maps.{equal_maps}
-use Rattle.cf_lemmas.proofs.MapValues.{get-map_values}
+use Rattle.cf_base.proofs.Maps.{equal_maps}
+use Rattle.cf_base.proofs.MapValues.{get-map_values}
 use Rattle.page_model.specs.Bytes.{byte_of, bytes_at, held_at, AreBytes, AreStorable}
 
 -- byte j of the number that a list of bytes represents is byte j of the list

@@ -2,7 +2,7 @@
 -- the class and to another one.
 use Rattle.std.proofs.Common.{◌≡◌, ℕ, Some, sym, ◌∙◌, ap, subst, inl, inr}
 use Rattle.std.specs.FinMap.{get, insert}
-use Rattle.cf_lemmas.proofs.Maps.{found_once, get_inserted}
+use Rattle.cf_base.proofs.Maps.{found_once, get_inserted}
 use Rattle.page_model.specs.Held.{Held, Placed}
 use Rattle.page_model.specs.Paging.{IsPaging, Paging, class_for}
 use Rattle.page_model.specs.Arrangement.{IsSound, class_at}

@@ -3,7 +3,7 @@
 use Rattle.std.proofs.Common.{◌≡◌, ◌≢◌, ℕ, ◌+◌, ◌*◌, ◌<◌, ◌≤◌, List, Some, None, length, get_or, take, drop, arith, sym, ◌∙◌, subst, inl, inr, ap, length-drop}
 use Rattle.std.proofs.lemmas.List.{length-take, get_or-take, get_or-drop}
 use Rattle.std.specs.FinMap.{get, insert, remove}
-use Rattle.cf_lemmas.proofs.Maps.{get_insert_other, get_removed, some_inserted, some_removed}
+use Rattle.cf_base.proofs.Maps.{get_insert_other, get_removed, some_inserted, some_removed}
 use Rattle.page_model.specs.Held.{Held, Placed}
 use Rattle.page_model.specs.Paging.{Paging, IsPaging, slot_words, class_for}
 use Rattle.page_model.specs.Arrangement.{IsSound}

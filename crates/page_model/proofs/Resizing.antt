@@ -4,14 +4,14 @@ use Rattle.std.proofs.Common.{◌≡◌, ◌≢◌, ℕ, ◌-◌, List, Option, 
 use Rattle.std.proofs.lemmas.List.{length-replicate, length-take}
 use Rattle.std.proofs.lemmas.Bool.{cases_eq}
 use Rattle.std.specs.FinMap.{get, insert, remove}
-use Rattle.cf_lemmas.proofs.Maps.{equal_maps, get_inserted, get_insert_other, get_removed, get_remove_other}
-use Rattle.cf_lemmas.proofs.Sums.{insert_again}
+use Rattle.cf_base.proofs.Maps.{equal_maps, get_inserted, get_insert_other, get_removed, get_remove_other}
+use Rattle.cf_base.proofs.Sums.{insert_again}
 use Rattle.page_model.specs.Held.{Held, Placed}
 use Rattle.page_model.specs.Paging.{Paging, IsPaging, page_of, class_for}
 use Rattle.page_model.specs.Arrangement.{class_at, objects_on, not_full_pages, IsSound}
 use Rattle.page_model.specs.Steps.{Request, CallResult, IsFreePlace, MustMove, MayFill, Moves, without, resized, resized_at, ResizesInPlace, ChangesClass}
 use Rattle.page_model.specs.Steps.{RefitsObject}
-use Rattle.cf_lemmas.proofs.Values.{still}
+use Rattle.cf_base.proofs.Values.{still}
 use Rattle.page_model.proofs.Counting.{not_full-same}
 use Rattle.page_model.proofs.Placing.{sound_placed, objects_on-elsewhere}
 use Rattle.page_model.proofs.Freeing.{sound_exchanged}

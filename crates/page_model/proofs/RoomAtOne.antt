@@ -4,13 +4,13 @@ use Rattle.std.proofs.Common.{◌≡◌, ℕ, zero, suc, ◌+◌, ◌-◌, ◌*�
 use Rattle.std.specs.Prelude.{◌↔◌, nat_eq}
 use Rattle.std.specs.List.{range_with_len}
 use Rattle.std.specs.FinMap.{get, insert}
-use Rattle.cf_lemmas.proofs.Sums.{sum_by-inserted}
-use Rattle.cf_lemmas.proofs.Ranges.{one, sum_changed, sum_range_same}
+use Rattle.cf_base.proofs.Sums.{sum_by-inserted}
+use Rattle.cf_base.proofs.Ranges.{one, sum_changed, sum_range_same}
 use Rattle.page_model.specs.Held.{Held, Objects, objects}
 use Rattle.page_model.specs.Paging.{Paging, IsPaging, EveryBoundIsOne, classes, slots_of, class_for}
 use Rattle.page_model.specs.Counts.{LieOn, CanHold, ceil_div}
 use Rattle.page_model.specs.Arrangement.{live, pages_of_class, not_full_pages, used_pages, pages_needed, pages_needed_with, IsSound, LacksRoom}
-use Rattle.cf_lemmas.proofs.Tests.{eq_yes, eq_no}
+use Rattle.cf_base.proofs.Tests.{eq_yes, eq_no}
 use Rattle.page_model.proofs.Totals.{sum_same}
 use Rattle.page_model.proofs.PageCounts.{slots_some, sound_stand, sound_can_hold}
 use Rattle.page_model.proofs.PageLaws.{between_multiples, can_hold_one}

@@ -14,7 +14,7 @@ use Rattle.cf_base.specs.declared.kind.Layout.{Layout}
 use Rattle.cf_base.specs.declared.kind.Layout.TheVariants.{Blocks}
 use Rattle.std.proofs.lemmas.Nat.{div-add-mod'}
 use Rattle.std.proofs.Math.Nat.{mul-le-mul_left}
-use Rattle.cf_base.proofs.CallerLemmas.{are_sizes, page_size, size_within, whole_blocks}
+use Rattle.cf_base.proofs.Rising.{are_sizes, page_size, size_within, whole_blocks}
 use Rattle.page_model.specs.Frames.{AreBlocks}
 use Rattle.page_model.specs.Paging.{Paging, IsPaging, EveryBoundIsOne, classes, slot_words, slots_of, class_for, paging_of, first_bounds}
 

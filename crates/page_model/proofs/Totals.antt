@@ -12,14 +12,14 @@ use Rattle.std.proofs.Math.Nat.{mod-lt}
 use Rattle.std.proofs.lemmas.Map.Steps.{length-le_from_distinct_below}
 use Rattle.std.specs.Ordering.{nat_cmp}
 use Rattle.std.specs.FinMap.{FinMap, get, insert, empty, values}
-use Rattle.cf_lemmas.specs.Maps.{map_values}
-use Rattle.cf_lemmas.proofs.Maps.{get_inserted}
-use Rattle.cf_lemmas.proofs.Tests.{eq_no}
-use Rattle.cf_lemmas.proofs.Values.{no_values, map_values-empty, still}
-use Rattle.cf_lemmas.proofs.MapValues.{get-map_values, map_values-insert}
-use Rattle.cf_lemmas.proofs.Sums.{sum_by-inserted}
-use Rattle.cf_lemmas.proofs.Ranges.{one, count_changed}
-use Rattle.cf_lemmas.proofs.Induction.{map_induction}
+use Rattle.cf_base.specs.Maps.{map_values}
+use Rattle.cf_base.proofs.Maps.{get_inserted}
+use Rattle.cf_base.proofs.Tests.{eq_no}
+use Rattle.cf_base.proofs.Values.{no_values, map_values-empty, still}
+use Rattle.cf_base.proofs.MapValues.{get-map_values, map_values-insert}
+use Rattle.cf_base.proofs.Sums.{sum_by-inserted}
+use Rattle.cf_base.proofs.Ranges.{one, count_changed}
+use Rattle.cf_base.proofs.Induction.{map_induction}
 use Rattle.page_model.specs.Held.{Held, Placed, objects}
 use Rattle.page_model.specs.Paging.{Paging, slot_words, slots_of, page_of, class_for}
 use Rattle.page_model.specs.Arrangement.{class_at, is_on, objects_on, live, IsSlotAt, IsSound}

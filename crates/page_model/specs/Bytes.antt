@@ -3,7 +3,7 @@ use Rattle.std.specs.Prelude.{ℕ, ◌≡◌, Some, zero, suc, ◌+◌, ◌/◌,
 use Rattle.std.specs.List.{range_with_len}
 use Rattle.std.specs.Ordering.{nat_cmp}
 use Rattle.std.specs.FinMap.{FinMap, get}
-use Rattle.cf_lemmas.specs.Maps.{map_values}
+use Rattle.cf_base.specs.Maps.{map_values}
 use Rattle.page_model.specs.Held.{Held, Placed}
 
 -- byte j of the word w, the least significant byte first

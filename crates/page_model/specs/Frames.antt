@@ -4,7 +4,7 @@ use Rattle.std.specs.Prelude.{◌≡◌, ℕ, ◌+◌, ◌*◌, ◌/◌, ◌%◌
 use Rattle.std.specs.List.{range_with_len}
 use Rattle.std.specs.List.Sorted.{IsPermutation}
 use Rattle.std.specs.FinMap.{get}
-use Rattle.cf_lemmas.specs.Exchanges.{exchanged}
+use Rattle.cf_base.specs.Exchanges.{exchanged}
 use Rattle.page_model.specs.Held.{Held, Placed}
 use Rattle.page_model.specs.Paging.{IsPaging, Paging, slot_words}
 use Rattle.page_model.specs.Arrangement.{IsSound, class_at}

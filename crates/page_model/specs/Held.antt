@@ -3,7 +3,7 @@ use Rattle.std.specs.Prelude.{ℕ, List, refl}
 use Rattle.std.specs.Ordering.{nat_cmp}
 use Rattle.std.specs.FinMap.{FinMap}
 use Rattle.std.specs.Coded.{Coded, code_by, coded×, coded_ℕ, coded_list}
-use Rattle.cf_lemmas.specs.Maps.{map_values}
+use Rattle.cf_base.specs.Maps.{map_values}
 
 -- an object: its address, which is the word where its slot or block begins, and its bytes
 pub record Placed : Type 0 where

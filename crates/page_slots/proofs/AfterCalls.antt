@@ -4,8 +4,8 @@ use Rattle.std.specs.Prelude.{◌⊎◌, ◌↔◌, slice_get}
 use Rattle.std.specs.List.{Contains}
 use Rattle.std.proofs.lemmas.Bool.{cases_eq}
 use Rattle.std.specs.FinMap.{get, insert, remove}
-use Rattle.cf_lemmas.proofs.Maps.{get_removed, get_remove_other}
-use Rattle.cf_lemmas.proofs.Sums.{insert_again}
+use Rattle.cf_base.proofs.Maps.{get_removed, get_remove_other}
+use Rattle.cf_base.proofs.Sums.{insert_again}
 use Rattle.page_pool.specs.Pool.{is_in_pool}
 use Rattle.size_classes.specs.Table.{ClassTable}
 use Rattle.class_lists.specs.declared.Which.{Which}

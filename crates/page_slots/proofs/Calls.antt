@@ -8,7 +8,7 @@ use Rattle.std.proofs.lemmas.Bool.{cases_eq, false≢true}
 use Rattle.std.proofs.lemmas.List.{get_or-set_same, length-set, set-set}
 use Rattle.std.proofs.lemmas.Nat.{mul-le}
 use Rattle.std.proofs.lemmas.Option.{slice_get_within}
-use Rattle.cf_lemmas.proofs.Tests.{eq_no, eq_yes}
+use Rattle.cf_base.proofs.Tests.{eq_no, eq_yes}
 use Rattle.slot_bitmap.proofs.CallerLemmas.{count-set, count-unset, some_free, some_used}
 use Rattle.step_ledger.specs.Counting.{RoseBy}
 use Rattle.step_ledger.proofs.CallerLemmas.{rose_both}

@@ -4,8 +4,8 @@ use Rattle.std.specs.Prelude.{nat_eq, count_by}
 use Rattle.std.specs.List.{Contains, IsDistinct, range_with_len}
 use Rattle.std.proofs.lemmas.Bool.{cases_eq, true≢false}
 use Rattle.std.proofs.lemmas.List.Sums.{sum_by-cons}
-use Rattle.cf_lemmas.proofs.Members.{contains_cases, contains_head, contains_nil, contains_tail, distinct_head, distinct_tail}
-use Rattle.cf_lemmas.proofs.Ranges.{one, count_changed}
+use Rattle.cf_base.proofs.Members.{contains_cases, contains_head, contains_nil, contains_tail, distinct_head, distinct_tail}
+use Rattle.cf_base.proofs.Ranges.{one, count_changed}
 use Rattle.page_pool.specs.Pool.{HasNoRepeats, is_in_pool}
 use Rattle.page_model.proofs.CallerLemmas.{sum_zeros}
 use Rattle.page_slots.proofs.Listing.{along}

@@ -9,9 +9,9 @@ use Rattle.std.proofs.lemmas.List.{same_lists, length-replicate, length-set, get
 use Rattle.std.proofs.lemmas.List.FromFn.{length-map-range_with_len, get_or-map-range_with_len}
 use Rattle.std.proofs.lemmas.List.Quantifiers.{position-Some}
 use Rattle.std.proofs.lemmas.Option.{slice_get-get_or}
-use Rattle.cf_lemmas.specs.Lists.{without_number}
-use Rattle.cf_lemmas.proofs.Members.{distinct_cons, distinct_head, distinct_nil, without_absent, without_first}
-use Rattle.cf_lemmas.proofs.Tests.{eq_no, eq_yes}
+use Rattle.cf_base.specs.Lists.{without_number}
+use Rattle.cf_base.proofs.Members.{distinct_cons, distinct_head, distinct_nil, without_absent, without_first}
+use Rattle.cf_base.proofs.Tests.{eq_no, eq_yes}
 use Rattle.class_lists.specs.declared.Which.{Which}
 use Rattle.class_lists.specs.declared.Which.TheVariants.{Full, NotFull}
 use Rattle.class_lists.specs.PageLists.{PageLists, empty_lists, pages_in}

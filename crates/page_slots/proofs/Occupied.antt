@@ -4,13 +4,13 @@ use Rattle.std.proofs.Common.{◌≡◌, ℕ, true, ◌<◌, List, Some, None, a
 use Rattle.std.proofs.lemmas.Bool.{cases_eq, cases_lt}
 use Rattle.std.proofs.lemmas.Option.{slice_get_within}
 use Rattle.std.specs.FinMap.{get, insert, remove}
-use Rattle.cf_lemmas.proofs.Maps.{get_inserted, some_inserted, get_remove_other, some_removed}
+use Rattle.cf_base.proofs.Maps.{get_inserted, some_inserted, get_remove_other, some_removed}
 use Rattle.class_lists.specs.declared.Which.TheVariants.{Full, NotFull}
 use Rattle.page_model.specs.Held.{Held, Placed}
 use Rattle.page_model.specs.Paging.{Paging, IsPaging, classes, page_of, address_of}
 use Rattle.page_model.specs.Arrangement.{class_at, objects_on, count_on, IsSlotAt, IsSound}
 use Rattle.page_model.proofs.CallerLemmas.{address_is_slot, slot_is_address, on_page, standing, objects_on-exchanged}
-use Rattle.cf_lemmas.proofs.Values.{still}
+use Rattle.cf_base.proofs.Values.{still}
 use Rattle.page_slots.specs.Tables.{Tables, IsOf, IsUsed, IsFreePage, slot_at, slots_on}
 use Rattle.page_slots.specs.Occupying.{Occupies, FitPagesShared, class_table}
 use Rattle.page_slots.proofs.Pages.{listed_page, listed_class, of_list}

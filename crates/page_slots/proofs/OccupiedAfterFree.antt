@@ -4,7 +4,7 @@ use Rattle.std.specs.Prelude.{slice_get}
 use Rattle.std.proofs.lemmas.Bool.{cases_eq}
 use Rattle.std.proofs.lemmas.Option.{slice_get_within}
 use Rattle.std.specs.FinMap.{get, remove}
-use Rattle.cf_lemmas.proofs.Maps.{some_removed, get_remove_other}
+use Rattle.cf_base.proofs.Maps.{some_removed, get_remove_other}
 use Rattle.slot_bitmap.proofs.CallerLemmas.{count-unset}
 use Rattle.page_model.specs.Held.{Held, Placed}
 use Rattle.page_model.specs.Paging.{Paging, IsPaging, page_of}

@@ -4,14 +4,14 @@ use Rattle.std.specs.Prelude.{◌⊎◌, slice_get}
 use Rattle.std.proofs.lemmas.Bool.{cases_eq}
 use Rattle.std.proofs.lemmas.Option.{slice_get_within}
 use Rattle.std.specs.FinMap.{get, insert}
-use Rattle.cf_lemmas.proofs.Maps.{get_inserted, some_inserted}
-use Rattle.cf_lemmas.proofs.Ranges.{one}
+use Rattle.cf_base.proofs.Maps.{get_inserted, some_inserted}
+use Rattle.cf_base.proofs.Ranges.{one}
 use Rattle.slot_bitmap.proofs.CallerLemmas.{count-set, count-replicate}
 use Rattle.page_model.specs.Held.{Held, Placed}
 use Rattle.page_model.specs.Paging.{Paging, IsPaging, page_of, address_of}
 use Rattle.page_model.specs.Arrangement.{class_at, is_on, objects_on, IsSlotAt}
 use Rattle.page_model.proofs.CallerLemmas.{address_is_slot, on_yes, objects_on-inserted, objects_on-elsewhere}
-use Rattle.cf_lemmas.proofs.Values.{still}
+use Rattle.cf_base.proofs.Values.{still}
 use Rattle.page_slots.specs.Tables.{Tables, IsOf, IsUsed, slot_at, slots_in, slots_on, used_in}
 use Rattle.page_slots.specs.Occupying.{Occupies, FitPagesShared, class_table}
 use Rattle.page_slots.proofs.Bits.{set_here, set_there, none_used, not_both}

@@ -7,9 +7,9 @@ use Rattle.std.proofs.lemmas.Grind.{same_number_lists}
 use Rattle.std.proofs.lemmas.List.{get_or-take, get_or-drop, length-take, length-drop}
 use Rattle.std.specs.FinMap.{get, len, remove}
 use Rattle.cf_base.specs.Classes.{class_of, need}
-use Rattle.cf_lemmas.proofs.MapValues.{get-map_values}
-use Rattle.cf_lemmas.proofs.Maps.{get_remove_other}
-use Rattle.cf_lemmas.proofs.Values.{len-map_values}
+use Rattle.cf_base.proofs.MapValues.{get-map_values}
+use Rattle.cf_base.proofs.Maps.{get_remove_other}
+use Rattle.cf_base.proofs.Values.{len-map_values}
 use Rattle.class_lists.specs.PageLists.{pages_in}
 use Rattle.class_lists.specs.declared.Which.TheVariants.{NotFull}
 use Rattle.page_model.specs.Arrangement.{IsSound, class_at}

@@ -4,7 +4,7 @@ use Rattle.std.proofs.Common.{◌≡◌, ◌≢◌, ℕ, Bool, true, false, ◌<
 use Rattle.std.specs.List.{Contains}
 use Rattle.std.proofs.lemmas.Bool.{cases_eq, true≢false, ne_eqb}
 use Rattle.std.proofs.lemmas.List.{get_or-set_same, get_or-set_other, length-set}
-use Rattle.cf_base.proofs.CallerLemmas.{slots_within}
+use Rattle.cf_base.proofs.Rising.{slots_within}
 use Rattle.size_classes.specs.Table.{ClassTable}
 use Rattle.class_lists.specs.declared.Which.{Which}
 use Rattle.class_lists.specs.declared.Which.TheVariants.{Full, NotFull}

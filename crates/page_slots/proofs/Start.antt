@@ -8,11 +8,11 @@ use Rattle.std.proofs.lemmas.Bool.{cases_eq, cases_lt, true≢false}
 use Rattle.std.proofs.lemmas.List.{get_or-replicate, get_or_past, length-replicate}
 use Rattle.std.specs.Ordering.{nat_cmp}
 use Rattle.std.specs.FinMap.{get, empty, get-empty}
-use Rattle.cf_lemmas.proofs.Members.{contains_nil, distinct_nil}
+use Rattle.cf_base.proofs.Members.{contains_nil, distinct_nil}
 use Rattle.cf_base.specs.Classes.{sizes}
 use Rattle.cf_base.specs.Limits.{is_page_size}
 use Rattle.cf_base.specs.declared.kind.Layout.{Layout}
-use Rattle.cf_base.proofs.CallerLemmas.{are_sizes, page_size}
+use Rattle.cf_base.proofs.Rising.{are_sizes, page_size}
 use Rattle.size_classes.specs.Table.{ClassTable, IsClassTable}
 use Rattle.class_lists.specs.declared.Which.{Which}
 use Rattle.class_lists.specs.declared.Which.TheVariants.{Full, NotFull}

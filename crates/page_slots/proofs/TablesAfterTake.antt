@@ -7,7 +7,7 @@ use Rattle.std.specs.List.{Contains}
 use Rattle.std.proofs.lemmas.Bool.{cases_eq, eq-eqb}
 use Rattle.std.proofs.lemmas.List.{length-set, length-replicate}
 use Rattle.std.proofs.lemmas.Option.{slice_get_within}
-use Rattle.cf_lemmas.proofs.Members.{contains_head}
+use Rattle.cf_base.proofs.Members.{contains_head}
 use Rattle.slot_bitmap.proofs.CallerLemmas.{count-set, count-replicate}
 use Rattle.size_classes.specs.Table.{ClassTable}
 use Rattle.class_lists.specs.declared.Which.{Which}

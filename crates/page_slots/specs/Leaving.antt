@@ -4,7 +4,7 @@ use Rattle.std.specs.FinMap.{get}
 use Rattle.block_table.specs.Table.{Table}
 use Rattle.cf_base.specs.declared.answers.Handle.{Handle}
 use Rattle.cf_base.specs.declared.kind.Kind.{Kind}
-use Rattle.cf_lemmas.specs.Exchanges.{exchanged}
+use Rattle.cf_base.specs.Exchanges.{exchanged}
 use Rattle.class_lists.specs.PageLists.{PageLists, pages_in}
 use Rattle.class_lists.specs.declared.Which.TheVariants.{NotFull}
 use Rattle.page_model.specs.Image.{Clears, IsDisjoint, MovesWords}

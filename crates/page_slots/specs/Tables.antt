@@ -2,7 +2,7 @@
 use Rattle.std.specs.Prelude.{◌≡◌, ℕ, Bool, true, false, ◌+◌, ◌*◌, ◌/◌, ◌%◌, ◌^◌, ◌<◌, ◌⊎◌, List, [], ◌∷◌, length, Some, count_by, slice_get, slice_index}
 use Rattle.std.specs.Prelude.{slice_index_or}
 use Rattle.std.specs.List.{Contains}
-use Rattle.cf_lemmas.specs.Lists.{without_number}
+use Rattle.cf_base.specs.Lists.{without_number}
 use Rattle.cf_base.specs.Classes.{slots}
 use Rattle.size_classes.specs.Table.{ClassTable, IsClassTable}
 use Rattle.class_lists.specs.declared.Which.{Which}

@@ -11,8 +11,8 @@ use Rattle.page_model.specs.Held.{Placed}
 use Rattle.page_model.specs.Arrangement.{IsSound, live, objects_on}
 use Rattle.page_model.specs.Figures.{taken_bytes}
 use Rattle.page_model.proofs.CallerLemmas.{on_none, sound_empty, none_live, none_taken}
-use Rattle.cf_lemmas.proofs.Positions.{position_is, position_none}
-use Rattle.cf_lemmas.proofs.Tests.{eq_no, eq_yes}
+use Rattle.cf_base.proofs.Positions.{position_is, position_none}
+use Rattle.cf_base.proofs.Tests.{eq_no, eq_yes}
 use Rattle.cf_model.specs.Answers.{with_bound}
 use Rattle.paged_heap.specs.Heap.{Heap}
 use Rattle.paged_heap.specs.Layout.{IsValid, held_in, paging_at, state_of}

@@ -2,8 +2,8 @@
 use Rattle.std.proofs.Common.{◌≡◌, ℕ, ◌*◌, ◌<◌, ◌≤◌, length, get_or, Option, Some, None, arith, refl, sym, ◌∙◌, ap, subst}
 use Rattle.std.specs.Prelude.{nat_eq, option_map}
 use Rattle.std.specs.FinMap.{get, len}
-use Rattle.cf_lemmas.proofs.MapValues.{get-map_values}
-use Rattle.cf_lemmas.proofs.Ranges.{one}
+use Rattle.cf_base.proofs.MapValues.{get-map_values}
+use Rattle.cf_base.proofs.Ranges.{one}
 use Rattle.page_model.specs.Held.{Held, Placed, objects}
 use Rattle.page_model.specs.Paging.{Paging, IsPaging, class_for, classes, slot_words}
 use Rattle.page_model.specs.Arrangement.{class_at, live, IsSound}
@@ -12,7 +12,7 @@ use Rattle.page_model.proofs.CallerLemmas.{len-objects, one_le, class_holds, slo
 use Rattle.paged_heap.specs.Heap.{Heap}
 use Rattle.paged_heap.specs.Layout.{IsValid, held_in, paging_at, owner_in}
 use Rattle.paged_heap.proofs.LayoutFacts.{paging_ok, table_ok, page_is}
-use Rattle.cf_lemmas.proofs.Values.{sum_at_most}
+use Rattle.cf_base.proofs.Values.{sum_at_most}
 use Rattle.page_slots.proofs.CallerLemmas.{held_len}
 
 -- an object has the bytes of a page at most, and so has its slot

@@ -3,7 +3,7 @@ use Rattle.std.proofs.Common.{◌≡◌, ℕ, ◌*◌, ◌<◌, ◌≤◌, [], l
 use Rattle.std.proofs.lemmas.List.{get_or-replicate, length-replicate, take-replicate}
 use Rattle.std.specs.FinMap.{empty}
 use Rattle.cf_base.specs.Classes.{sizes}
-use Rattle.cf_base.proofs.CallerLemmas.{are_sizes}
+use Rattle.cf_base.proofs.Rising.{are_sizes}
 use Rattle.page_model.specs.Held.{objects}
 use Rattle.page_model.specs.Bytes.{held_at}
 use Rattle.page_model.specs.Arrangement.{IsSound, live}

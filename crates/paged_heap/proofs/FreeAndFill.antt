@@ -2,8 +2,8 @@
 -- the heap keeps its invariant.
 use Rattle.std.proofs.Common.{◌≡◌, ℕ, ◌/◌, ◌%◌, ◌^◌, ◌<◌, ◌∷◌, List, length, get_or, Some, arith, sym, ◌∙◌, ap, subst}
 use Rattle.std.specs.FinMap.{get, insert, remove}
-use Rattle.cf_lemmas.proofs.Maps.{get_inserted}
-use Rattle.cf_lemmas.specs.Exchanges.{exchanged}
+use Rattle.cf_base.proofs.Maps.{get_inserted}
+use Rattle.cf_base.specs.Exchanges.{exchanged}
 use Rattle.page_model.specs.Held.{Placed}
 use Rattle.page_model.specs.Image.{IsSlotImage, MovesWords, slot_for}
 use Rattle.page_model.specs.Paging.{classes, page_of}

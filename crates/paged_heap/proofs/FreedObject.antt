@@ -5,7 +5,7 @@ use Rattle.std.specs.Prelude.{nat_eq}
 use Rattle.std.proofs.lemmas.List.{length-set}
 use Rattle.std.specs.FinMap.{remove}
 use Rattle.cf_base.specs.declared.answers.Freed.{Freed}
-use Rattle.cf_lemmas.proofs.Ranges.{one}
+use Rattle.cf_base.proofs.Ranges.{one}
 use Rattle.page_model.specs.Held.{Held, objects, places}
 use Rattle.page_model.specs.Bytes.{bytes_at}
 use Rattle.page_model.specs.Paging.{class_for, classes}
@@ -15,7 +15,7 @@ use Rattle.page_model.specs.Figures.{asked_bytes, taken_bytes}
 use Rattle.page_model.specs.Order.{FreeFollows, SlotFollows}
 use Rattle.page_model.specs.Steps.{Moves, without}
 use Rattle.page_model.proofs.CallerLemmas.{live_taken, asked_taken, taken_taken, sound_without, free_objects, storable_without}
-use Rattle.cf_lemmas.proofs.Tests.{eq_yes}
+use Rattle.cf_base.proofs.Tests.{eq_yes}
 use Rattle.size_classes.specs.Table.{ClassTable}
 use Rattle.proxy_table.specs.Proxies.{AreBelowLimit, without_place}
 use Rattle.page_slots.specs.Occupying.{Occupies, FitPages}
@@ -25,7 +25,7 @@ use Rattle.cf_model.specs.State.{HeapState}
 use Rattle.cf_model.specs.Steps.{FreesObject, MovesIn, frames_left, number_of, call_result}
 use Rattle.paged_heap.specs.Heap.{Heap}
 use Rattle.paged_heap.specs.Layout.{IsFramed, IsValid, held_in, order_in, paging_at, state_of, tables_in, owner_in}
-use Rattle.cf_lemmas.proofs.Tallies.{counted_out}
+use Rattle.cf_base.proofs.Tallies.{counted_out}
 use Rattle.paged_heap.proofs.ByKind.{moves_in, slot_in_is, tiling_stays}
 use Rattle.paged_heap.proofs.LayoutFacts.{few_classes, paged_kind, paging_ok, owns}
 use Rattle.paged_heap.proofs.Preserved.{Becomes, becomes_kept, becomes_state, held_is, stored, with_parts}

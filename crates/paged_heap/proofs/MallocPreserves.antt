@@ -4,9 +4,9 @@ use Rattle.std.specs.Prelude.{IfSome, nat_eq, option_map}
 use Rattle.std.proofs.lemmas.List.{length-set, length-replicate}
 use Rattle.std.specs.FinMap.{get, insert, len}
 use Rattle.cf_base.specs.Classes.{need}
-use Rattle.cf_lemmas.proofs.Maps.{get_inserted}
-use Rattle.cf_lemmas.proofs.MapValues.{get-map_values}
-use Rattle.cf_lemmas.proofs.Ranges.{one}
+use Rattle.cf_base.proofs.Maps.{get_inserted}
+use Rattle.cf_base.proofs.MapValues.{get-map_values}
+use Rattle.cf_base.proofs.Ranges.{one}
 use Rattle.page_model.specs.Held.{Held, Placed, objects}
 use Rattle.page_model.specs.Paging.{class_for, classes, slot_words}
 use Rattle.page_model.specs.Arrangement.{class_at, live}
@@ -26,7 +26,7 @@ use Rattle.cf_model.specs.Answers.{place_of}
 use Rattle.cf_model.specs.Steps.{AddsObject}
 use Rattle.paged_heap.specs.Heap.{Heap}
 use Rattle.paged_heap.specs.Layout.{IsValid, held_in, order_in, paging_at, state_of, tables_in, owner_in}
-use Rattle.cf_lemmas.proofs.Tallies.{counted_in}
+use Rattle.cf_base.proofs.Tallies.{counted_in}
 use Rattle.paged_heap.proofs.ByKind.{framed_kept, placed_in}
 use Rattle.paged_heap.proofs.LayoutFacts.{few_classes, paged_kind, paging_ok, table_is}
 use Rattle.paged_heap.proofs.Preserved.{Becomes, becomes_kept, becomes_state, held_is, stored, with_parts}

@@ -1,7 +1,7 @@
 -- For `find` and `read`: a live number's proxy has its object's address; the bytes that are read are the object's.
 use Rattle.std.proofs.Common.{◌≡◌, ℕ, ◌+◌, ◌/◌, ◌%◌, ◌^◌, ◌<◌, ◌≤◌, List, length, get_or, Some, arith, sym, ◌∙◌, ap}
 use Rattle.std.specs.FinMap.{get}
-use Rattle.cf_lemmas.proofs.MapValues.{get-map_values}
+use Rattle.cf_base.proofs.MapValues.{get-map_values}
 use Rattle.page_model.specs.Held.{Placed}
 use Rattle.page_model.specs.Bytes.{bytes_at}
 use Rattle.page_model.proofs.CallerLemmas.{places-held_at}

@@ -6,10 +6,10 @@ use Rattle.std.specs.List.{filter}
 use Rattle.std.proofs.lemmas.List.{get_or-set_other, length-set}
 use Rattle.std.specs.FinMap.{get, insert, remove}
 use Rattle.cf_base.specs.declared.answers.Resized.{Resized}
-use Rattle.cf_lemmas.proofs.Maps.{get_inserted}
-use Rattle.cf_lemmas.proofs.MapValues.{map_values-insert}
-use Rattle.cf_lemmas.proofs.Ranges.{one}
-use Rattle.cf_lemmas.proofs.Sums.{insert_again}
+use Rattle.cf_base.proofs.Maps.{get_inserted}
+use Rattle.cf_base.proofs.MapValues.{map_values-insert}
+use Rattle.cf_base.proofs.Ranges.{one}
+use Rattle.cf_base.proofs.Sums.{insert_again}
 use Rattle.page_model.specs.Held.{Held, Placed, objects, places}
 use Rattle.page_model.specs.Bytes.{AreStorable}
 use Rattle.page_model.specs.Paging.{class_for, classes, page_of, slot_words, slots_of}
@@ -18,7 +18,7 @@ use Rattle.page_model.specs.Image.{Clears, IsDisjoint, IsSlotImage, MovesWords, 
 use Rattle.page_model.specs.Figures.{asked_bytes, taken_bytes}
 use Rattle.page_model.specs.Order.{IsNextToMove, Order, ResizeFollows, SlotFollows, TakesNext, not_full_in, slot_freed, with_not_full}
 use Rattle.page_model.specs.Steps.{ChangesClass, IsFreePlace, RefitsObject as IsResizedBy, Moves, MustMove, Request, resized_at, without}
-use Rattle.cf_lemmas.proofs.Values.{still}
+use Rattle.cf_base.proofs.Values.{still}
 use Rattle.page_model.proofs.CallerLemmas.{not_full-same, free_objects, objects_on-elsewhere, sound_placed}
 use Rattle.page_model.proofs.CallerLemmas.{change_is, class-resized, length-resized, sound_resize, storable_added, storable_without}
 use Rattle.size_classes.specs.Table.{ClassTable}
@@ -34,7 +34,7 @@ use Rattle.paged_heap.specs.ResizeClass.{EntersAt, IsChange, old_words}
 use Rattle.paged_heap.specs.Layout.{IsFramed, IsValid, held_in, order_in, paging_at, state_of, tables_in}
 use Rattle.paged_heap.proofs.LayoutFacts.{few_classes, paged_kind, paging_ok, sizes_are, table_is, owns}
 use Rattle.paged_heap.proofs.Preserved.{Becomes, becomes_kept, becomes_state, held_is, rest_from, stored}
-use Rattle.cf_lemmas.proofs.Tallies.{counted_in, counted_out}
+use Rattle.cf_base.proofs.Tallies.{counted_in, counted_out}
 use Rattle.paged_heap.proofs.TwoWrites.{between, cleared_then, moved_then, written_first}
 use Rattle.paged_heap.proofs.ResizeCopy.{are_now, arrived, carried_long, untouched}
 use Rattle.paged_heap.proofs.ResizeEnter.{at_table, is_free, new_inside, none_spare, of_table, slots_apart}

@@ -2,9 +2,9 @@
 -- its invariant.
 use Rattle.std.proofs.Common.{◌≡◌, ℕ, length, get_or, None, sym, ◌∙◌, ap, subst}
 use Rattle.std.specs.FinMap.{insert, remove}
-use Rattle.cf_lemmas.proofs.Maps.{get_inserted, get_remove_other, get_removed}
-use Rattle.cf_lemmas.proofs.MapValues.{map_values-insert}
-use Rattle.cf_lemmas.proofs.Sums.{insert_again}
+use Rattle.cf_base.proofs.Maps.{get_inserted, get_remove_other, get_removed}
+use Rattle.cf_base.proofs.MapValues.{map_values-insert}
+use Rattle.cf_base.proofs.Sums.{insert_again}
 use Rattle.page_model.specs.Held.{Placed, places}
 use Rattle.page_model.specs.Arrangement.{class_at}
 use Rattle.page_model.specs.Image.{Clears, IsSlotImage}

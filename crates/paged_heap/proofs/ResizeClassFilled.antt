@@ -5,18 +5,18 @@ use Rattle.std.specs.Prelude.{◌⊎◌, IsSome, is_some}
 use Rattle.std.proofs.lemmas.Bool.{cases_eq}
 use Rattle.std.specs.Ordering.{nat_cmp}
 use Rattle.std.specs.FinMap.{FinMap, get, insert, remove}
-use Rattle.cf_lemmas.proofs.Maps.{equal_maps, get_insert_other, get_inserted, get_remove_other, get_removed}
-use Rattle.cf_lemmas.proofs.MapValues.{map_values-insert}
+use Rattle.cf_base.proofs.Maps.{equal_maps, get_insert_other, get_inserted, get_remove_other, get_removed}
+use Rattle.cf_base.proofs.MapValues.{map_values-insert}
 use Rattle.page_model.specs.Held.{Placed, places}
 use Rattle.page_model.specs.Image.{IsDisjoint, IsOutside, IsSlotImage, MovesWords, slot_for}
 use Rattle.page_model.specs.Order.{SlotFollows, slot_freed}
 use Rattle.page_model.specs.Paging.{classes, page_of, slot_words}
 use Rattle.page_model.specs.Arrangement.{class_at}
 use Rattle.page_model.specs.Steps.{MayFill, Moves, MustMove, without}
-use Rattle.cf_lemmas.proofs.Values.{still}
+use Rattle.cf_base.proofs.Values.{still}
 use Rattle.page_model.proofs.CallerLemmas.{mover_is_other, moved_places, image_after_change_and_move, object_inside, own_words, place_apart, sound_apart_from}
 use Rattle.page_model.proofs.CallerLemmas.{header_shown}
-use Rattle.cf_lemmas.specs.Exchanges.{exchanged}
+use Rattle.cf_base.specs.Exchanges.{exchanged}
 use Rattle.cf_model.specs.Steps.{frames_left}
 use Rattle.virtual_words.specs.Words.{IsWhole}
 use Rattle.proxy_table.specs.Proxies.{AreBelowLimit, Proxies, with_place}

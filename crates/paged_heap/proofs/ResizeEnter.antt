@@ -5,7 +5,7 @@ use Rattle.std.proofs.lemmas.List.{get_or-set_other}
 use Rattle.proxy_table.specs.Proxies.{AreBelowLimit, with_place}
 use Rattle.std.specs.Prelude.{take}
 use Rattle.std.specs.FinMap.{get, insert}
-use Rattle.cf_lemmas.proofs.Maps.{get_inserted}
+use Rattle.cf_base.proofs.Maps.{get_inserted}
 use Rattle.cf_base.specs.Settings.{profile_of}
 use Rattle.page_model.specs.Bytes.{bytes_at}
 use Rattle.page_model.proofs.CallerLemmas.{sound_placed, length-resized, class_holds, place_apart, slot_inside}

@@ -8,7 +8,7 @@ use Rattle.std.proofs.Common.{length-drop}
 use Rattle.std.specs.FinMap.{insert}
 use Rattle.cf_base.specs.Classes.{need}
 use Rattle.cf_base.specs.declared.answers.Resized.{Resized}
-use Rattle.cf_lemmas.proofs.MapValues.{map_values-insert}
+use Rattle.cf_base.proofs.MapValues.{map_values-insert}
 use Rattle.page_model.specs.Held.{Placed, objects}
 use Rattle.page_model.specs.Bytes.{AreBytes, byte_of, bytes_at}
 use Rattle.page_model.specs.Image.{Clears, IsOutside, IsSlotImage, Rewrites, header_word, object_word, slot_for}

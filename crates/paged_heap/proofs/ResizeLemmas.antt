@@ -3,7 +3,7 @@
 use Rattle.std.proofs.Common.{◌≡◌, ◌≢◌, ℕ, ◌+◌, ◌/◌, ◌<◌, ◌≤◌, length, get_or, Some, None, Result, Ok, Err, arith, sym, ◌∙◌, ap, subst, inl, inr}
 use Rattle.std.specs.Prelude.{IfErr}
 use Rattle.cf_base.specs.declared.answers.ResizeFault.TheVariants as resize
-use Rattle.cf_lemmas.proofs.Tests.{eq_no, eq_yes}
+use Rattle.cf_base.proofs.Tests.{eq_no, eq_yes}
 use Rattle.page_model.specs.Held.{Placed}
 use Rattle.page_model.specs.Image.{slot_for}
 use Rattle.page_model.specs.Order.{word_steps}

@@ -13,7 +13,7 @@ use Rattle.cf_base.specs.declared.answers.ResizeFault.{ResizeFault}
 use Rattle.cf_base.specs.declared.answers.ResizeFault.TheVariants as resize
 use Rattle.cf_base.specs.declared.kind.Kind.{Kind}
 use Rattle.cf_base.specs.declared.kind.Kind.TheVariants.{Moving, NonMoving, Tlsf, HalfFit}
-use Rattle.cf_lemmas.proofs.Tests.{eq_no, eq_yes, lt_no, lt_yes}
+use Rattle.cf_base.proofs.Tests.{eq_no, eq_yes, lt_no, lt_yes}
 use Rattle.cf_model.specs.Costs.{access_bound, free_bound, resize_bound, words_touched}
 use Rattle.page_model.specs.Order.{word_steps}
 use Rattle.page_model.proofs.CallerLemmas.{run_few, slot_few, word_few}

@@ -5,8 +5,8 @@ use Rattle.std.specs.List.{Contains, IsDistinct, range_with_len}
 use Rattle.std.proofs.lemmas.Bool.{ne_eqb}
 use Rattle.std.proofs.lemmas.List.{get_or-set_same, get_or-set_other}
 use Rattle.std.proofs.lemmas.Map.Keys.{IsDistinct-from_apart}
-use Rattle.cf_lemmas.specs.Lists.{without_number}
-use Rattle.cf_lemmas.proofs.Members.{without_same}
+use Rattle.cf_base.specs.Lists.{without_number}
+use Rattle.cf_base.proofs.Members.{without_same}
 use Rattle.proxy_table.specs.Layout.{IsFalling, IsValid, top_down}
 
 length_top : (stack : List ℕ) (left : ℕ) → length (top_down stack left) ≡ left

@@ -5,7 +5,7 @@ use Rattle.std.specs.Prelude.{count_by, is_some, IsSome}
 use Rattle.std.proofs.lemmas.List.{get_or-set_same, get_or-set_other, length-set, length-replicate, get_or_read, get_or-replicate}
 use Rattle.std.proofs.lemmas.List.Sums.{sum_by-set, sum_by-cons}
 use Rattle.std.proofs.lemmas.Bool.{cases_lt, false≢true}
-use Rattle.cf_lemmas.specs.Maps.{vacant}
+use Rattle.cf_base.specs.Maps.{vacant}
 use Rattle.proxy_table.specs.Layout.{IsValid, IsFalling}
 
 -- 1 if a number is live

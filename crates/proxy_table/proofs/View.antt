@@ -4,10 +4,10 @@ use Rattle.std.specs.Prelude.{IsSome, is_some, count_by}
 use Rattle.std.proofs.lemmas.List.{length-set, length-replicate}
 use Rattle.std.proofs.lemmas.List.Sums.{count_by-le-length}
 use Rattle.std.specs.FinMap as map
-use Rattle.cf_lemmas.specs.Maps.{numbered}
-use Rattle.cf_lemmas.proofs.Numbered.{numbered-set, numbered-clear, get-numbered, numbered_live, len-numbered}
+use Rattle.cf_base.specs.Maps.{numbered}
+use Rattle.cf_base.proofs.Numbered.{numbered-set, numbered-clear, get-numbered, numbered_live, len-numbered}
 use Rattle.proxy_table.specs.Proxies.{Proxies, AreBelowLimit, no_proxies, with_place, without_place}
-use Rattle.cf_lemmas.specs.Maps.{vacant}
+use Rattle.cf_base.specs.Maps.{vacant}
 use Rattle.proxy_table.specs.Layout.{proxies_of, top_down, IsFalling, IsValid}
 use Rattle.proxy_table.proofs.Free.{are_free, free_given, free_rest, free_taken, free_new, without_stack}
 

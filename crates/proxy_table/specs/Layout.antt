@@ -1,6 +1,6 @@
 -- How a proxy table keeps its numbers in memory. No public clause cites this module.
 use Rattle.std.specs.Prelude.{◌≡◌, ◌≢◌, ℕ, zero, suc, ◌+◌, ◌-◌, ◌^◌, ◌<◌, List, [], ◌∷◌, Option, None, length, slice_index, slice_index_or, count_by, is_some}
-use Rattle.cf_lemmas.specs.Maps.{numbered}
+use Rattle.cf_base.specs.Maps.{numbered}
 use Rattle.proxy_table.specs.Proxies.{Proxies}
 
 -- the first `left` entries of a stack, the last of them first: in the order in which they are taken

@@ -4,7 +4,7 @@ use Rattle.std.specs.List.{Contains, IsDistinct, range_with_len}
 use Rattle.std.specs.Ordering.{nat_cmp}
 use Rattle.std.specs.FinMap as map
 use Rattle.std.specs.Coded.{Coded, code_by, coded×, coded_list, coded_ℕ}
-use Rattle.cf_lemmas.specs.Lists.{without_number}
+use Rattle.cf_base.specs.Lists.{without_number}
 
 -- how many numbers there are (`limit`), the address of each live one in words, and the free ones, the next to be used first
 pub record Proxies : Type 0 where

@@ -6,7 +6,7 @@ ghost use Rattle.std.specs.Prelude.{◌≡◌, ◌∷◌, ◌<◌, ◌↔◌, If
 ghost use Rattle.std.specs.FinMap as map;
 ghost use Rattle.step_ledger.specs.Counting.{RoseBy};
 ghost use Rattle.proxy_table.specs.Proxies.{AreBelowLimit, no_proxies, with_place, without_place};
-ghost use Rattle.cf_lemmas.specs.Maps.{vacant};
+ghost use Rattle.cf_base.specs.Maps.{vacant};
 ghost use Rattle.proxy_table.specs.Needed.{proxy_bytes};
 ghost use Rattle.proxy_table.specs.Layout.{IsFalling};
 

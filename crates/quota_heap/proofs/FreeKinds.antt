@@ -10,8 +10,8 @@ use Rattle.std.specs.FinMap.{FinMap, empty, get, insert, remove}
 use Rattle.cf_base.specs.Settings.{profile_of}
 use Rattle.cf_base.specs.declared.answers.Freed.{Freed}
 use Rattle.cf_base.specs.declared.answers.Handle.{Handle}
-use Rattle.cf_lemmas.proofs.MapValues.{map_values-insert, map_values-remove}
-use Rattle.cf_lemmas.proofs.Maps.{some_removed}
+use Rattle.cf_base.proofs.MapValues.{map_values-insert, map_values-remove}
+use Rattle.cf_base.proofs.Maps.{some_removed}
 use Rattle.cf_model.specs.Steps.{number_of}
 use Rattle.page_model.specs.Bytes.{bytes_at}
 use Rattle.page_model.specs.Held.{Placed, places}

@@ -5,9 +5,9 @@ use Rattle.std.proofs.lemmas.List.{length-set}
 use Rattle.std.specs.FinMap.{get, remove}
 use Rattle.cf_base.specs.Settings.{profile_of}
 use Rattle.cf_base.specs.declared.answers.Freed.{Freed}
-use Rattle.cf_lemmas.proofs.Ranges.{one}
-use Rattle.cf_lemmas.proofs.Tests.{eq_yes}
-use Rattle.cf_lemmas.proofs.Tallies.{counted_out}
+use Rattle.cf_base.proofs.Ranges.{one}
+use Rattle.cf_base.proofs.Tests.{eq_yes}
+use Rattle.cf_base.proofs.Tallies.{counted_out}
 use Rattle.cf_model.specs.Steps.{number_of}
 use Rattle.page_model.specs.Arrangement.{live}
 use Rattle.page_model.specs.Bytes.{bytes_at}

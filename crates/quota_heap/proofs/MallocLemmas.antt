@@ -6,7 +6,7 @@ use Rattle.std.proofs.lemmas.Bool.{cases_eq}
 use Rattle.std.proofs.lemmas.List.{length-set}
 use Rattle.std.specs.FinMap.{get, insert}
 use Rattle.cf_base.specs.Settings.{profile_of}
-use Rattle.cf_lemmas.proofs.Ranges.{one}
+use Rattle.cf_base.proofs.Ranges.{one}
 use Rattle.class_lists.specs.declared.Which.{Which}
 use Rattle.class_lists.specs.declared.Which.TheVariants.{Full, NotFull}
 use Rattle.class_lists.specs.PageLists.{pages_in}
@@ -41,10 +41,10 @@ use Rattle.quota_heap.proofs.Preserved.{Becomes, becomes_kept, becomes_state, pl
 use Rattle.quota_heap.proofs.Refusals.{reason}
 use Rattle.quota_heap.proofs.Tasks.{length_map, map_set, numbers, part_is, places_here, task_below}
 use Rattle.std.proofs.lemmas.Option.{slice_get_within}
-use Rattle.cf_lemmas.proofs.Tallies.{counted_in}
+use Rattle.cf_base.proofs.Tallies.{counted_in}
 use Rattle.page_model.proofs.CallerLemmas.{slot_inside}
 use Rattle.quota_heap.proofs.Facts.{tables_ok}
-use Rattle.cf_lemmas.proofs.Maps.{get_inserted}
+use Rattle.cf_base.proofs.Maps.{get_inserted}
 use Rattle.std.specs.Prelude.{Option, slice_get}
 use Rattle.std.proofs.lemmas.Option.{slice_get-get_or}
 use Rattle.quota_model.specs.Shared.{IsShared}

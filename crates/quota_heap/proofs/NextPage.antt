@@ -2,8 +2,8 @@
 use Rattle.std.proofs.Common.{◌≡◌, ℕ, zero, suc, ◌+◌, ◌-◌, ◌*◌, ◌<◌, ◌≤◌, cond, arith, refl, sym, subst, inl, inr}
 use Rattle.std.specs.Prelude.{nat_eq}
 use Rattle.std.proofs.lemmas.Bool.{cases_eq, cases_lt}
-use Rattle.cf_lemmas.proofs.Tests.{eq_no, eq_yes}
-use Rattle.cf_lemmas.proofs.Ranges.{sum_changed}
+use Rattle.cf_base.proofs.Tests.{eq_no, eq_yes}
+use Rattle.cf_base.proofs.Ranges.{sum_changed}
 use Rattle.page_model.specs.Arrangement.{IsSound, pages_of_class, live, not_full_pages, pages_needed, pages_needed_with}
 use Rattle.page_model.specs.Counts.{CanHold, LieOn, ceil_div}
 use Rattle.page_model.specs.Held.{Held, objects}

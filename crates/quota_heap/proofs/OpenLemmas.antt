@@ -7,13 +7,13 @@ use Rattle.std.proofs.lemmas.List.{get_or-replicate, length-replicate}
 use Rattle.std.proofs.lemmas.List.Sums.{sum_by-cons}
 use Rattle.std.specs.Ordering.{nat_cmp}
 use Rattle.std.specs.FinMap.{empty, get, get-empty}
-use Rattle.cf_lemmas.proofs.Members.{contains_nil}
+use Rattle.cf_base.proofs.Members.{contains_nil}
 use Rattle.cf_base.specs.Classes.{sizes}
 use Rattle.cf_base.specs.Settings.{profile_of}
 use Rattle.cf_base.specs.declared.kind.Layout.TheVariants.{Words}
 use Rattle.cf_base.specs.declared.settings.Settings.{Settings}
-use Rattle.cf_base.proofs.CallerLemmas.{are_sizes}
-use Rattle.cf_lemmas.proofs.Maps.{equal_maps}
+use Rattle.cf_base.proofs.Rising.{are_sizes}
+use Rattle.cf_base.proofs.Maps.{equal_maps}
 use Rattle.class_lists.specs.PageLists.{empty_lists, pages_in}
 use Rattle.page_model.specs.Arrangement.{IsSound, live, pages_needed}
 use Rattle.page_model.specs.Bytes.{held_at}

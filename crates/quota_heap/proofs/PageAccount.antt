@@ -3,7 +3,7 @@ use Rattle.std.proofs.Common.{◌≡◌, ◌≢◌, ℕ, ◌+◌, ◌<◌, lengt
 use Rattle.std.proofs.Common.{inl, inr, subst}
 use Rattle.std.specs.List.{Contains}
 use Rattle.std.proofs.lemmas.Bool.{cases_eq}
-use Rattle.cf_lemmas.proofs.Members.{length-without}
+use Rattle.cf_base.proofs.Members.{length-without}
 use Rattle.size_classes.specs.Table.{ClassTable}
 use Rattle.class_lists.specs.declared.Which.{Which}
 use Rattle.class_lists.specs.declared.Which.TheVariants.{Full, NotFull}
@@ -17,7 +17,7 @@ use Rattle.page_slots.specs.Occupying.{Occupies, FitPagesShared}
 use Rattle.page_slots.specs.Tables.{AreTables, JoinsList, LeavesList, Tables, slots_in, slots_on, used_in}
 use Rattle.page_slots.specs.Take.{TakesAt, TakesOnFreePage, TakesOnPartlyFullPage}
 use Rattle.page_slots.proofs.CallerLemmas.{home_pages_are, front_listed}
-use Rattle.cf_lemmas.proofs.Ranges.{sum_changed}
+use Rattle.cf_base.proofs.Ranges.{sum_changed}
 
 -- the number of pages of class c in the lists l, partly full or full
 abbrev paged : PageLists → ℕ → ℕ

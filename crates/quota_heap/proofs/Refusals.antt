@@ -11,7 +11,7 @@ use Rattle.cf_base.specs.Classes.{need}
 use Rattle.cf_base.specs.Settings.{profile_of}
 use Rattle.cf_base.specs.declared.answers.Refusal.{Refusal}
 use Rattle.cf_base.specs.declared.answers.Refusal.TheVariants.{Proxy, Size, Space}
-use Rattle.cf_lemmas.proofs.Tests.{eq_no, eq_yes, lt_no, lt_yes}
+use Rattle.cf_base.proofs.Tests.{eq_no, eq_yes, lt_no, lt_yes}
 use Rattle.class_lists.specs.PageLists.{pages_in}
 use Rattle.class_lists.specs.declared.Which.TheVariants.{NotFull}
 use Rattle.page_model.specs.Arrangement.{pages_needed, pages_needed_with}

@@ -8,7 +8,7 @@ use Rattle.std.proofs.lemmas.List.{length-set}
 use Rattle.std.proofs.lemmas.List.Sums.{sum_by-cons}
 use Rattle.std.proofs.lemmas.Option.{slice_get_within}
 use Rattle.cf_base.specs.Settings.{profile_of}
-use Rattle.cf_lemmas.proofs.Tests.{lt_no, lt_yes}
+use Rattle.cf_base.proofs.Tests.{lt_no, lt_yes}
 use Rattle.page_model.specs.Arrangement.{pages_needed}
 use Rattle.page_model.specs.Bytes.{held_at}
 use Rattle.quota_model.specs.Joined.{joined}

@@ -9,7 +9,7 @@ use Rattle.cf_base.specs.declared.answers.Freed.{Freed}
 use Rattle.cf_base.specs.declared.answers.Handle.{Handle}
 use Rattle.cf_base.specs.declared.answers.NotLive.{NotLive}
 use Rattle.cf_base.specs.declared.answers.Refusal.{Refusal}
-use Rattle.cf_lemmas.proofs.Tests.{eq_no, eq_yes}
+use Rattle.cf_base.proofs.Tests.{eq_no, eq_yes}
 use Rattle.class_lists.specs.PageLists.{pages_in}
 use Rattle.class_lists.specs.declared.Which.TheVariants.{NotFull}
 use Rattle.page_model.specs.Arrangement.{class_at, live, not_full_pages, objects_on}

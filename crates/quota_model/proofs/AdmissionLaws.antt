@@ -7,7 +7,7 @@ use Rattle.std.proofs.lemmas.Bool.{cases_lt}
 use Rattle.std.proofs.Math.Seq.{take-length}
 use Rattle.std.specs.Ordering.{nat_cmp}
 use Rattle.std.specs.FinMap.{empty, get-empty, len-empty}
-use Rattle.cf_lemmas.proofs.Values.{no_values}
+use Rattle.cf_base.proofs.Values.{no_values}
 use Rattle.page_model.specs.Paging.{Paging, class_for}
 use Rattle.quota_model.specs.Admission.{CanBeAsked, IsAdmission, IsEnough, Share, count_of_class, first_large, first_refused_for_space}
 use Rattle.quota_model.specs.Admission.{in_order, live_of, mallocs, pages_needed_by}

@@ -6,8 +6,8 @@ use Rattle.std.specs.List.{range_with_len}
 use Rattle.std.proofs.lemmas.List.Sums.{sum_by-cons, sum_by-append}
 use Rattle.std.proofs.lemmas.Bool.{cases_eq}
 use Rattle.std.proofs.Math.Nat.{div-zero, div-eq_of_lt, div-lt_iff_lt-mul}
-use Rattle.cf_lemmas.proofs.Ranges.{one, sum_grows}
-use Rattle.cf_lemmas.proofs.Tests.{eq_no, eq_yes}
+use Rattle.cf_base.proofs.Ranges.{one, sum_grows}
+use Rattle.cf_base.proofs.Tests.{eq_no, eq_yes}
 use Rattle.page_model.specs.Counts.{ceil_div}
 use Rattle.page_model.specs.Paging.{Paging, class_for, classes, slots_of}
 pub use Rattle.page_model.proofs.CallerLemmas.{pages_grow, pages_same}

@@ -6,7 +6,7 @@ use Rattle.cf_base.specs.Classes.{class_of, need, sizes, slots}
 use Rattle.cf_base.specs.Limits.{is_page_size}
 use Rattle.cf_base.specs.Settings.{Profile}
 use Rattle.cf_base.specs.declared.kind.Layout.TheVariants.{Words}
-use Rattle.cf_base.proofs.CallerLemmas.{are_sizes, page_size, slots_within}
+use Rattle.cf_base.proofs.Rising.{are_sizes, page_size, slots_within}
 use Rattle.page_model.specs.Paging.{IsPaging, class_for, slots_of}
 use Rattle.page_model.proofs.CallerLemmas.{class_fits, class_known, first_paged}
 use Rattle.quota_model.specs.Refusals.{task_paging}

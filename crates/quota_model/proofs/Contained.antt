@@ -2,8 +2,8 @@
 use Rattle.std.proofs.Common.{◌≡◌, ℕ, Bool, cond, ◌+◌, ◌<◌, ◌≤◌, List, [], ◌∷◌, arith, ap, inl, inr, refl}
 use Rattle.std.specs.Prelude.{count_by, nat_eq}
 use Rattle.std.proofs.lemmas.Bool.{cases_eq}
-use Rattle.cf_lemmas.proofs.Ranges.{one}
-use Rattle.cf_lemmas.proofs.Tests.{eq_yes, eq_no}
+use Rattle.cf_base.proofs.Ranges.{one}
+use Rattle.cf_base.proofs.Tests.{eq_yes, eq_no}
 use Rattle.quota_model.proofs.Ceilings.{count-cons}
 
 -- the list without its first element that equals n

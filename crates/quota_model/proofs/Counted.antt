@@ -10,7 +10,7 @@ use Rattle.std.proofs.lemmas.List.Sums.{count_by-le-length}
 use Rattle.std.proofs.Math.Seq.{take-length}
 use Rattle.cf_base.specs.Classes.{need}
 use Rattle.cf_base.specs.Limits.{is_page_size}
-use Rattle.cf_lemmas.proofs.Tests.{lt_yes}
+use Rattle.cf_base.proofs.Tests.{lt_yes}
 use Rattle.page_model.specs.Counts.{ceil_div}
 use Rattle.page_model.specs.Paging.{Paging, class_for, classes, slots_of}
 use Rattle.page_model.proofs.CallerLemmas.{class_fits}

@@ -10,7 +10,7 @@ use Rattle.std.proofs.lemmas.List.Folds.{sum_by-replicate}
 use Rattle.std.proofs.lemmas.List.{length-append, length-replicate}
 use Rattle.cf_base.specs.Classes.{need}
 use Rattle.cf_base.specs.Settings.{Profile}
-use Rattle.cf_lemmas.proofs.Tests.{lt_yes}
+use Rattle.cf_base.proofs.Tests.{lt_yes}
 use Rattle.quota_model.specs.Admission.{declared, declared_in_all, first_large, in_order}
 use Rattle.quota_model.specs.declared.answers.Need.{Need}
 use Rattle.quota_model.proofs.Ceilings.{count-append}

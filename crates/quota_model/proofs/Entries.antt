@@ -7,8 +7,8 @@ use Rattle.std.proofs.lemmas.List.{append-nil, append_assoc, length-append, leng
 use Rattle.std.proofs.lemmas.List.Folds.{sum_by-replicate}
 use Rattle.std.proofs.Math.Seq.{take-append-add, drop-cons, take-suc}
 use Rattle.cf_base.specs.Classes.{need}
-use Rattle.cf_lemmas.proofs.Ranges.{one, sum_at_least, sum_changed}
-use Rattle.cf_lemmas.proofs.Tests.{eq_no, eq_yes}
+use Rattle.cf_base.proofs.Ranges.{one, sum_at_least, sum_changed}
+use Rattle.cf_base.proofs.Tests.{eq_no, eq_yes}
 use Rattle.page_model.specs.Counts.{ceil_div}
 use Rattle.page_model.specs.Paging.{Paging, IsPaging, class_for, classes, slots_of}
 use Rattle.page_model.proofs.CallerLemmas.{class_fits}

@@ -9,10 +9,10 @@ use Rattle.std.specs.FinMap.{get, insert, len, values}
 use Rattle.cf_base.specs.Classes.{need}
 use Rattle.cf_base.specs.declared.answers.Refusal.{Refusal}
 use Rattle.cf_base.specs.declared.answers.Refusal.TheVariants as refusal
-use Rattle.cf_lemmas.proofs.Maps.{get_insert_other, len_fresh}
-use Rattle.cf_lemmas.proofs.Ranges.{one}
-use Rattle.cf_lemmas.proofs.Sums.{sum_by-inserted}
-use Rattle.cf_lemmas.proofs.Tests.{eq_no, eq_yes, lt_no, lt_yes}
+use Rattle.cf_base.proofs.Maps.{get_insert_other, len_fresh}
+use Rattle.cf_base.proofs.Ranges.{one}
+use Rattle.cf_base.proofs.Sums.{sum_by-inserted}
+use Rattle.cf_base.proofs.Tests.{eq_no, eq_yes, lt_no, lt_yes}
 use Rattle.page_model.specs.Arrangement.{live, pages_needed_with}
 use Rattle.page_model.specs.Held.{Objects}
 use Rattle.page_model.specs.Paging.{Paging, class_for}

@@ -9,9 +9,9 @@ use Rattle.std.proofs.lemmas.List.Sums.{sum_by-cons}
 use Rattle.std.specs.Ordering.{nat_cmp}
 use Rattle.std.specs.FinMap.{empty, get, get-empty}
 use Rattle.cf_base.specs.Settings.{Profile}
-use Rattle.cf_lemmas.proofs.Maps.{equal_maps}
-use Rattle.cf_lemmas.proofs.Tests.{lt_yes}
-use Rattle.cf_lemmas.proofs.Values.{map_values-empty, no_values}
+use Rattle.cf_base.proofs.Maps.{equal_maps}
+use Rattle.cf_base.proofs.Tests.{lt_yes}
+use Rattle.cf_base.proofs.Values.{map_values-empty, no_values}
 use Rattle.page_model.specs.Arrangement.{IsSound, live, pages_needed}
 use Rattle.page_model.specs.Held.{Held, Placed, objects}
 use Rattle.page_model.specs.Paging.{Paging, class_for}

@@ -7,7 +7,7 @@ use Rattle.std.proofs.lemmas.List.{get_or-set_other, get_or-set_same, length-rep
 use Rattle.std.specs.FinMap.{get, insert, remove}
 use Rattle.cf_base.specs.Limits.{is_page_size}
 use Rattle.cf_base.specs.Settings.{Profile}
-use Rattle.cf_lemmas.proofs.Maps.{get_insert_other, get_inserted}
+use Rattle.cf_base.proofs.Maps.{get_insert_other, get_inserted}
 use Rattle.page_model.specs.Bytes.{written}
 use Rattle.page_model.specs.Held.{Held, Placed}
 use Rattle.page_model.specs.Image.{Clears, IsApartFrom, IsImage, IsOutside, IsSlotImage, MovesWords, Rewrites, header_word, object_word}

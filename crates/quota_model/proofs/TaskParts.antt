@@ -6,8 +6,8 @@ use Rattle.std.proofs.lemmas.Bool.{cases_eq, cases_lt}
 use Rattle.std.specs.Ordering.{nat_cmp, eq_by_cmp}
 use Rattle.std.specs.Cmp.{nat_cmp_total}
 use Rattle.std.specs.FinMap.{entries, find, get, get-entries, get-from_entries, insert, remove}
-use Rattle.cf_lemmas.proofs.Maps.{equal_maps, get_inserted, get_insert_other, get_removed, get_remove_other}
-use Rattle.cf_lemmas.proofs.Tests.{eq_yes, eq_no, tied_yes, tied_no}
+use Rattle.cf_base.proofs.Maps.{equal_maps, get_inserted, get_insert_other, get_removed, get_remove_other}
+use Rattle.cf_base.proofs.Tests.{eq_yes, eq_no, tied_yes, tied_no}
 use Rattle.page_model.specs.Held.{Held, Placed}
 use Rattle.quota_model.specs.Parts.{key_of, number_of, objects_of_task, task_of}
 

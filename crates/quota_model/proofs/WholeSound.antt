@@ -9,7 +9,7 @@ use Rattle.cf_base.specs.Classes.{sizes}
 use Rattle.cf_base.specs.Limits.{is_page_size}
 use Rattle.cf_base.specs.Settings.{Profile}
 use Rattle.cf_base.specs.declared.kind.Layout.TheVariants.{Words}
-use Rattle.cf_lemmas.proofs.Ranges.{count_at_most}
+use Rattle.cf_base.proofs.Ranges.{count_at_most}
 use Rattle.page_model.specs.Arrangement.{IsSound, not_full_pages}
 use Rattle.page_model.specs.Held.{Held, Placed}
 use Rattle.page_model.specs.Image.{IsSlotImage, slot_for}

@@ -3,8 +3,8 @@
 use Rattle.std.proofs.Common.{◌≡◌, ℕ, suc, Bool, true, false, ◌+◌, ◌≤◌, List, [], ◌∷◌, ◌++◌, Option, Some, None, Err, length, drop, get_or, arith, ap, sym, ◌∙◌, refl, inl, inr, subst, ◌⊎◌, codes, nat_eq, nat_lt}
 use Rattle.run_model.specs.Terms.{asks, bad, Command, empty, get, Item, Reply, said, starts}
 use Rattle.std.proofs.lemmas.Bool.{cases_lt}
-use Rattle.cf_lemmas.proofs.Ranges.{one}
-use Rattle.cf_lemmas.proofs.Tests.{eq_yes, lt_no, lt_yes}
+use Rattle.cf_base.proofs.Ranges.{one}
+use Rattle.cf_base.proofs.Tests.{eq_yes, lt_no, lt_yes}
 use Rattle.quota_model.proofs.CallerLemmas.{enough_iff, granted_within, live_of-inserted, none_iff, one_answer}
 use Rattle.quota_model.specs.Admission.{CanBeAsked, IsAdmission, Share, declared, declared_in_all, first_large, first_refused_for_space, in_order, live_of, pages_needed_by}
 use Rattle.quota_model.specs.Refusals.{task_paging}

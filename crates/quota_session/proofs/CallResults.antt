@@ -7,9 +7,9 @@ use Rattle.run_model.specs.Terms.{AccessFault, class_at, classes, Freed, get, Ha
 use Rattle.cf_base.specs.Limits.{is_page_size}
 use Rattle.cf_base.specs.declared.answers.AccessFault.TheVariants as access
 use Rattle.cf_base.specs.declared.answers.Refusal.TheVariants as refusal
-use Rattle.cf_lemmas.proofs.Ranges.{one, sum_at_least, sum_le}
-use Rattle.cf_lemmas.proofs.Searches.{few_keys, fresh_key}
-use Rattle.cf_lemmas.proofs.Tests.{eq_no, eq_yes, lt_yes}
+use Rattle.cf_base.proofs.Ranges.{one, sum_at_least, sum_le}
+use Rattle.cf_base.proofs.Searches.{few_keys, fresh_key}
+use Rattle.cf_base.proofs.Tests.{eq_no, eq_yes, lt_yes}
 use Rattle.page_model.specs.Arrangement.{pages_of_class, live, not_full_pages, pages_needed, pages_needed_with}
 use Rattle.page_model.specs.Arrangement.{count_on, used_pages}
 use Rattle.page_model.specs.Counts.{LieOn, ceil_div}

@@ -10,7 +10,7 @@ use Rattle.quota_session.specs.Tasks.{Tasks, own_heap, is_for_task, task_leaves,
 use Rattle.std.proofs.lemmas.Bool.{and_parts, cases_eq, cases_lt, not-true, not-false}
 use Rattle.std.proofs.lemmas.List.{get_or-set_same, get_or-set_other, length-set, length-replicate}
 use Rattle.std.proofs.lemmas.List.Sums.{sum_by-cons}
-use Rattle.cf_lemmas.proofs.Tests.{eq_yes, eq_no, lt_no, lt_yes}
+use Rattle.cf_base.proofs.Tests.{eq_yes, eq_no, lt_no, lt_yes}
 use Rattle.quota_model.proofs.CallerLemmas.{zeros}
 use Rattle.quota_model.specs.declared.answers.QuotaFault.{QuotaFault}
 use Rattle.quota_model.specs.declared.answers.QuotaFault.TheVariants.{Sum, Used}

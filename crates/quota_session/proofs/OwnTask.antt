@@ -1,7 +1,7 @@
 -- A task answered from its own objects and quota, as by a heap of its own.
 use Rattle.std.proofs.Common.{◌≡◌, ℕ, ◌-◌, ◌<◌, List, cond, Some, None, map, arith, sym, ◌∙◌, ap, refl, ◌++◌, nat_eq, nat_lt, not, Option, length, replicate, subst, Result, Ok, Err, ◌≢◌, true, false, [], ◌∷◌, inl, inr, codes, get_or-set_other}
 use Rattle.run_model.specs.Terms.{Admit, asks, Block, Bound, classes, Command, Frag, Free, get, Handle, Held, IsPaging, IsSound, Malloc, Moving, Need, need, Objects, objects, Paging, Peek, Place, Profile, Quota, Read, Refusal, remove, Reply, Resize, said, Slice, Steps, Task, Walk, Write}
-use Rattle.cf_lemmas.proofs.Renaming.{CountAlike}
+use Rattle.cf_base.proofs.Renaming.{CountAlike}
 use Rattle.page_model.specs.Arrangement.{live, pages_needed, used_pages}
 use Rattle.page_model.specs.Figures.{figures_of}
 use Rattle.page_model.specs.Paging.{class_for}
@@ -16,7 +16,7 @@ use Rattle.script_laws.specs.ById.{paging_by_id, ById}
 use Rattle.script_laws.proofs.CallerLemmas.{figures_alike, figures_are, live_alike, needed_alike, needed_with_alike, said_alike, always_taken, by_id, bytes_by_id, free_by_id, malloc_by_id, malloc_text_by, refused, write_by_id}
 use Rattle.frag_report.specs.Classes.{totals_with}
 use Rattle.quota_session.specs.TaskRun.{class_lines, task_classes, task_report, task_totals, TaskRun, TaskStep, task_calls}
-use Rattle.cf_lemmas.proofs.Maps.{remove_missing}
+use Rattle.cf_base.proofs.Maps.{remove_missing}
 use Rattle.script_laws.specs.ObjectRun.{IsGoingObjects}
 use Rattle.quota_heap.specs.Steps.{IsMallocStep}
 use Rattle.quota_session.proofs.Isolated.{same_refusal}
@@ -26,7 +26,7 @@ use Rattle.script_laws.specs.RepliesById.{free_said, malloc_fault, malloc_leaves
 use Rattle.run_model.proofs.CallerLemmas.{by_id_counts}
 use Rattle.quota_session.proofs.RunInvariant.{task_keeps}
 use Rattle.std.proofs.lemmas.Bool.{cases_eq}
-use Rattle.cf_lemmas.proofs.Tests.{eq_yes, eq_no}
+use Rattle.cf_base.proofs.Tests.{eq_yes, eq_no}
 use Rattle.quota_model.specs.declared.answers.QuotaFault.{QuotaFault}
 use Rattle.script_laws.specs.Transcripts.{replies_from}
 use Rattle.quota_session.specs.Runs.{AreTaskCommands, LeaveQuota, own_commands, replies_to}

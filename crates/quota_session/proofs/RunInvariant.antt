@@ -1,7 +1,7 @@
 -- A run over tasks: what each call keeps, its invariant, its `heap` line and its commands.
 use Rattle.std.proofs.Common.{◌≡◌, ◌≢◌, ℕ, List, Some, None, length, replicate, sym, ◌∙◌, ap, refl, subst, ◌<◌, ◌≤◌, [], ◌∷◌, ◌++◌, cond, arith, inl, inr, zero, suc, get_or, lit<, ◌-◌, Option, option_map, Result, Ok, Err, IsTrue}
 use Rattle.run_model.specs.Terms.{AccessFault, at_bound_one, Command, empty, Failed, Freed, get, Handle, Ids, insert, IsWellFormed, led, len, Objects, objects, Placed, Position, Profile, Refusal, remove, Reply, SinkState, Walk, Writes, written}
-use Rattle.cf_lemmas.proofs.MapValues.{get-map_values}
+use Rattle.cf_base.proofs.MapValues.{get-map_values}
 use Rattle.cf_model.specs.Steps.{number_of}
 use Rattle.script_laws.proofs.CallerLemmas.{FreesOn, IsAccessFault, KeepsObjects, MallocsOn, WritesOn, malloc_refused, turn, still_going as still_ready}
 use Rattle.page_model.specs.Paging.{class_for}
@@ -13,7 +13,7 @@ use Rattle.quota_model.specs.Refusals.{task_paging}
 use Rattle.quota_session.specs.TaskRun.{TaskRun, task_calls, TaskStep, task_run, task_classes, task_report, task_totals}
 use Rattle.std.proofs.lemmas.Bool.{cases_eq, cases_lt}
 use Rattle.std.proofs.lemmas.List.{get_or-set_same, get_or-set_other, length-set, length-append, length-replicate, set-get_or}
-use Rattle.cf_lemmas.proofs.Tests.{lt_no, lt_yes}
+use Rattle.cf_base.proofs.Tests.{lt_no, lt_yes}
 use Rattle.cf_session.specs.declared.outcome.Outcome.{Outcome}
 use Rattle.quota_model.specs.declared.answers.Need.{Need}
 use Rattle.script_loop.specs.Semantics.{snapshot}
@@ -23,7 +23,7 @@ use Rattle.quota_session.specs.Playing.{quota_tasks, BeginsQuotas}
 use Rattle.quota_session.specs.QuotaRun.{AreTasksTied, HasSixteen, IsGoingQuotas, QuotaRun, QuotaStep, SetsQuota, StepsPresent, TaskSession, ids_of, needs_of, present_run, quota_run, with_ids, with_need, first_session}
 use Rattle.quota_session.specs.Transcript.{one_need_more}
 use Rattle.script_laws.specs.ObjectRun.{IsGoingObjects}
-use Rattle.cf_lemmas.proofs.Values.{map_values-empty, len-map_values}
+use Rattle.cf_base.proofs.Values.{map_values-empty, len-map_values}
 use Rattle.id_table.proofs.CallerLemmas.{none_tied, clash}
 use Rattle.cf_session.specs.Apply.{IsEnded, outcome_of}
 use Rattle.cf_session.proofs.CallerLemmas.{pages_other}

@@ -4,8 +4,8 @@ use Rattle.std.proofs.Common.{◌≡◌, ℕ, ◌<◌, ◌≤◌, List, [], ◌�
 use Rattle.std.specs.Prelude.{⊤, Option, nat_eq, nat_le, nat_lt, option_map, slice_set, sum}
 use Rattle.std.proofs.lemmas.Bool.{cases_eq}
 use Rattle.run_model.specs.Terms.{asks, at_bound_one, bad, Command, empty, Ids, Item, Profile, Reply, said, starts}
-use Rattle.cf_lemmas.proofs.Renaming.{CountAlike}
-use Rattle.cf_lemmas.proofs.Tests.{eq_no, eq_yes}
+use Rattle.cf_base.proofs.Renaming.{CountAlike}
+use Rattle.cf_base.proofs.Tests.{eq_no, eq_yes}
 use Rattle.quota_heap.specs.State.{empty_state, objects_by}
 use Rattle.quota_session.proofs.Admitted.{admission_is}
 use Rattle.quota_session.specs.Tasks.{Tasks, after_item, calls, is_for_task, no_tasks, quota_text, quotas_after, set_refusal, sets, task_leaves, task_reply}

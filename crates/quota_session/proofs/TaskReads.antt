@@ -5,8 +5,8 @@ use Rattle.std.proofs.lemmas.Bool.{cases_eq}
 use Rattle.run_model.specs.Terms.{AccessFault, asks, bad, Command, get, insert, Item, Objects, Refusal, remove, Reply, said, starts, written}
 use Rattle.cf_base.specs.declared.answers.AccessFault.TheVariants as access
 use Rattle.cf_base.specs.declared.answers.Refusal.TheVariants as refusal
-use Rattle.cf_lemmas.proofs.Tests.{eq_no, eq_yes}
-use Rattle.cf_lemmas.proofs.Maps.{remove_missing}
+use Rattle.cf_base.proofs.Tests.{eq_no, eq_yes}
+use Rattle.cf_base.proofs.Maps.{remove_missing}
 use Rattle.quota_session.specs.Tasks.{Tasks, own_heap, task_leaves, task_reply}
 use Rattle.quota_session.specs.Transcript.{MeetsTasks, TaskState, command_reply, present_after, reply_to_item, state_after, state_after_item, task_replies}
 use Rattle.script_laws.proofs.CallerLemmas.{changed_is}

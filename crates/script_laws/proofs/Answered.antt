@@ -2,15 +2,15 @@
 -- The files `Page…` and `BlockAnswers` prove them.
 use Rattle.std.proofs.Common.{◌≡◌, ℕ, ◌+◌, ◌*◌, ◌<◌, ◌≤◌, List, Option, Some, None, Result, Ok, arith, sym, ◌∙◌, refl, subst, inl, inr, option_map}
 use Rattle.run_model.specs.Terms.{AccessFault, AreBytes, CostsAtMost, CostsByKind, Freed, get, Handle, HeapState, insert, KeepsRules, len, Objects, objects, Placed, Position, Refusal, remove, Request, Resized, ResizeFault}
-use Rattle.cf_lemmas.proofs.Maps.{len_fresh, len_rebound, some_inserted, some_removed}
-use Rattle.cf_lemmas.proofs.MapValues.{get-map_values}
+use Rattle.cf_base.proofs.Maps.{len_fresh, len_rebound, some_inserted, some_removed}
+use Rattle.cf_base.proofs.MapValues.{get-map_values}
 use Rattle.page_model.specs.Order.{Order}
 use Rattle.page_model.proofs.CallerLemmas.{len-objects, bytes_held}
 use Rattle.cf_model.specs.Costs.{resize_bound}
 use Rattle.cf_model.specs.Ordered.{Follows, IsOrderedFree, IsOrderedMalloc, IsOrderedResize}
 use Rattle.cf_model.specs.Rules.{AreObjects}
 use Rattle.cf_model.specs.Steps.{FreesObject, IsMallocStep, IsResizeStep, IsWriteStep}
-use Rattle.cf_lemmas.proofs.Searches.{len_without}
+use Rattle.cf_base.proofs.Searches.{len_without}
 
 -- at most n objects, with numbers below n
 pub record AreFew (n : ℕ) (o : Objects) : Type 0 where

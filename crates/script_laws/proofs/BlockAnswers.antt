@@ -4,17 +4,17 @@ use Rattle.std.proofs.Common.{◌≡◌, ◌≢◌, ℕ, ◌+◌, ◌*◌, ◌<�
 use Rattle.std.specs.List.{Contains, IsDistinct}
 use Rattle.std.proofs.lemmas.Bool.{cases_eq, cases_lt}
 use Rattle.run_model.specs.Terms.{AreBytes, CostsAtMost, CostsByKind, Freed, get, HalfFit, Handle, HeapState, Held, insert, KeepsRules, Kind, len, Moving, need, NonMoving, objects, Placed, Position, Refusal, region_words, remove, Request, Tlsf, with_bound, written}
-use Rattle.cf_lemmas.proofs.Members.{contains_cases, contains_head, contains_tail, distinct_cons, distinct_head, distinct_tail}
+use Rattle.cf_base.proofs.Members.{contains_cases, contains_head, contains_tail, distinct_cons, distinct_head, distinct_tail}
 use Rattle.cf_base.specs.declared.answers.AccessFault.TheVariants as access
 use Rattle.cf_base.specs.declared.answers.Refusal.TheVariants as refusal
 use Rattle.cf_base.specs.declared.answers.ResizeFault.TheVariants as resize
-use Rattle.cf_lemmas.proofs.Maps.{get_insert_other, get_inserted, get_remove_other, get_removed, len_fresh, len_rebound}
-use Rattle.cf_lemmas.proofs.MapValues.{map_values-insert, map_values-remove}
+use Rattle.cf_base.proofs.Maps.{get_insert_other, get_inserted, get_remove_other, get_removed, len_fresh, len_rebound}
+use Rattle.cf_base.proofs.MapValues.{map_values-insert, map_values-remove}
 use Rattle.page_model.specs.Image.{IsOutside}
 use Rattle.page_model.specs.Order.{Order}
 use Rattle.page_model.specs.Steps.{CallResult, zeros_at}
 use Rattle.page_model.proofs.CallerLemmas.{len-objects, malloc_objects, length-written, written_are_bytes, zeros_are_bytes, bytes_held, bytes_missing}
-use Rattle.cf_lemmas.proofs.Tests.{eq_no}
+use Rattle.cf_base.proofs.Tests.{eq_no}
 use Rattle.block_model.specs.Buckets.{AreLawful, FreeLists}
 use Rattle.block_model.specs.Costs.{carve_steps, find_steps, release_steps}
 use Rattle.block_model.specs.FreeOrder.{AreListsOf, HaveLinks, lists_released}
@@ -35,7 +35,7 @@ use Rattle.run_model.specs.Steps.{class_to_bound}
 use Rattle.script_laws.proofs.Answered.{AreFew, HasFree, HasMalloc, HasResize, HasWrite, few_added, few_changed, few_in, few_left, follows_none, follows_same, follows_some}
 use Rattle.script_laws.proofs.Answered.{objects_in}
 use Rattle.script_laws.proofs.LinkedWords.{length-linked, linked, linked_links, linked_words}
-use Rattle.cf_lemmas.proofs.Searches.{fresh_key, len_without}
+use Rattle.cf_base.proofs.Searches.{fresh_key, len_without}
 
 -- ---- the numbers without an object
 

@@ -5,7 +5,7 @@ use Rattle.std.specs.Prelude.{⊤, option_map}
 use Rattle.std.specs.FinMap.{empty, get, get-empty}
 use Rattle.std.specs.Ordering.{nat_cmp}
 use Rattle.run_model.specs.Terms.{Admit, asks, bad, Block, Bound, Command, Frag, Free, Held, IsGoing, Item, Kind, Malloc, Need, Peek, Place, Profile, Quota, Read, Reply, Resize, RunState, said, Slice, starts, Steps, Task, Walk, Write}
-use Rattle.cf_lemmas.proofs.Maps.{equal_maps}
+use Rattle.cf_base.proofs.Maps.{equal_maps}
 use Rattle.run_model.specs.Plays.{IsAt, PlayRun}
 use Rattle.run_model.specs.Replies.{block_text_at, place_text, read_text}
 use Rattle.run_model.specs.Runs.{Begins, BeginsOne, IsCommandStep, Run}

@@ -7,9 +7,9 @@ use Rattle.run_model.specs.Terms.{Admit, asks, bad, Block, Bound, class_at, clas
 use Rattle.cf_base.specs.declared.answers.AccessFault.TheVariants as access
 use Rattle.cf_base.specs.declared.answers.Refusal.TheVariants as refusal
 use Rattle.cf_base.specs.declared.answers.ResizeFault.TheVariants as resize
-use Rattle.cf_lemmas.proofs.Values.{map_values-empty}
-use Rattle.cf_lemmas.proofs.Tests.{eq_no, eq_yes, lt_no, lt_yes}
-use Rattle.cf_lemmas.proofs.Maps.{remove_missing}
+use Rattle.cf_base.proofs.Values.{map_values-empty}
+use Rattle.cf_base.proofs.Tests.{eq_no, eq_yes, lt_no, lt_yes}
+use Rattle.cf_base.proofs.Maps.{remove_missing}
 use Rattle.page_model.specs.Arrangement.{LacksRoom, live, pages_needed_with}
 use Rattle.page_model.specs.Figures.{figures_of, totals_of}
 use Rattle.page_model.specs.Paging.{class_for}

@@ -5,8 +5,8 @@ use Rattle.std.specs.List.{Contains, IsDistinct, range_with_len}
 use Rattle.std.proofs.lemmas.Bool.{cases_eq}
 use Rattle.std.proofs.lemmas.List.FromFn.{length-map-range_with_len, get_or-map-range_with_len}
 use Rattle.std.proofs.lemmas.Option.{same_Some as same_block}
-use Rattle.cf_lemmas.proofs.Members.{contains_head, contains_tail, distinct_head, distinct_tail}
-use Rattle.cf_lemmas.proofs.Tests.{eq_yes, eq_no}
+use Rattle.cf_base.proofs.Members.{contains_head, contains_tail, distinct_head, distinct_tail}
+use Rattle.cf_base.proofs.Tests.{eq_yes, eq_no}
 use Rattle.block_model.specs.Buckets.{FreeLists}
 use Rattle.block_model.specs.FreeOrder.{AreListsOf, AreThreaded, HaveLinks, first, link_word, list_in, no_block}
 use Rattle.block_model.specs.ReadWords.{tiling_words}

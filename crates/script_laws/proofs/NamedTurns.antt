@@ -5,7 +5,7 @@ use Rattle.std.proofs.lemmas.Bool.{cases_eq}
 use Rattle.std.specs.Ordering.{nat_cmp}
 use Rattle.std.specs.FinMap.{empty, get, get-empty, insert, remove}
 use Rattle.run_model.specs.Terms.{asks, bad, Command, Free, Ids, Item, Malloc, Objects, Profile, Read, Reply, Resize, said, starts, Write, written}
-use Rattle.cf_lemmas.proofs.Maps.{get_inserted, get_insert_other, get_removed, get_remove_other}
+use Rattle.cf_base.proofs.Maps.{get_inserted, get_insert_other, get_removed, get_remove_other}
 use Rattle.id_table.proofs.CallerLemmas.{tied_less, tied_more, tied_same}
 use Rattle.id_table.specs.Ties.{AreTiedTo}
 use Rattle.page_model.specs.Steps.{resized}

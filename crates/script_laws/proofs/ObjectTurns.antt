@@ -9,7 +9,7 @@ use Rattle.run_model.specs.Steps.{Stays, ids_given}
 use Rattle.script_laws.specs.IdBytes.{is_ok, read_shown}
 use Rattle.script_laws.proofs.NamedTurns.{IsSame, Named, NamedTurn, NamesObjects, refuses, same_named, still_tied, through}
 use Rattle.hex.specs.Hex.{encode_lower}
-use Rattle.cf_lemmas.proofs.Tests.{le_no, le_yes}
+use Rattle.cf_base.proofs.Tests.{le_no, le_yes}
 use Rattle.script_laws.specs.ValidItems.{IsValidCommand}
 use Rattle.script_laws.proofs.RunsExist.{CanGoOn}
 use Rattle.std.proofs.lemmas.Option.{same_Some}

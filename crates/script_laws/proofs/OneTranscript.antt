@@ -3,8 +3,8 @@ use Rattle.std.proofs.Common.{◌≡◌, ℕ, ◌<◌, List, [], ◌∷◌, Opti
 use Rattle.std.proofs.lemmas.Grind.{same_number_lists}
 use Rattle.run_model.specs.Terms.{asks, bad, Block, Bound, Command, EveryBoundIsOne, get, IsGoing, IsPaged, Item, Kind, paging_in, Peek, Place, Placed, Reply, RunState, starts, Steps}
 use Rattle.cf_base.specs.Classes.{sizes}
-use Rattle.cf_lemmas.proofs.Maps.{equal_maps}
-use Rattle.cf_lemmas.proofs.MapValues.{get-map_values}
+use Rattle.cf_base.proofs.Maps.{equal_maps}
+use Rattle.cf_base.proofs.MapValues.{get-map_values}
 use Rattle.cf_model.specs.State.{layout_of}
 use Rattle.cf_model.proofs.CallerLemmas.{pages_kept}
 use Rattle.run_model.specs.Runs.{Run}

@@ -4,9 +4,9 @@ use Rattle.std.proofs.Common.{◌≡◌, ◌≢◌, ℕ, ◌+◌, ◌≤◌, Lis
 use Rattle.std.proofs.lemmas.Bool.{cases_eq, cases_lt}
 use Rattle.run_model.specs.Terms.{class_at, get, Handle, HeapState, Held, insert, IsPaged, IsPaging, IsSound, KeepsRules, need, objects, Paging, paging_in, Placed, Request, Resized, ResizeFault}
 use Rattle.cf_base.specs.declared.answers.ResizeFault.TheVariants as resize
-use Rattle.cf_lemmas.proofs.MapValues.{map_values-insert}
-use Rattle.cf_lemmas.proofs.Searches.{there_or_not}
-use Rattle.cf_lemmas.proofs.Sums.{insert_again}
+use Rattle.cf_base.proofs.MapValues.{map_values-insert}
+use Rattle.cf_base.proofs.Searches.{there_or_not}
+use Rattle.cf_base.proofs.Sums.{insert_again}
 use Rattle.page_model.specs.Image.{slot_for}
 use Rattle.page_model.specs.Order.{IsOrderOf, Order, ResizeFollows, word_steps}
 use Rattle.page_model.specs.Paging.{class_for}

@@ -7,17 +7,17 @@ use Rattle.std.proofs.lemmas.Bool.Decides.{nat_tests}
 use Rattle.std.proofs.lemmas.List.{get_or_past, length-replicate, get_or-set_same, get_or-set_other, length-set, set_past}
 use Rattle.std.proofs.lemmas.List.FromFn.{get_or-map-range_with_len, length-map-range_with_len}
 use Rattle.std.specs.FinMap.{get, insert, len, empty, get-empty}
-use Rattle.cf_lemmas.proofs.Tests.{and_false, eq_no}
-use Rattle.cf_lemmas.proofs.Induction.{map_induction}
-use Rattle.cf_lemmas.proofs.Maps.{get_inserted, equal_maps, get_removed}
+use Rattle.cf_base.proofs.Tests.{and_false, eq_no}
+use Rattle.cf_base.proofs.Induction.{map_induction}
+use Rattle.cf_base.proofs.Maps.{get_inserted, equal_maps, get_removed}
 use Rattle.run_model.specs.Terms.{Held, IsSound, Paging, Placed, IsPaging, classes, page_of, HalfFit, Handle, HeapState, IsPaged, KeepsRules, Kind, Moving, NonMoving, paging_in, Tlsf, CostsAtMost, CostsByKind, objects, region_words, need, Refusal, AreBytes, Position, with_bound, written}
 use Rattle.page_model.specs.Image.{IsApart, IsImageOver, IsOutside, IsSlotImage, Rewrites, object_word, slot_for}
-use Rattle.cf_lemmas.proofs.Values.{still}
+use Rattle.cf_base.proofs.Values.{still}
 use Rattle.page_model.proofs.CallerLemmas.{image_added, image_empty, object_inside, sound_apart, IsOpen, address_is_slot, nothing_on, open_counts, open_page, slots_some, vacant_where_less, in_blocks, own_words, can_malloc, class_fits, len-objects, malloc_objects, sound_malloc, zeros_are_bytes, bytes_missing, length-written, order_bounded, order_in_place, sound_empty, sound_exchanged, written_are_bytes, bytes_held}
 use Rattle.page_model.specs.Arrangement.{LacksRoom, not_full_pages, count_on}
 use Rattle.page_model.specs.Paging.{address_of, class_for, paging_of}
 use Rattle.page_model.specs.Steps.{IsFreePlace, CallResult, zeros_at}
-use Rattle.cf_lemmas.proofs.Searches.{search_below, fresh_key, len_without, there_or_not}
+use Rattle.cf_base.proofs.Searches.{search_below, fresh_key, len_without, there_or_not}
 use Rattle.page_model.specs.Frames.{AreBlocks, IsPermuted, frames_after}
 use Rattle.cf_model.specs.Rules.{KeepsPages, KeepsRulesOf, KeepsTable}
 use Rattle.cf_model.specs.State.{layout_of}
@@ -30,8 +30,8 @@ use Rattle.cf_model.specs.ExactCosts.{malloc_cost}
 use Rattle.cf_model.specs.Ordered.{IsOrderedMalloc, MallocByOrder}
 use Rattle.script_laws.proofs.OrderCosts.{malloc_few}
 use Rattle.std.specs.Ordering.{nat_cmp}
-use Rattle.cf_lemmas.proofs.MapValues.{map_values-insert}
-use Rattle.cf_lemmas.proofs.Sums.{insert_again}
+use Rattle.cf_base.proofs.MapValues.{map_values-insert}
+use Rattle.cf_base.proofs.Sums.{insert_again}
 use Rattle.run_model.specs.Steps.{class_to_bound}
 use Rattle.cf_base.specs.declared.answers.Refusal.TheVariants as refusal
 use Rattle.cf_base.specs.declared.answers.AccessFault.TheVariants as access

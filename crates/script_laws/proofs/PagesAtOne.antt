@@ -4,16 +4,16 @@ use Rattle.std.proofs.Common.{◌≡◌, ℕ, zero, suc, ◌+◌, ◌-◌, ◌*�
 use Rattle.std.specs.List.{range_with_len}
 use Rattle.std.proofs.lemmas.Nat.{mod-mul-add}
 use Rattle.std.proofs.Math.Nat.{mul-mod_left}
-use Rattle.cf_lemmas.proofs.Ranges.{one}
+use Rattle.cf_base.proofs.Ranges.{one}
 use Rattle.page_model.specs.Held.{Held, Objects, objects}
 use Rattle.page_model.specs.Paging.{Paging, IsPaging, EveryBoundIsOne, classes, slot_words, slots_of, class_for}
 use Rattle.page_model.specs.Counts.{LieOn, ceil_div}
 use Rattle.page_model.specs.Figures.{figures_of, totals_of}
 use Rattle.page_model.specs.Arrangement.{live, pages_of_class, not_full_pages, pages_needed, pages_needed_with, IsSound}
-use Rattle.cf_lemmas.proofs.Tests.{eq_no, eq_yes}
+use Rattle.cf_base.proofs.Tests.{eq_no, eq_yes}
 use Rattle.page_model.proofs.CallerLemmas.{slots_some, sound_stand, can_hold_one, used_at_one, sum_same}
 use Rattle.script_laws.specs.AtOne.{figures_at_one, part_pages, totals_at_one}
-use Rattle.cf_lemmas.proofs.Renaming.{CountAlike}
+use Rattle.cf_base.proofs.Renaming.{CountAlike}
 
 divides : (n m : ℕ) → n % m ≡ 0 → part_pages n m ≡ 0
 divides n m is = (let e = eq_yes (n % m) 0 is in rw e)

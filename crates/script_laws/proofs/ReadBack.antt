@@ -4,7 +4,7 @@ use Rattle.run_model.specs.Terms.{AccessFault, Bound, Command, Free, get, Handle
 use Rattle.cf_base.specs.declared.answers.AccessFault.TheVariants as access
 use Rattle.cf_base.specs.declared.answers.Refusal.TheVariants as refusal
 use Rattle.cf_base.specs.declared.answers.ResizeFault.TheVariants as resize
-use Rattle.cf_lemmas.proofs.MapValues.{get-map_values, map_values-insert}
+use Rattle.cf_base.proofs.MapValues.{get-map_values, map_values-insert}
 use Rattle.page_model.proofs.CallerLemmas.{malloc_objects, bytes_held, bytes_missing}
 use Rattle.cf_model.specs.Steps.{IsMallocStep, IsResizeStep, IsWriteStep}
 use Rattle.run_model.specs.Replies.{malloc_text, object_of, read_text, resize_text, write_text}

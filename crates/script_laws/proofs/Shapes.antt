@@ -10,7 +10,7 @@ use Rattle.cf_base.specs.declared.answers.Figures.{Figures}
 use Rattle.cf_base.specs.declared.answers.Refusal.TheVariants as refusal
 use Rattle.cf_base.specs.declared.answers.ResizeFault.TheVariants as resize
 use Rattle.cf_base.specs.declared.answers.Totals.{Totals}
-use Rattle.cf_lemmas.proofs.Tests.{eq_no}
+use Rattle.cf_base.proofs.Tests.{eq_no}
 use Rattle.page_model.specs.Arrangement.{live}
 use Rattle.page_model.specs.Figures.{figures_of}
 use Rattle.cf_model.specs.Answers.{block_of_object, classes_in}

@@ -2,8 +2,8 @@
 use Rattle.std.proofs.Common.{◌≡◌, ◌≢◌, ℕ, ◌-◌, ◌*◌, ◌≤◌, ◌<◌, Some, length, cond, sym, ◌∙◌, ap, subst, inl, inr, count_by, nat_eq, nat_lt, [], Option, None, refl, ◌+◌, List, ◌∷◌, arith, slice_index}
 use Rattle.std.specs.List.{range_with_len}
 use Rattle.run_model.specs.Terms.{class_at, classes, family_of, get, HalfFit, Handle, HeapState, Held, Ids, insert, IsGoing, IsPaging, IsSound, Kind, len, Moving, NonMoving, objects, page_of, paged, Paging, paging_in, Placed, remove, RunState, slot_words, slots_of, tiled, Tlsf}
-use Rattle.cf_lemmas.proofs.Ranges.{one}
-use Rattle.cf_lemmas.proofs.Renaming.{CountAlike}
+use Rattle.cf_base.proofs.Ranges.{one}
+use Rattle.cf_base.proofs.Renaming.{CountAlike}
 use Rattle.page_model.specs.Arrangement.{LacksRoom, pages_of_class, is_on, live, not_full_pages, objects_on, count_on, used_pages}
 use Rattle.page_model.specs.Figures.{asked_bytes, figures_of, taken_bytes, totals_of}
 use Rattle.page_model.specs.Paging.{bound_of, class_for}
@@ -11,15 +11,15 @@ use Rattle.page_model.specs.Steps.{IsFreePlace, MayFill, MustMove, Moves, moved_
 use Rattle.page_model.proofs.CallerLemmas.{len-objects, live_is, not_full-same, sum-map_values, sum_same, mover_is_other}
 use Rattle.std.specs.Prelude.{⊤}
 use Rattle.std.proofs.lemmas.Bool.{cases_eq}
-use Rattle.cf_lemmas.proofs.Maps.{equal_maps, get_inserted, get_insert_other, get_remove_other}
-use Rattle.cf_lemmas.proofs.Sums.{insert_again}
+use Rattle.cf_base.proofs.Maps.{equal_maps, get_inserted, get_insert_other, get_remove_other}
+use Rattle.cf_base.proofs.Sums.{insert_again}
 use Rattle.id_table.proofs.CallerLemmas.{tied_less, tied_same}
 use Rattle.page_model.specs.Frames.{found, frames_moved}
 use Rattle.cf_model.specs.Steps.{frames_left, number_of}
 use Rattle.run_model.specs.Replies.{object_of}
 use Rattle.run_model.proofs.CallerLemmas.{changed_renamed, found_renamed, gone_renamed, gone_with, live_renamed, renamed, renamed_counts}
 use Rattle.script_laws.specs.ShownHeap.{ShownHeap}
-use Rattle.cf_lemmas.proofs.Tests.{eq_no, eq_yes}
+use Rattle.cf_base.proofs.Tests.{eq_no, eq_yes}
 use Rattle.page_model.specs.Image.{object_word}
 use Rattle.block_model.specs.Tiling.{Block, Fill, block_at}
 use Rattle.block_model.specs.Words.{HaveHeaders, block_header}

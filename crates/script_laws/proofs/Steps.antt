@@ -9,7 +9,7 @@ use Rattle.cf_base.specs.declared.answers.AccessFault.TheVariants as access
 use Rattle.cf_base.specs.declared.answers.Refusal.TheVariants as refusal
 use Rattle.cf_base.specs.declared.answers.ResizeFault.TheVariants as resize
 use Rattle.cf_base.specs.declared.answers.Totals.{Totals}
-use Rattle.cf_lemmas.proofs.Tests.{le_no, le_yes, lt_no, lt_yes}
+use Rattle.cf_base.proofs.Tests.{le_no, le_yes, lt_no, lt_yes}
 use Rattle.page_model.specs.Image.{slot_for}
 use Rattle.page_model.specs.Paging.{class_for}
 use Rattle.page_model.specs.Steps.{CallResult, Moves, RefitsObject, resized_at, without, zeros_at}

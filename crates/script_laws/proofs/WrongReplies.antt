@@ -13,7 +13,7 @@ use Rattle.run_model.specs.Terms.{asks, Command, family_of, Free, HeapState, IsP
 use Rattle.cf_base.specs.declared.answers.Refusal.TheVariants as refusal
 use Rattle.cf_io.specs.Numbers.{is_digit, number_in}
 use Rattle.cf_io.proofs.CallerLemmas.{number_of_decimal, spells}
-use Rattle.cf_lemmas.proofs.Maps.{get_inserted, get_insert_other}
+use Rattle.cf_base.proofs.Maps.{get_inserted, get_insert_other}
 use Rattle.page_model.specs.Arrangement.{IsSlotAt, live, pages_needed, pages_needed_with}
 use Rattle.page_model.specs.Figures.{asked_bytes, taken_bytes}
 use Rattle.page_model.specs.Counts.{ceil_div}

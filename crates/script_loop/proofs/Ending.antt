@@ -3,7 +3,7 @@
 use Rattle.std.proofs.Common.{◌≡◌, ◌≤◌, ◌<◌, ◌+◌, ◌-◌, ◌++◌, ◌∙◌, Bool, true, false, List, [], ◌∷◌, ℕ, Option, Some, None, refl, ap, ap₂, sym, subst, length, take, append_assoc, append-nil, length-append, arith, le-leb, take_all, take_at, nat_le}
 use Rattle.std.proofs.Math.Seq.{take-append-add}
 use Rattle.run_model.specs.Terms.{appended, Item, items, text_of}
-use Rattle.cf_lemmas.proofs.Tests.{le_no}
+use Rattle.cf_base.proofs.Tests.{le_no}
 use Rattle.script_reader.specs.Reading.{Reading, fresh, items_left}
 use Rattle.script_reader.proofs.CallerLemmas.{finished_left}
 use Rattle.run_model.proofs.CallerLemmas.{run_joined, text_joined}

@@ -6,8 +6,8 @@ use Rattle.std.proofs.lemmas.Bool.{cases_lt, lt-leb, le-leb}
 use Rattle.std.proofs.lemmas.List.{get_or_append_left, get_or-append_right}
 use Rattle.cf_base.specs.Classes.{need, class_of}
 use Rattle.cf_base.specs.Rising.{AreSizes}
-use Rattle.cf_base.proofs.CallerLemmas.{size_within}
-use Rattle.cf_lemmas.proofs.Positions.{position_is, position_none}
+use Rattle.cf_base.proofs.Rising.{size_within}
+use Rattle.cf_base.proofs.Positions.{position_is, position_none}
 
 -- the first size that is large enough, if all sizes before it are too small
 pub least_size : (sizes : List ℕ) (n c : ℕ) → c < length sizes → ((k : ℕ) → k < c → get_or sizes k 0 < n) → n ≤ get_or sizes c 0

@@ -11,9 +11,9 @@ use Rattle.std.proofs.lemmas.Nat.{div-add-mod', le-div, mul-le}
 use Rattle.std.proofs.Math.Nat.{mod-lt}
 use Rattle.cf_base.specs.Classes.{need}
 use Rattle.cf_base.specs.Settings.{Profile}
-use Rattle.cf_lemmas.proofs.Positions.{position_none}
-use Rattle.cf_lemmas.proofs.Ranges.{one, sum_at_least, sum_grows, sum_le}
-use Rattle.cf_lemmas.proofs.Tests.{eq_yes, lt_no, lt_yes}
+use Rattle.cf_base.proofs.Positions.{position_none}
+use Rattle.cf_base.proofs.Ranges.{one, sum_at_least, sum_grows, sum_le}
+use Rattle.cf_base.proofs.Tests.{eq_yes, lt_no, lt_yes}
 use Rattle.page_model.specs.Counts.{ceil_div}
 use Rattle.page_model.specs.Held.{Objects}
 use Rattle.page_model.specs.Paging.{IsPaging, Paging, class_for, classes, slots_of}

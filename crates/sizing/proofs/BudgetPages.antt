@@ -8,11 +8,11 @@ use Rattle.std.proofs.lemmas.Bool.{cases_eq, cases_lt}
 use Rattle.std.proofs.lemmas.List.Sums.{sum_by-cons}
 use Rattle.std.proofs.lemmas.Nat.{le-div, mul-le}
 use Rattle.std.specs.FinMap.{empty, insert, values}
-use Rattle.cf_lemmas.proofs.Induction.{map_induction}
-use Rattle.cf_lemmas.proofs.Ranges.{one, sum_at_least, sum_le}
-use Rattle.cf_lemmas.proofs.Sums.{sum_by-inserted}
-use Rattle.cf_lemmas.proofs.Tests.{eq_no, eq_yes}
-use Rattle.cf_lemmas.proofs.Values.{no_values}
+use Rattle.cf_base.proofs.Induction.{map_induction}
+use Rattle.cf_base.proofs.Ranges.{one, sum_at_least, sum_le}
+use Rattle.cf_base.proofs.Sums.{sum_by-inserted}
+use Rattle.cf_base.proofs.Tests.{eq_no, eq_yes}
+use Rattle.cf_base.proofs.Values.{no_values}
 use Rattle.page_model.specs.Arrangement.{IsSound, LacksRoom, class_at, live, not_full_pages, pages_needed, pages_needed_with, pages_of_class, used_pages}
 use Rattle.page_model.specs.Counts.{CanHold, LieOn, ceil_div}
 use Rattle.page_model.specs.Held.{Held, Objects, objects}

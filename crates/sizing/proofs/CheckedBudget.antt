@@ -8,7 +8,7 @@ use Rattle.std.proofs.lemmas.Bool.{cases_eq}
 use Rattle.std.proofs.lemmas.List.{get_or-replicate, get_or-take, length-replicate, length-take-le}
 use Rattle.std.proofs.lemmas.Nat.{mul-le}
 use Rattle.cf_base.specs.Classes.{slots}
-use Rattle.cf_lemmas.proofs.Ranges.{sum_le}
+use Rattle.cf_base.proofs.Ranges.{sum_le}
 use Rattle.cf_model.specs.State.{HeapState, paging_in}
 use Rattle.page_model.specs.Counts.{ceil_div}
 use Rattle.page_model.specs.Paging.{EveryBoundIsOne, IsPaging, Paging, bound_of, class_for, classes, slots_of}

@@ -10,8 +10,8 @@ use Rattle.cf_base.specs.Classes.{sizes}
 use Rattle.cf_base.specs.Limits.{is_page_size}
 use Rattle.cf_base.specs.Settings.{Profile}
 use Rattle.cf_base.specs.declared.kind.Layout.{Layout}
-use Rattle.cf_lemmas.proofs.Ranges.{sum_range_same}
-use Rattle.cf_lemmas.proofs.Tests.{eq_no, eq_yes}
+use Rattle.cf_base.proofs.Ranges.{sum_range_same}
+use Rattle.cf_base.proofs.Tests.{eq_no, eq_yes}
 use Rattle.page_model.specs.Counts.{most_pages}
 use Rattle.page_model.specs.Paging.{IsPaging, Paging, bound_of, class_for, classes, paging_of, slots_of}
 use Rattle.page_model.proofs.CallerLemmas.{paged}

@@ -5,7 +5,7 @@ use Rattle.std.specs.List.{range_with_len}
 use Rattle.std.proofs.lemmas.Bool.{cases_eq, cases_lt}
 use Rattle.std.proofs.lemmas.List.Sums.{sum_by-cons}
 use Rattle.std.proofs.lemmas.Nat.{le-div}
-use Rattle.cf_lemmas.proofs.Ranges.{one, sum_changed, sum_le}
+use Rattle.cf_base.proofs.Ranges.{one, sum_changed, sum_le}
 use Rattle.page_model.specs.Arrangement.{IsSound, class_at, count_on, live, not_full_pages, objects_on, pages_of_class}
 use Rattle.page_model.specs.Counts.{LieOn, ceil_div}
 use Rattle.std.specs.FinMap.{get}

@@ -7,11 +7,11 @@ use Rattle.std.proofs.lemmas.List.{append-nil, append_assoc, length-append, leng
 use Rattle.std.specs.Ordering.{nat_cmp}
 use Rattle.std.specs.FinMap.{empty, get, insert, len, len-empty, values}
 use Rattle.cf_base.specs.Settings.{Profile}
-use Rattle.cf_lemmas.proofs.Maps.{len_fresh}
-use Rattle.cf_lemmas.proofs.Ranges.{one}
-use Rattle.cf_lemmas.proofs.Searches.{fresh_key}
-use Rattle.cf_lemmas.proofs.Sums.{sum_by-inserted}
-use Rattle.cf_lemmas.proofs.Values.{no_values}
+use Rattle.cf_base.proofs.Maps.{len_fresh}
+use Rattle.cf_base.proofs.Ranges.{one}
+use Rattle.cf_base.proofs.Searches.{fresh_key}
+use Rattle.cf_base.proofs.Sums.{sum_by-inserted}
+use Rattle.cf_base.proofs.Values.{no_values}
 use Rattle.page_model.specs.Arrangement.{IsSound, LacksRoom, free_pages, live, not_full_pages, pages_needed}
 use Rattle.page_model.specs.Held.{Held, Objects, Placed, objects}
 use Rattle.page_model.specs.Order.{IsOrderOf, Order}

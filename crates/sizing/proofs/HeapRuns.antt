@@ -6,7 +6,7 @@ use Rattle.cf_base.specs.declared.answers.Freed.{Freed}
 use Rattle.cf_base.specs.declared.answers.Handle.{Handle}
 use Rattle.cf_base.specs.declared.answers.Refusal.TheVariants as refusal
 use Rattle.cf_base.specs.declared.answers.ResizeFault.TheVariants as resize
-use Rattle.cf_lemmas.proofs.Searches.{fresh_key}
+use Rattle.cf_base.proofs.Searches.{fresh_key}
 use Rattle.page_model.specs.Arrangement.{LacksRoom, class_at}
 use Rattle.page_model.specs.Bytes.{written}
 use Rattle.page_model.specs.Held.{Held, Objects, Placed, objects}

@@ -11,9 +11,9 @@ use Rattle.std.proofs.lemmas.Nat.{div-add-mod', mul-le}
 use Rattle.std.proofs.Math.Nat.{le-max_left, le-max_right, le-min, max-le, min-le_left, min-le_right, mod-lt}
 use Rattle.std.specs.FinMap.{empty, get, insert}
 use Rattle.cf_base.specs.Settings.{Profile}
-use Rattle.cf_lemmas.proofs.Ranges.{one, sum_le, sum_range_same}
-use Rattle.cf_lemmas.proofs.Tests.{eq_no, eq_yes}
-use Rattle.cf_lemmas.proofs.Values.{no_values}
+use Rattle.cf_base.proofs.Ranges.{one, sum_le, sum_range_same}
+use Rattle.cf_base.proofs.Tests.{eq_no, eq_yes}
+use Rattle.cf_base.proofs.Values.{no_values}
 use Rattle.page_model.specs.Arrangement.{IsSound, class_at, live, pages_of_class, used_pages}
 use Rattle.page_model.specs.Counts.{ceil_div, most_pages}
 use Rattle.page_model.specs.Held.{Held, Objects, Placed, objects}

@@ -12,8 +12,8 @@ use Rattle.cf_base.specs.Settings.{Profile}
 use Rattle.cf_base.specs.declared.kind.Layout.{Layout}
 use Rattle.cf_base.specs.declared.kind.Layout.TheVariants.{Words}
 use Rattle.cf_base.proofs.Sizes.{map-one, sizes_from-next, sizes_from-page}
-use Rattle.cf_lemmas.proofs.Ranges.{sum_grows}
-use Rattle.cf_lemmas.proofs.Tests.{and_false, eq_no, eq_yes, le_no, le_yes, lt_no, lt_yes}
+use Rattle.cf_base.proofs.Ranges.{sum_grows}
+use Rattle.cf_base.proofs.Tests.{and_false, eq_no, eq_yes, le_no, le_yes, lt_no, lt_yes}
 use Rattle.page_model.specs.Counts.{ceil_div}
 use Rattle.page_model.specs.Paging.{IsPaging, Paging, class_for, classes, first_bounds, paging_of, slot_words, slots_of}
 use Rattle.page_model.proofs.CallerLemmas.{class_holds, first_paged}

@@ -2,7 +2,7 @@
 -- slot at most two.
 use Rattle.std.proofs.Common.{◌≡◌, ℕ, Some, arith, sym, ◌∙◌, subst}
 use Rattle.std.specs.FinMap.{get, insert}
-use Rattle.cf_lemmas.proofs.Maps.{get_inserted, get_insert_other}
+use Rattle.cf_base.proofs.Maps.{get_inserted, get_insert_other}
 use Rattle.page_model.specs.Arrangement.{IsSound}
 use Rattle.page_model.specs.Held.{Placed}
 use Rattle.page_model.proofs.CallerLemmas.{not_full-same}

@@ -8,8 +8,8 @@ use Rattle.std.proofs.lemmas.List.{length-take, length-replicate, get_or-take, g
 use Rattle.std.proofs.lemmas.Grind.{same_number_lists}
 use Rattle.std.specs.FinMap.{get, insert, remove}
 use Rattle.cf_base.specs.Classes.{need}
-use Rattle.cf_lemmas.proofs.Maps.{get_inserted, get_insert_other, get_remove_other, some_inserted, some_removed}
-use Rattle.cf_lemmas.proofs.Values.{still}
+use Rattle.cf_base.proofs.Maps.{get_inserted, get_insert_other, get_remove_other, some_inserted, some_removed}
+use Rattle.cf_base.proofs.Values.{still}
 use Rattle.page_model.specs.Arrangement.{class_at}
 use Rattle.page_model.specs.Bytes.{AreBytes, byte_of, written}
 use Rattle.page_model.specs.Held.{Held, Placed}

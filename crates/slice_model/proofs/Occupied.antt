@@ -10,7 +10,7 @@ use Rattle.std.proofs.lemmas.List.{length-replicate}
 use Rattle.std.proofs.lemmas.List.Sums.{fails_before_first}
 use Rattle.std.specs.FinMap.{get, insert, remove}
 use Rattle.cf_base.specs.Classes.{need}
-use Rattle.cf_lemmas.proofs.Maps.{equal_maps, get_inserted, get_insert_other, some_inserted}
+use Rattle.cf_base.proofs.Maps.{equal_maps, get_inserted, get_insert_other, some_inserted}
 use Rattle.page_model.specs.Arrangement.{IsSlotAt, LacksRoom, class_at, not_full_pages, objects_on, count_on}
 use Rattle.page_model.specs.Held.{Held, Placed}
 use Rattle.page_model.specs.Paging.{IsPaging, Paging, address_of, class_for, classes, page_of, slot_words}
@@ -19,7 +19,7 @@ use Rattle.page_model.proofs.CallerLemmas.{class_fits, class_holds, slot_fits, s
 use Rattle.page_model.proofs.CallerLemmas.{on_yes, standing, objects_on-inserted, objects_on-left}
 use Rattle.slice_model.specs.State.{Plan, IsPlan, JobSlot, Job, Sliced, IsUnderWay, IsJobOf, IsKept, IsUsable, IsFreePage, NoPlace, IsPlaceFor, job_slot}
 use Rattle.slice_model.specs.State.{occupied, placeholder, with_slot, Idle, Clear, Move}
-use Rattle.cf_lemmas.proofs.Searches.{search_below}
+use Rattle.cf_base.proofs.Searches.{search_below}
 use Rattle.page_model.proofs.CallerLemmas.{IsOpen, IsVacant, less_where_vacant, vacant_where_less, open_counts, open_page}
 
 -- the placeholder of a slot is of its class

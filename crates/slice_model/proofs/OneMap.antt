@@ -7,8 +7,8 @@ use Rattle.std.proofs.lemmas.List.{length-take, get_or-take, get_or-drop}
 use Rattle.std.proofs.lemmas.Grind.{same_number_lists}
 use Rattle.std.specs.FinMap.{get, insert, remove}
 use Rattle.cf_base.specs.declared.answers.Handle.{Handle}
-use Rattle.cf_lemmas.proofs.MapValues.{map_values-insert, map_values-remove}
-use Rattle.cf_lemmas.proofs.Maps.{some_inserted, some_removed}
+use Rattle.cf_base.proofs.MapValues.{map_values-insert, map_values-remove}
+use Rattle.cf_base.proofs.Maps.{some_inserted, some_removed}
 use Rattle.page_model.specs.Arrangement.{class_at}
 use Rattle.page_model.specs.Bytes.{AreBytes, written}
 use Rattle.page_model.specs.Held.{Held, Objects, Placed, objects}

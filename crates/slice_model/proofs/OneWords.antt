@@ -4,8 +4,8 @@ use Rattle.std.proofs.Common.{◌≡◌, ◌≢◌, ℕ, ◌+◌, List, length, 
 use Rattle.std.specs.Prelude.{◌⊎◌}
 use Rattle.std.proofs.lemmas.Bool.{cases_eq}
 use Rattle.std.proofs.lemmas.Grind.{same_number_lists}
-use Rattle.cf_lemmas.proofs.Maps.{found_once}
-use Rattle.cf_lemmas.proofs.Searches.{search_below}
+use Rattle.cf_base.proofs.Maps.{found_once}
+use Rattle.cf_base.proofs.Searches.{search_below}
 use Rattle.page_model.specs.Held.{Held, Placed}
 use Rattle.page_model.specs.Image.{MovesWords, Rewrites, WordRange}
 use Rattle.page_model.proofs.CallerLemmas.{within_or}

@@ -6,9 +6,9 @@ use Rattle.std.specs.List.{Contains}
 use Rattle.std.proofs.lemmas.Bool.{cases_eq, cases_lt}
 use Rattle.std.specs.FinMap.{get, insert, len, remove}
 use Rattle.cf_base.specs.Classes.{need}
-use Rattle.cf_lemmas.proofs.Maps.{found_once, get_inserted, get_insert_other, get_removed, get_remove_other, len_fresh, len_rebound, remove_fresh}
-use Rattle.cf_lemmas.proofs.Searches.{len_without}
-use Rattle.cf_lemmas.proofs.Members.{contains_cases, contains_tail, distinct_cons, distinct_head, distinct_tail}
+use Rattle.cf_base.proofs.Maps.{found_once, get_inserted, get_insert_other, get_removed, get_remove_other, len_fresh, len_rebound, remove_fresh}
+use Rattle.cf_base.proofs.Searches.{len_without}
+use Rattle.cf_base.proofs.Members.{contains_cases, contains_tail, distinct_cons, distinct_head, distinct_tail}
 use Rattle.page_model.specs.Arrangement.{IsSound, LacksRoom, class_at, objects_on}
 use Rattle.page_model.specs.Bytes.{written}
 use Rattle.page_model.specs.Held.{Held, Placed}

@@ -5,9 +5,9 @@ use Rattle.std.specs.Prelude.{◌⊎◌, Ok, Err, nat_eq, if◌then◌else◌}
 use Rattle.std.proofs.lemmas.Bool.{cases_eq}
 use Rattle.std.proofs.lemmas.List.{length-replicate}
 use Rattle.std.specs.FinMap.{get, insert, remove}
-use Rattle.cf_lemmas.proofs.Maps.{get_remove_other, get_removed}
-use Rattle.cf_lemmas.proofs.Sums.{insert_again}
-use Rattle.cf_lemmas.proofs.Tests.{eq_no, eq_yes}
+use Rattle.cf_base.proofs.Maps.{get_remove_other, get_removed}
+use Rattle.cf_base.proofs.Sums.{insert_again}
+use Rattle.cf_base.proofs.Tests.{eq_no, eq_yes}
 use Rattle.page_model.specs.Arrangement.{class_at, not_full_pages, objects_on}
 use Rattle.page_model.specs.Bytes.{written}
 use Rattle.page_model.specs.Counts.{ceil_div}

@@ -4,7 +4,7 @@ use Rattle.std.proofs.Common.{◌≡◌, ◌≢◌, ℕ, Option, Some, None, ari
 use Rattle.std.specs.Prelude.{◌⊎◌}
 use Rattle.std.proofs.lemmas.Bool.{cases_eq, cases_lt}
 use Rattle.std.specs.FinMap.{get, insert, remove}
-use Rattle.cf_lemmas.proofs.Maps.{get_remove_other}
+use Rattle.cf_base.proofs.Maps.{get_remove_other}
 use Rattle.page_model.specs.Arrangement.{IsSound, class_at, not_full_pages, objects_on}
 use Rattle.page_model.specs.Held.{Held, Placed}
 use Rattle.page_model.specs.Paging.{page_of, slot_words}
@@ -16,7 +16,7 @@ use Rattle.slice_model.specs.declared.answers.SliceFault.{SliceFault}
 use Rattle.slice_model.specs.declared.answers.SliceFault.TheVariants as fault
 use Rattle.slice_model.proofs.KeptSteps.{kept_begun, one_more, same_elsewhere, two_is_last}
 use Rattle.slice_model.proofs.Occupied.{job_class, no_placeholder}
-use Rattle.cf_lemmas.proofs.Searches.{there_or_not}
+use Rattle.cf_base.proofs.Searches.{there_or_not}
 use Rattle.page_model.proofs.CallerLemmas.{open_page, some_move}
 
 module _ (plan : Plan) (ok : IsPlan plan) where

@@ -5,8 +5,8 @@ use Rattle.std.specs.Prelude.{◌⊎◌, nat_eq}
 use Rattle.std.proofs.lemmas.Bool.{cases_lt}
 use Rattle.std.specs.FinMap.{get, insert, len}
 use Rattle.cf_base.specs.Classes.{need}
-use Rattle.cf_lemmas.proofs.MapValues.{map_values-insert}
-use Rattle.cf_lemmas.proofs.Ranges.{one, sum_le}
+use Rattle.cf_base.proofs.MapValues.{map_values-insert}
+use Rattle.cf_base.proofs.Ranges.{one, sum_le}
 use Rattle.page_model.specs.Arrangement.{live, pages_needed_with}
 use Rattle.page_model.specs.Counts.{ceil_div}
 use Rattle.page_model.specs.Held.{Held, Objects, Placed, objects}
@@ -19,7 +19,7 @@ use Rattle.slice_model.specs.Steps.{AddsObject, IsRefusedBy}
 use Rattle.slice_model.specs.declared.answers.SliceRefusal.{SliceRefusal}
 use Rattle.slice_model.specs.declared.answers.SliceRefusal.TheVariants as refusal
 use Rattle.slice_model.proofs.Occupied.{lacking_is_no_place, no_place_is_lacking, no_placeholder, place_or_none}
-use Rattle.cf_lemmas.proofs.Searches.{fresh_key, few_keys}
+use Rattle.cf_base.proofs.Searches.{fresh_key, few_keys}
 
 needed_le : (p : Paging) → IsPaging p → (o u : Objects) (n : ℕ) → ((c : ℕ) → live p o c ≤ live p u c) → pages_needed_with p o n ≤ pages_needed_with p u n
 unfolding pages_needed_with

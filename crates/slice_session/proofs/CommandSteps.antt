@@ -8,8 +8,8 @@ use Rattle.slice_model.specs.Runs.{words_of_slice, Event, Malloc, Free, Step, Wr
 use Rattle.slice_model.specs.State.{IsKept, IsPlan, Job, Plan, Sliced, job_slot, Clear, Idle, Move, left_of}
 use Rattle.slice_model.specs.Words.{DoesWords, RewritesObject, word_at}
 use Rattle.slice_model.proofs.CallerLemmas.{job_within, kept_apart, mover_class, object_slot, object_within, own_words_at, where_word, outside_not, answered, can_give, can_remove, can_slice, free_answered, kept_begun, order_happens}
-use Rattle.cf_lemmas.proofs.MapValues.{get-map_values}
-use Rattle.cf_lemmas.proofs.Searches.{there_or_not}
+use Rattle.cf_base.proofs.MapValues.{get-map_values}
+use Rattle.cf_base.proofs.Searches.{there_or_not}
 use Rattle.page_model.specs.Order.{Order}
 use Rattle.page_model.specs.Paging.{class_for}
 use Rattle.slice_model.specs.Ordered.{HappensInOrder}

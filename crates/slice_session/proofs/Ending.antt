@@ -2,8 +2,8 @@
 use Rattle.std.proofs.Common.{◌≡◌, ◌≢◌, ℕ, zero, suc, true, false, cond, ◌+◌, ◌-◌, ◌*◌, ◌<◌, ◌≤◌, Bool, List, Option, Some, None, length, get_or, arith, sym, ◌∙◌, ap, refl, subst, inl, inr, ◌&&◌, ◌||◌, ◌↔◌, codes, if◌then◌else◌, nat_eq, nat_lt, not}
 use Rattle.std.proofs.lemmas.Bool.{cases_lt}
 use Rattle.run_model.specs.Terms.{classes, Free, get, IsPaging, len, need, Paging, remove, Slice, slot_words, slots_of}
-use Rattle.cf_lemmas.proofs.Ranges.{one}
-use Rattle.cf_lemmas.proofs.Tests.{lt_no, lt_yes}
+use Rattle.cf_base.proofs.Ranges.{one}
+use Rattle.cf_base.proofs.Tests.{lt_no, lt_yes}
 use Rattle.page_model.specs.Arrangement.{live, pages_for, pages_needed_with}
 use Rattle.page_model.specs.Counts.{ceil_div}
 use Rattle.page_model.specs.Paging.{class_for}

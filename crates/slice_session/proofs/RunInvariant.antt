@@ -20,7 +20,7 @@ use Rattle.sliced_heap.proofs.CallerLemmas.{plan_stays}
 use Rattle.std.proofs.lemmas.List.{length-replicate}
 use Rattle.cf_base.specs.declared.settings.Settings.{Settings}
 use Rattle.cf_base.specs.declared.kind.Layout.TheVariants.{Words}
-use Rattle.cf_lemmas.proofs.Values.{map_values-empty}
+use Rattle.cf_base.proofs.Values.{map_values-empty}
 use Rattle.page_model.proofs.CallerLemmas.{first_is_order, first_ones, first_paged}
 use Rattle.id_table.proofs.CallerLemmas.{none_tied}
 use Rattle.std.specs.Option.{MatchOption}

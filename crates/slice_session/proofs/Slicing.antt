@@ -3,10 +3,10 @@ use Rattle.std.proofs.Common.{◌≡◌, ◌≢◌, ℕ, true, false, cond, ◌+
 use Rattle.std.proofs.lemmas.Bool.{cases_eq, cases_lt, leb-true, leb-false, eqb-false}
 use Rattle.run_model.specs.Terms.{class_at, classes, get, Held, insert, IsSound, Moving, Objects, objects, page_of, Paging, Placed, Profile, remove, Request, slot_words, slots_of}
 use Rattle.cf_base.specs.declared.answers.Figures.{Figures}
-use Rattle.cf_lemmas.proofs.MapValues.{map_values-insert}
-use Rattle.cf_lemmas.proofs.Maps.{get_inserted, get_insert_other}
-use Rattle.cf_lemmas.proofs.Ranges.{one, count_changed}
-use Rattle.cf_lemmas.proofs.Tests.{eq_yes, le_yes, lt_no, lt_yes}
+use Rattle.cf_base.proofs.MapValues.{map_values-insert}
+use Rattle.cf_base.proofs.Maps.{get_inserted, get_insert_other}
+use Rattle.cf_base.proofs.Ranges.{one, count_changed}
+use Rattle.cf_base.proofs.Tests.{eq_yes, le_yes, lt_no, lt_yes}
 use Rattle.page_model.specs.Arrangement.{IsSlotAt, is_on, live, not_full_pages, objects_on}
 use Rattle.page_model.proofs.CallerLemmas.{bytes_missing, less_where_vacant, live_added, objects_on-elsewhere, objects_on-inserted, open_counts, part_full, part_yes, slots_some, part_over}
 use Rattle.slice_model.specs.declared.job_slot.JobSlot.{JobSlot}

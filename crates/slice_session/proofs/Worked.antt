@@ -4,7 +4,7 @@ use Rattle.std.proofs.lemmas.Bool.{cases_eq}
 use Rattle.std.specs.Fmt.{digits}
 use Rattle.run_model.specs.Terms.{asks, Command, empty, Free, get, insert, Item, items, Malloc, Objects, Profile, remove, Reply, said, Slice, starts}
 use Rattle.cf_base.specs.Classes.{sizes_from}
-use Rattle.cf_lemmas.proofs.Maps.{equal_maps, get_insert_other, get_remove_other, get_removed}
+use Rattle.cf_base.proofs.Maps.{equal_maps, get_insert_other, get_remove_other, get_removed}
 use Rattle.hex.specs.Hex.{decode_pairs}
 use Rattle.page_model.specs.Arrangement.{live, pages_needed_with}
 use Rattle.page_model.specs.Paging.{class_for}

@@ -5,9 +5,9 @@ use Rattle.std.specs.Prelude.{option_map}
 use Rattle.std.proofs.lemmas.Bool.{cases_eq}
 use Rattle.std.specs.FinMap.{get, insert}
 use Rattle.cf_base.specs.declared.answers.AccessFault.TheVariants as access
-use Rattle.cf_lemmas.proofs.Maps.{some_inserted}
-use Rattle.cf_lemmas.proofs.MapValues.{get-map_values, map_values-insert}
-use Rattle.cf_lemmas.proofs.Tests.{eq_no, eq_yes}
+use Rattle.cf_base.proofs.Maps.{some_inserted}
+use Rattle.cf_base.proofs.MapValues.{get-map_values, map_values-insert}
+use Rattle.cf_base.proofs.Tests.{eq_no, eq_yes}
 use Rattle.page_model.specs.Arrangement.{class_at, live}
 use Rattle.page_model.specs.Bytes.{AreBytes, written}
 use Rattle.page_model.specs.Held.{Held, Placed, objects, places}

@@ -3,10 +3,10 @@
 use Rattle.std.proofs.Common.{◌≡◌, ℕ, ◌+◌, ◌*◌, ◌≤◌, List, length, Option, Some, None, arith, refl, sym, ◌∙◌, ap, subst}
 use Rattle.std.specs.Prelude.{option_map}
 use Rattle.std.specs.FinMap.{get, insert, len, remove}
-use Rattle.cf_lemmas.proofs.MapValues.{get-map_values}
-use Rattle.cf_lemmas.proofs.Maps.{get_removed}
-use Rattle.cf_lemmas.proofs.Sums.{insert_again}
-use Rattle.cf_lemmas.proofs.Values.{sum_at_most}
+use Rattle.cf_base.proofs.MapValues.{get-map_values}
+use Rattle.cf_base.proofs.Maps.{get_removed}
+use Rattle.cf_base.proofs.Sums.{insert_again}
+use Rattle.cf_base.proofs.Values.{sum_at_most}
 use Rattle.page_model.specs.Arrangement.{class_at}
 use Rattle.page_model.specs.Figures.{asked_bytes, taken_bytes}
 use Rattle.page_model.specs.Held.{Objects, Placed, objects}

@@ -30,7 +30,7 @@ use Rattle.sliced_heap.proofs.FillLemmas.{all_are, at_last, class_in, kept_clear
 use Rattle.sliced_heap.proofs.FillLemmas.{stand_class, stand_there, two, words_clear}
 use Rattle.sliced_heap.proofs.StepCounts.{must_no, must_yes}
 use Rattle.sliced_heap.proofs.Preserved.{Becomes, becomes_state, becomes_valid}
-use Rattle.cf_lemmas.proofs.Maps.{remove_fresh}
+use Rattle.cf_base.proofs.Maps.{remove_fresh}
 
 -- if `fill` chose an object to move to the slot, the end of the job is followed by the next job, as the model says
 pub filled_ends : (h : Heap) (k : IsValid h) (g : JobSlot) → h.job ≡ Clear g → (n : Heap) → IsFilled h g n → EndsJob (paging_at h) (state_of h).held g (state_of n)

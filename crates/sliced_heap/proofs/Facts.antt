@@ -4,8 +4,8 @@ use Rattle.std.proofs.Common.{◌≡◌, ℕ, ◌≤◌, Some, None, arith, refl
 use Rattle.std.specs.Prelude.{option_map}
 use Rattle.std.specs.FinMap.{get, len}
 use Rattle.cf_base.specs.declared.kind.Layout.TheVariants.{Words}
-use Rattle.cf_lemmas.proofs.MapValues.{get-map_values}
-use Rattle.cf_lemmas.proofs.Values.{len-map_values}
+use Rattle.cf_base.proofs.MapValues.{get-map_values}
+use Rattle.cf_base.proofs.Values.{len-map_values}
 use Rattle.page_model.specs.Bytes.{AreBytes, bytes_at}
 use Rattle.page_model.specs.Held.{Placed, places}
 use Rattle.page_model.specs.Paging.{IsPaging, EveryBoundIsOne, classes}

@@ -6,7 +6,7 @@ use Rattle.std.specs.FinMap.{get, len}
 use Rattle.cf_base.specs.Classes.{class_of, slots}
 use Rattle.cf_base.specs.declared.answers.Figures.{Figures}
 use Rattle.cf_base.specs.declared.answers.Totals.{Totals}
-use Rattle.cf_lemmas.proofs.MapValues.{get-map_values, map_values-insert}
+use Rattle.cf_base.proofs.MapValues.{get-map_values, map_values-insert}
 use Rattle.class_lists.specs.PageLists.{pages_in}
 use Rattle.class_lists.specs.declared.Which.TheVariants.{Full, NotFull}
 use Rattle.page_model.specs.Arrangement.{class_at, free_pages, live, not_full_pages, pages_of_class, used_pages}

@@ -4,8 +4,8 @@ use Rattle.std.proofs.Common.{◌≡◌, ◌≢◌, ℕ, ◌+◌, ◌-◌, ◌*�
 use Rattle.std.proofs.Common.{subst, inl, inr}
 use Rattle.std.specs.Prelude.{◌↔◌, IsSome, slice_index_or}
 use Rattle.std.specs.FinMap.{get, insert}
-use Rattle.cf_lemmas.proofs.Maps.{get_inserted, some_inserted}
-use Rattle.cf_lemmas.proofs.MapValues.{map_values-insert}
+use Rattle.cf_base.proofs.Maps.{get_inserted, some_inserted}
+use Rattle.cf_base.proofs.MapValues.{map_values-insert}
 use Rattle.class_lists.specs.PageLists.{pages_in}
 use Rattle.class_lists.specs.declared.Which.TheVariants.{NotFull}
 use Rattle.page_model.specs.Figures.{asked_bytes, taken_bytes}

@@ -4,11 +4,11 @@ use Rattle.std.specs.Prelude.{nat_eq}
 use Rattle.std.proofs.lemmas.List.{length-set}
 use Rattle.std.specs.FinMap.{get, remove}
 use Rattle.cf_base.specs.Classes.{slots}
-use Rattle.cf_lemmas.proofs.Maps.{get_remove_other, some_removed}
-use Rattle.cf_lemmas.proofs.MapValues.{map_values-remove}
-use Rattle.cf_lemmas.proofs.Ranges.{one}
-use Rattle.cf_lemmas.proofs.Tests.{eq_yes}
-use Rattle.cf_lemmas.proofs.Tallies.{counted_out}
+use Rattle.cf_base.proofs.Maps.{get_remove_other, some_removed}
+use Rattle.cf_base.proofs.MapValues.{map_values-remove}
+use Rattle.cf_base.proofs.Ranges.{one}
+use Rattle.cf_base.proofs.Tests.{eq_yes}
+use Rattle.cf_base.proofs.Tallies.{counted_out}
 use Rattle.page_model.specs.Arrangement.{class_at, live, pages_needed}
 use Rattle.page_model.specs.Figures.{asked_bytes, taken_bytes}
 use Rattle.page_model.specs.Held.{Held, Placed, objects}

@@ -3,7 +3,7 @@
 use Rattle.std.proofs.Common.{◌≡◌, ℕ, suc, ◌+◌, ◌-◌, ◌*◌, ◌/◌, ◌%◌, ◌^◌, ◌<◌, ◌≤◌, List, [], ◌∷◌, length, get_or, arith, sym, ◌∙◌, ap, subst, inl, inr}
 use Rattle.std.specs.Prelude.{if◌then◌else◌}
 use Rattle.std.proofs.lemmas.Bool.{cases_eq, cases_lt}
-use Rattle.cf_lemmas.proofs.Tests.{eq_no, eq_yes}
+use Rattle.cf_base.proofs.Tests.{eq_no, eq_yes}
 use Rattle.page_model.specs.Bytes.{AreBytes, byte_of, written}
 use Rattle.page_model.specs.Held.{Placed}
 use Rattle.page_model.specs.Image.{object_word}

@@ -8,8 +8,8 @@ use Rattle.std.specs.Ordering.{nat_cmp}
 use Rattle.std.specs.FinMap.{empty, get, get-empty}
 use Rattle.cf_base.specs.declared.settings.Settings.{Settings}
 use Rattle.cf_base.specs.declared.kind.Layout.TheVariants.{Words}
-use Rattle.cf_base.proofs.CallerLemmas.{are_sizes}
-use Rattle.cf_lemmas.proofs.Values.{map_values-empty}
+use Rattle.cf_base.proofs.Rising.{are_sizes}
+use Rattle.cf_base.proofs.Values.{map_values-empty}
 use Rattle.page_model.specs.Figures.{asked_bytes, taken_bytes}
 use Rattle.page_model.specs.Arrangement.{live, pages_needed}
 use Rattle.page_model.specs.Bytes.{bytes_at, held_at}

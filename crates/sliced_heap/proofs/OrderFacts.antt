@@ -2,7 +2,7 @@
 use Rattle.std.proofs.Common.{◌≡◌, ℕ, ◌+◌, ◌<◌, List, Option, Some, None, length, arith, ◌∙◌}
 use Rattle.std.specs.List.{Contains}
 use Rattle.std.specs.FinMap.{get, len}
-use Rattle.cf_lemmas.proofs.Maps.{len_fresh}
+use Rattle.cf_base.proofs.Maps.{len_fresh}
 use Rattle.page_model.specs.Held.{Held}
 use Rattle.page_slots.proofs.CallerLemmas.{order_is}
 use Rattle.slice_model.specs.declared.job_slot.JobSlot.{JobSlot}

@@ -4,7 +4,7 @@ use Rattle.std.proofs.Common.{◌≡◌, ◌≢◌, ℕ, List, Some, None, sym, 
 use Rattle.std.specs.Prelude.{◌⊎◌}
 use Rattle.std.proofs.lemmas.Bool.{cases_eq}
 use Rattle.std.specs.FinMap.{get, insert, remove}
-use Rattle.cf_lemmas.proofs.Maps.{get_inserted, get_insert_other, get_removed, get_remove_other, some_inserted, remove_inserted}
+use Rattle.cf_base.proofs.Maps.{get_inserted, get_insert_other, get_removed, get_remove_other, some_inserted, remove_inserted}
 use Rattle.page_model.specs.Arrangement.{class_at, objects_on}
 use Rattle.page_model.specs.Held.{Held, Placed}
 use Rattle.page_model.specs.Paging.{Paging, page_of}

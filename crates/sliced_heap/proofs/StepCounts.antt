@@ -4,7 +4,7 @@ use Rattle.std.specs.Prelude.{if◌then◌else◌, nat_eq, slice_get}
 use Rattle.std.proofs.lemmas.Bool.{cases_eq, cases_lt}
 use Rattle.std.specs.FinMap.{get}
 use Rattle.cf_base.specs.declared.answers.Handle.{Handle}
-use Rattle.cf_lemmas.proofs.Tests.{and_false, eq_no, eq_yes, le_no, le_yes, lt_no, lt_yes}
+use Rattle.cf_base.proofs.Tests.{and_false, eq_no, eq_yes, le_no, le_yes, lt_no, lt_yes}
 use Rattle.page_model.specs.Arrangement.{class_at, not_full_pages, objects_on}
 use Rattle.page_model.specs.Held.{Held, Placed}
 use Rattle.page_model.specs.Order.{Order, drop_steps, fill_steps, not_full_in, steps_to_fill}

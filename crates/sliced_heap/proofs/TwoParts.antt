@@ -5,7 +5,7 @@ use Rattle.std.specs.Prelude.{◌⊎◌}
 use Rattle.std.proofs.lemmas.Bool.{cases_lt}
 use Rattle.std.proofs.lemmas.Bool.Decides.{nat_tests}
 use Rattle.std.proofs.lemmas.List.{get_or_append_left, get_or-append_right, length-take, get_or-take, get_or-drop, take_all}
-use Rattle.cf_lemmas.proofs.Tests.{le_yes, le_no}
+use Rattle.cf_base.proofs.Tests.{le_yes, le_no}
 use Rattle.cf_model.specs.Costs.{words_touched}
 use Rattle.page_model.specs.Bytes.{byte_of}
 use Rattle.step_ledger.specs.Counting.{RoseBy}

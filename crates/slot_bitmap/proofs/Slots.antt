@@ -14,9 +14,9 @@ use Rattle.std.proofs.lemmas.List.Quantifiers.{position-Some}
 use Rattle.std.proofs.Math.Pow.{pow_mono}
 use Rattle.std.proofs.lemmas.Nat.Bits.{bit_at-zero, bit_at-trailing_zeros, bit_at_ones, bit_at_above, bit_at_ones_above, same_from_bits_below}
 use Rattle.std.proofs.lemmas.Option.{slice_get_within, slice_get-get_or}
-use Rattle.cf_lemmas.proofs.Positions.{position_is, position_none}
+use Rattle.cf_base.proofs.Positions.{position_is, position_none}
 use Rattle.slot_bitmap.proofs.CallerLemmas.{counted_set, count-replicate}
-use Rattle.cf_lemmas.specs.Bits.{WritesBit}
+use Rattle.cf_base.specs.Bits.{WritesBit}
 use Rattle.slot_bitmap.specs.declared.page_summary.PageSummary.{PageSummary}
 use Rattle.slot_bitmap.specs.Layout.{bits_in, is_used, slots_in_words, has_free, has_used, word_in, IsValid}
 

@@ -2,7 +2,7 @@
 //! to a cell adds a step to the ledger.
 ghost use Rattle.std.specs.Prelude.{◌≡◌, ℕ, ◌^◌, ◌<◌, slice_index, slice_index_or, slice_set};
 ghost use Rattle.step_ledger.specs.Counting.{RoseBy};
-ghost use Rattle.cf_lemmas.specs.Bits.{WritesBit};
+ghost use Rattle.cf_base.specs.Bits.{WritesBit};
 
 use crate::Steps;
 use std::marker::Model;

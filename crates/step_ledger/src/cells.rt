@@ -3,8 +3,8 @@
 ghost use Rattle.std.specs.Prelude.{ℕ, ◌≡◌, ◌+◌, ◌^◌, ◌<◌, ◌≤◌, ◌⊎◌, true, length, drop, take, slice_index, slice_index_or, slice_set};
 ghost use Rattle.std.specs.Int.{bit_at};
 ghost use Rattle.step_ledger.specs.Counting.{RoseBy};
-ghost use Rattle.cf_lemmas.specs.Bits.{WritesBit};
-ghost use Rattle.cf_lemmas.specs.Exchanges.{exchanged};
+ghost use Rattle.cf_base.specs.Bits.{WritesBit};
+ghost use Rattle.cf_base.specs.Exchanges.{exchanged};
 
 use crate::Steps;
 use crate::array::with_bit;

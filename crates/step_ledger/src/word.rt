@@ -3,7 +3,7 @@
 ghost use Rattle.std.specs.Prelude.{◌≡◌, ℕ, ◌^◌, ◌<◌};
 ghost use Rattle.std.specs.Borrow.{Lends, sem, u64};
 ghost use Rattle.step_ledger.specs.Counting.{RoseBy};
-ghost use Rattle.cf_lemmas.specs.Bits.{WritesBit};
+ghost use Rattle.cf_base.specs.Bits.{WritesBit};
 ghost use Rattle.step_ledger.specs.contracts.word.WordCell.{the_row};
 
 use crate::Steps;

@@ -10,7 +10,7 @@ use Rattle.region.proofs.CallerLemmas.{length-cleared, cleared_others}
 use Rattle.block_model.specs.Buckets.{FreeLists}
 use Rattle.block_model.specs.Tiling.{Block, Fill, AreMerged, used_blocks, free_blocks}
 use Rattle.block_model.specs.Words.{block_header}
-use Rattle.cf_lemmas.proofs.Tests.{and_false as and_off}
+use Rattle.cf_base.proofs.Tests.{and_false as and_off}
 use Rattle.block_model.specs.FreeOrder.{lists_without}
 use Rattle.tag_blocks.specs.declared.header.Header.{Header}
 use Rattle.tag_blocks.specs.Links.{AreFreeLists, IsIn, without_block, lists_with, UnlinksBlock}

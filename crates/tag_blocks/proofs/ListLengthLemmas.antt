@@ -4,7 +4,7 @@ use Rattle.std.specs.Prelude.{◌&&◌, nat_eq}
 use Rattle.std.proofs.lemmas.Bool.{cases_Bool, cases_eq}
 use Rattle.std.proofs.lemmas.List.{get_or_default}
 use Rattle.std.proofs.lemmas.List.Sums.{sum_by-append}
-use Rattle.cf_lemmas.proofs.Tests.{eq_yes, eq_no}
+use Rattle.cf_base.proofs.Tests.{eq_yes, eq_no}
 use Rattle.block_model.specs.Buckets.{FreeLists}
 use Rattle.block_model.specs.Tiling.{Block, is_free}
 use Rattle.block_model.specs.Costs.{list_length, push_steps, pushed_steps}

@@ -8,7 +8,7 @@ use Rattle.block_model.specs.Buckets.{FreeLists}
 use Rattle.block_model.specs.FreeOrder.{AreListsOf, free_from, free_size, free_up_to, lists_led_by, lists_released, lists_without, merged_size, merged_start}
 use Rattle.block_model.specs.Tiling.{Block, is_free, Fill, block_at, size_at, size_of}
 use Rattle.block_model.proofs.CallerLemmas.{fill_le, none_ends, without_used}
-use Rattle.cf_lemmas.proofs.Tests.{eq_yes, eq_no}
+use Rattle.cf_base.proofs.Tests.{eq_yes, eq_no}
 use Rattle.tag_blocks.specs.Blocks.{Tagged, AreTags, IsUsedAt, listed, owner_of}
 use Rattle.block_model.specs.Costs.{join_steps, link_then, list_length, next_merge_steps, previous_merge_steps, pushed_steps, release_sized}
 use Rattle.block_model.specs.Costs.{release_steps}

@@ -4,8 +4,8 @@ use Rattle.std.proofs.Common.{◌≡◌, ◌≢◌, ℕ, ◌+◌, ◌-◌, ◌/�
 use Rattle.std.proofs.lemmas.Option.{same_Some as some_placed}
 use Rattle.std.specs.FinMap.{get, remove}
 use Rattle.std.specs.Prelude.{option_map}
-use Rattle.cf_lemmas.proofs.Maps.{get_remove_other, some_removed}
-use Rattle.cf_lemmas.proofs.MapValues.{get-map_values, map_values-remove}
+use Rattle.cf_base.proofs.Maps.{get_remove_other, some_removed}
+use Rattle.cf_base.proofs.MapValues.{get-map_values, map_values-remove}
 use Rattle.cf_base.specs.declared.kind.Kind.{Kind}
 use Rattle.page_model.specs.Held.{Held, Placed, objects}
 use Rattle.page_model.specs.Figures.{asked_bytes}

@@ -4,8 +4,8 @@ use Rattle.std.proofs.Common.{◌≡◌, ◌≢◌, ℕ, zero, suc, ◌+◌, ◌
 use Rattle.std.proofs.lemmas.List.{length-replicate}
 use Rattle.std.specs.FinMap.{get, insert, len}
 use Rattle.std.specs.Prelude.{option_map}
-use Rattle.cf_lemmas.proofs.Maps.{get_inserted, get_insert_other, some_inserted}
-use Rattle.cf_lemmas.proofs.MapValues.{get-map_values}
+use Rattle.cf_base.proofs.Maps.{get_inserted, get_insert_other, some_inserted}
+use Rattle.cf_base.proofs.MapValues.{get-map_values}
 use Rattle.cf_base.specs.Classes.{need}
 use Rattle.cf_base.specs.declared.answers.Refusal.{Refusal}
 use Rattle.cf_base.specs.declared.answers.Refusal.TheVariants as refusal

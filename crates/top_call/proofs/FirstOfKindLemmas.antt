@@ -5,7 +5,7 @@ use Rattle.std.proofs.lemmas.Bool.{cases_lt}
 use Rattle.std.proofs.lemmas.List.{get_or-map, length-map}
 use Rattle.std.proofs.lemmas.List.Quantifiers.{position-Some}
 use Rattle.std.proofs.Math.Seq.{map-set_same}
-use Rattle.cf_lemmas.proofs.Positions.{position_is, position_none}
+use Rattle.cf_base.proofs.Positions.{position_is, position_none}
 use Rattle.run_model.specs.Terms.{closed_state, HalfFit, HeapState, Kind, Moving, NonMoving, Tlsf}
 use Rattle.cf_model.specs.Ordered.{KeepsPromise}
 use Rattle.top_call.specs.FirstOfKind.{chosen_manager, first_of_kind, same_kind, with_chosen_manager}

@@ -1,7 +1,7 @@
 use Rattle.std.proofs.Common.{Some, None, ◌<◌, ◌-◌, arith, refl, ◌∙◌}
 use Rattle.std.proofs.lemmas.Bool.{true≢false}
 use Rattle.std.proofs.lemmas.List.{get_or-set_same}
-use Rattle.cf_lemmas.proofs.Numbered.{get-numbered}
+use Rattle.cf_base.proofs.Numbered.{get-numbered}
 use Rattle.proxy_table.proofs.Stack.{stack_bound, top, once_on_stack}
 use Rattle.proxy_table.proofs.View.{below_limit, places_below, get_is, len_is, limit_is, seen_first, seen_given}
 use Rattle.proxy_table.proofs.ProxyTable.bind.Goals as goal

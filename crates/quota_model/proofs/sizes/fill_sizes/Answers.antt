@@ -1,7 +1,7 @@
 use Rattle.std.proofs.Common.{ap, arith, length, sym, ◌∙◌}
 use Rattle.cf_base.specs.Classes.{sizes, sizes_from}
 use Rattle.cf_base.specs.declared.kind.Layout.TheVariants.{Blocks, Words}
-use Rattle.cf_base.proofs.CallerLemmas.{are_sizes}
+use Rattle.cf_base.proofs.Rising.{are_sizes}
 use Rattle.cf_base.proofs.Sizes.{map-one}
 use Rattle.quota_model.proofs.sizes.fill_sizes.Goals as goal
 

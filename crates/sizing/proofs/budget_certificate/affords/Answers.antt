@@ -5,7 +5,7 @@ use Rattle.std.proofs.lemmas.Bool.{false≢true}
 use Rattle.page_model.specs.Paging.{classes, slots_of}
 use Rattle.sizing.specs.Checks.{paging_with}
 use Rattle.sizing.specs.Demands.{objects_to_open}
-use Rattle.cf_lemmas.proofs.Ranges.{sum_next}
+use Rattle.cf_base.proofs.Ranges.{sum_next}
 use Rattle.sizing.proofs.budget_certificate.affords.Goals as goal
 
 pub objects_to_open-requires-clause-slots : goal.objects_to_open-requires-clause-slots

@@ -1,5 +1,5 @@
 use Rattle.std.proofs.Common.{arith, length, slice_index}
-use Rattle.cf_lemmas.proofs.Ranges.{sum_at_least}
+use Rattle.cf_base.proofs.Ranges.{sum_at_least}
 use Rattle.sizing.proofs.budget_certificate.are_least.Goals as goal
 
 pub affords-requires-clause-few : goal.affords-requires-clause-few

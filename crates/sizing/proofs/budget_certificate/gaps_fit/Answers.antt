@@ -5,7 +5,7 @@ use Rattle.std.proofs.lemmas.Bool.{false≢true}
 use Rattle.page_model.specs.Paging.{classes}
 use Rattle.sizing.specs.Certificates.{gap_beside}
 use Rattle.sizing.specs.Checks.{paging_with}
-use Rattle.cf_lemmas.proofs.Ranges.{sum_next}
+use Rattle.cf_base.proofs.Ranges.{sum_next}
 use Rattle.sizing.proofs.budget_certificate.gaps_fit.Goals as goal
 
 pub returns-then-gap-left : goal.returns-then-gap-left

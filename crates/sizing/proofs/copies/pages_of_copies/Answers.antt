@@ -1,7 +1,7 @@
 use Rattle.std.proofs.Common.{arith, slice_index}
 use Rattle.sizing.specs.Certificates.{pages_with_copy}
 use Rattle.sizing.specs.Checks.{paging_with}
-use Rattle.cf_lemmas.proofs.Ranges.{sum_next}
+use Rattle.cf_base.proofs.Ranges.{sum_next}
 use Rattle.sizing.proofs.copies.pages_of_copies.Goals as goal
 
 pub loop-e-preserved : goal.loop-e-preserved

@@ -1,5 +1,5 @@
 use Rattle.std.proofs.Common.{arith, slice_index}
-use Rattle.cf_lemmas.proofs.Ranges.{sum_next}
+use Rattle.cf_base.proofs.Ranges.{sum_next}
 use Rattle.sizing.proofs.points.pages_of.Goals as goal
 
 pub loop-c-preserved : goal.loop-c-preserved

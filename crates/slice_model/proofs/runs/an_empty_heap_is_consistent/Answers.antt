@@ -3,7 +3,7 @@ use Rattle.std.specs.Ordering.{nat_cmp}
 use Rattle.std.specs.FinMap.{get, get-empty}
 use Rattle.std.proofs.lemmas.Bool.{cases_lt}
 use Rattle.std.proofs.lemmas.List.{get_or-replicate, get_or_past, length-replicate}
-use Rattle.cf_lemmas.proofs.Values.{map_values-empty}
+use Rattle.cf_base.proofs.Values.{map_values-empty}
 use Rattle.page_model.specs.Held.{Placed}
 use Rattle.page_model.proofs.CallerLemmas.{sound_empty}
 use Rattle.slice_model.proofs.runs.an_empty_heap_is_consistent.Goals as goal

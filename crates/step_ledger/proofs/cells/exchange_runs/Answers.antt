@@ -1,7 +1,7 @@
 -- The list is split in two parts, n items of each are exchanged, and the parts make up the list again.
 use Rattle.std.proofs.Common.{◌+◌, ◌-◌, ◌≤◌, ◌∙◌, min, max, arith, inl, inr}
-use Rattle.cf_lemmas.proofs.Swapping.{parted}
-use Rattle.cf_lemmas.proofs.SwappedRuns.{swapped_is}
+use Rattle.cf_base.proofs.Swapping.{parted}
+use Rattle.cf_base.proofs.SwappedRuns.{swapped_is}
 use Rattle.step_ledger.proofs.cells.exchange_runs.Goals as goal
 
 pub returns : goal.returns

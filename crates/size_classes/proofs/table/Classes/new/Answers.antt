@@ -1,4 +1,4 @@
-use Rattle.cf_base.proofs.CallerLemmas.{are_sizes, page_size}
+use Rattle.cf_base.proofs.Rising.{are_sizes, page_size}
 use Rattle.size_classes.proofs.PowerOfTwo.{page_power}
 use Rattle.size_classes.proofs.table.Classes.new.Goals as goal
 

@@ -1,6 +1,6 @@
 use Rattle.std.proofs.Common.{arith, refl, sym, ap}
 use Rattle.std.specs.Prelude.{if◌then◌else◌, nat_eq}
-use Rattle.cf_lemmas.proofs.Tests.{eq_no}
+use Rattle.cf_base.proofs.Tests.{eq_no}
 use Rattle.sliced_heap.specs.Heap.{seen}
 use Rattle.sliced_heap.proofs.FigureLemmas.{totals_are, used_is}
 use Rattle.sliced_heap.proofs.open_heap.OpenHeap.totals.Goals as goal

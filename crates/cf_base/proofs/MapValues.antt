@@ -5,8 +5,8 @@ use Rattle.std.proofs.lemmas.Bool.{cases_eq}
 use Rattle.std.specs.Ordering.{nat_cmp, is_lt, eq_by_cmp}
 use Rattle.std.specs.FinMap.{FinMap, get, insert, remove, entries, entries_sorted, get-from_sorted, get-entries, is_sorted, find}
 use Rattle.std.specs.FinMap.Entries.{below_all}
-use Rattle.cf_lemmas.specs.Maps.{map_values}
-use Rattle.cf_lemmas.proofs.Maps.{equal_maps, get_inserted, get_insert_other, get_removed, get_remove_other}
+use Rattle.cf_base.specs.Maps.{map_values}
+use Rattle.cf_base.proofs.Maps.{equal_maps, get_inserted, get_insert_other, get_removed, get_remove_other}
 
 module _ {X Y : Type 0} (f : X → Y) where
   below_map : (x : ℕ) (es : List (ℕ × X)) → below_all nat_cmp x (map (λ e. (e.0, f e.1)) es) ≡ below_all nat_cmp x es

@@ -6,7 +6,7 @@ use Rattle.std.proofs.lemmas.Bool.{cases_eq}
 use Rattle.std.specs.Ordering.{nat_cmp}
 use Rattle.std.specs.Cmp.{nat_cmp_total}
 use Rattle.std.specs.FinMap.{FinMap, get, insert, remove, len, get-insert, get-remove, len-insert, len-remove, nat_cmp-IsAntisymmetric, same_map}
-use Rattle.cf_lemmas.proofs.Tests.{tied_no, tied_yes}
+use Rattle.cf_base.proofs.Tests.{tied_no, tied_yes}
 
 module _ {V : Type 0} (m : FinMap nat_cmp V) (h : ℕ) where
   pub get_inserted : (v : V) → get (insert m h v) h ≡ Some v

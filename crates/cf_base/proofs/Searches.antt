@@ -6,9 +6,9 @@ use Rattle.std.proofs.lemmas.List.Sums.{sum_by-cons}
 use Rattle.std.proofs.lemmas.Bool.{cases_eq}
 use Rattle.std.specs.Ordering.{nat_cmp}
 use Rattle.std.specs.FinMap.{FinMap, empty, get, len, remove, get-empty, len-empty}
-use Rattle.cf_lemmas.proofs.Maps.{equal_maps, some_removed, get_removed, get_remove_other, len_fresh}
-use Rattle.cf_lemmas.proofs.Ranges.{one}
-use Rattle.cf_lemmas.proofs.Sums.{put_back}
+use Rattle.cf_base.proofs.Maps.{equal_maps, some_removed, get_removed, get_remove_other, len_fresh}
+use Rattle.cf_base.proofs.Ranges.{one}
+use Rattle.cf_base.proofs.Sums.{put_back}
 
 -- a number below n + 1 other than n is below n
 pub below_other : (n h : ℕ) → h < suc n → h ≢ n → h < n

@@ -9,7 +9,7 @@ use Rattle.std.specs.Ordering.{nat_cmp, is_eq}
 use Rattle.std.specs.Cmp.{nat_cmp_total}
 use Rattle.std.specs.FinMap.{FinMap, get, insert, remove, values, entries, entries-insert, get-entries, find}
 use Rattle.std.specs.FinMap.Entries.{put, by_order}
-use Rattle.cf_lemmas.proofs.Maps.{get_inserted, get_insert_other, get_removed, get_remove_other, equal_maps}
+use Rattle.cf_base.proofs.Maps.{get_inserted, get_insert_other, get_removed, get_remove_other, equal_maps}
 
 -- removing a key and inserting it again changes nothing
 pub put_back : {V : Type 0} (m : FinMap nat_cmp V) (k : ℕ) (v : V) → get m k ≡ Some v → insert (remove m k) k v ≡ m

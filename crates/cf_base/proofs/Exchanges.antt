@@ -7,8 +7,8 @@ use Rattle.std.proofs.lemmas.Grind.{same_number_lists}
 use Rattle.std.proofs.lemmas.List.{get_or_past}
 use Rattle.std.proofs.lemmas.Bool.{cases_lt}
 use Rattle.std.proofs.lemmas.Bool.Decides.{nat_tests}
-use Rattle.cf_lemmas.proofs.Tests.{and_false}
-use Rattle.cf_lemmas.specs.Exchanges.{is_among, partner, exchanged}
+use Rattle.cf_base.proofs.Tests.{and_false}
+use Rattle.cf_base.specs.Exchanges.{is_among, partner, exchanged}
 
 among_yes : (a n v : ℕ) → a ≤ v → v < a + n → is_among a n v ≡ true
 among_yes a n v l h = (let x : nat_le a v ≡ true = grind (arith, nat_tests) in let y : nat_lt v (a + n) ≡ true = grind (arith, nat_tests) in rw (x, y) refl)

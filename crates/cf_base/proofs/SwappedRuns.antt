@@ -3,9 +3,9 @@ use Rattle.std.proofs.Common.{◌≡◌, ℕ, ◌+◌, ◌-◌, ◌<◌, ◌≤�
 use Rattle.std.proofs.Common.{min, max, arith, ap, ◌∙◌}
 use Rattle.std.proofs.lemmas.List.{length-take-le, length-drop, get_or_append_left, get_or-append_right, get_or-take, get_or-drop}
 use Rattle.std.proofs.lemmas.List.Sorted.{length_permutation}
-use Rattle.cf_lemmas.specs.Exchanges.{exchanged}
-use Rattle.cf_lemmas.proofs.Exchanges.{exchanged_is}
-use Rattle.cf_lemmas.proofs.Swapping.{swapped, before, first, between, second, behind, swapped_permutation}
+use Rattle.cf_base.specs.Exchanges.{exchanged}
+use Rattle.cf_base.proofs.Exchanges.{exchanged_is}
+use Rattle.cf_base.proofs.Swapping.{swapped, before, first, between, second, behind, swapped_permutation}
 
 -- the two runs have changed places; the first begins at i
 module _ (s : List ℕ) (i j n : ℕ) (low : i + n ≤ j) (within : j + n ≤ length s) where

@@ -5,9 +5,9 @@ use Rattle.std.specs.Prelude.{sum_by, Option}
 use Rattle.std.proofs.lemmas.Bool.{cases_eq}
 use Rattle.std.specs.Ordering.{nat_cmp}
 use Rattle.std.specs.FinMap.{FinMap, empty, get, insert, remove, len, values, get-empty}
-use Rattle.cf_lemmas.proofs.Maps.{equal_maps, get_inserted, get_insert_other, get_remove_other, get_removed, len_fresh, some_removed}
-use Rattle.cf_lemmas.proofs.Sums.{put_back, sum_by-inserted, sum_by-removed}
-use Rattle.cf_lemmas.proofs.Induction.{map_induction}
+use Rattle.cf_base.proofs.Maps.{equal_maps, get_inserted, get_insert_other, get_remove_other, get_removed, len_fresh, some_removed}
+use Rattle.cf_base.proofs.Sums.{put_back, sum_by-inserted, sum_by-removed}
+use Rattle.cf_base.proofs.Induction.{map_induction}
 
 module _ {V : Type 0} where
   -- `ids` maps ids to numbers: n has under each id the value that m has under the id's number, and each number belongs to one id

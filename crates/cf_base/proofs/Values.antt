@@ -5,11 +5,11 @@ use Rattle.std.specs.Prelude.{sum_by, option_map}
 use Rattle.std.proofs.lemmas.List.{nil_from_length}
 use Rattle.std.specs.Ordering.{nat_cmp}
 use Rattle.std.specs.FinMap.{FinMap, get, get-empty, insert, len, values, empty, len-empty, len-entries}
-use Rattle.cf_lemmas.specs.Maps.{map_values}
-use Rattle.cf_lemmas.proofs.Maps.{equal_maps, get_inserted, get_insert_other, len_fresh}
-use Rattle.cf_lemmas.proofs.MapValues.{get-map_values, map_values-insert}
-use Rattle.cf_lemmas.proofs.Sums.{sum_by-inserted}
-use Rattle.cf_lemmas.proofs.Induction.{map_induction}
+use Rattle.cf_base.specs.Maps.{map_values}
+use Rattle.cf_base.proofs.Maps.{equal_maps, get_inserted, get_insert_other, len_fresh}
+use Rattle.cf_base.proofs.MapValues.{get-map_values, map_values-insert}
+use Rattle.cf_base.proofs.Sums.{sum_by-inserted}
+use Rattle.cf_base.proofs.Induction.{map_induction}
 
 pub no_values : {V : Type 0} → values (empty {X = V} {R = nat_cmp}) ≡ []
 no_values {V} = ap (map (λ e. e.1)) (nil_from_length _ (sym (len-entries (empty {X = V} {R = nat_cmp})) ∙ len-empty nat_cmp V))

@@ -8,11 +8,11 @@ use Rattle.std.proofs.lemmas.List.Sorted.{All-permutation, IsPermutation-refl, I
 use Rattle.std.proofs.lemmas.Map.Keys.{IsDistinct-IsPermutation, apart_from_distinct}
 use Rattle.std.specs.List.{range_with_len}
 use Rattle.std.specs.List.Sorted.{IsPermutation}
-use Rattle.cf_lemmas.specs.Exchanges.{exchanged}
-use Rattle.cf_lemmas.proofs.Exchanges.{length-exchanged}
-use Rattle.cf_lemmas.proofs.Members.{range_distinct}
-use Rattle.cf_lemmas.proofs.Swapping.{swapped_permutation}
-use Rattle.cf_lemmas.proofs.SwappedRuns.{swapped_is}
+use Rattle.cf_base.specs.Exchanges.{exchanged}
+use Rattle.cf_base.proofs.Exchanges.{length-exchanged}
+use Rattle.cf_base.proofs.Members.{range_distinct}
+use Rattle.cf_base.proofs.Swapping.{swapped_permutation}
+use Rattle.cf_base.proofs.SwappedRuns.{swapped_is}
 
 test_turned : (x y : ℕ) → eqb x y ≡ eqb y x
 test_turned x y = elim (cases_eq x y) [

@@ -1,9 +1,10 @@
--- When the tests `nat_eq`, `nat_le` and `nat_lt` pass, and when they fail; and when the order of a map's keys finds two equal.
+-- When the tests `nat_eq`, `nat_le` and `nat_lt` pass, and when they fail; when `is_within` passes; and when the order of a map's keys finds two equal.
 use Rattle.std.proofs.Common.{◌≡◌, ◌≢◌, ◌∙◌, ℕ, Bool, true, false, ◌<◌, ◌≤◌, refl}
 use Rattle.std.specs.Prelude.{◌&&◌, nat_eq, nat_le, nat_lt}
-use Rattle.std.proofs.lemmas.Bool.{eq-eqb, ne_eqb, lt-ltb, le-ltb, le-leb, lt-leb}
+use Rattle.std.proofs.lemmas.Bool.{and_from, eq-eqb, ne_eqb, lt-ltb, le-ltb, le-leb, lt-leb}
 use Rattle.std.specs.Ordering.{nat_cmp, eq_by_cmp}
 use Rattle.std.specs.Cmp.{unsigned_tied}
+use Rattle.cf_base.specs.Limits.{is_within}
 
 pub eq_yes : (a b : ℕ) → a ≡ b → nat_eq a b ≡ true
 eq_yes a b is = eq-eqb a b is
@@ -33,3 +34,6 @@ tied_yes a b is = unsigned_tied a b ∙ eq_yes a b is
 
 pub tied_no : (a b : ℕ) → a ≢ b → eq_by_cmp nat_cmp a b ≡ false
 tied_no a b ne = unsigned_tied a b ∙ eq_no a b ne
+
+pub within_limits : (low high n : ℕ) → low ≤ n → n ≤ high → is_within low high n ≡ true
+within_limits low high n least most = and_from _ _ (le_yes low n least) (le_yes n high most)

@@ -6,8 +6,8 @@ use Rattle.std.proofs.lemmas.List.{get_or_past, get_or-set_same, get_or-set_othe
 use Rattle.std.proofs.lemmas.Bool.{cases_eq, cases_lt, false≢true}
 use Rattle.std.specs.Ordering.{nat_cmp}
 use Rattle.std.specs.FinMap.{get, insert, remove, len, get-empty, len-empty}
-use Rattle.cf_lemmas.specs.Maps.{numbered}
-use Rattle.cf_lemmas.proofs.Maps.{get_inserted, get_insert_other, get_removed, get_remove_other, len_fresh, equal_maps}
+use Rattle.cf_base.specs.Maps.{numbered}
+use Rattle.cf_base.proofs.Maps.{get_inserted, get_insert_other, get_removed, get_remove_other, len_fresh, equal_maps}
 
 module _ {X : Type 0} where
   pub numbered_below : (k : ℕ) (xs : List (Option X)) (q : ℕ) → q < k → get (numbered k xs) q ≡ None

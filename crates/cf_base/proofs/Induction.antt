@@ -7,7 +7,7 @@ use Rattle.std.specs.Ordering.{nat_cmp, is_lt, is_eq}
 use Rattle.std.specs.Cmp.{nat_cmp_total}
 use Rattle.std.specs.FinMap.{FinMap, get, insert, empty, from_entries, entries, entries_sorted, get-from_entries, get-entries, find, is_sorted}
 use Rattle.std.specs.FinMap.Entries.{below_all}
-use Rattle.cf_lemmas.proofs.Maps.{equal_maps}
+use Rattle.cf_base.proofs.Maps.{equal_maps}
 
 first : (a b : Bool) → T (a && b) → T a
 first true b p = tt

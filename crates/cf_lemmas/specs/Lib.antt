@@ -1,4 +1,0 @@
-pub mod Maps
-pub mod Exchanges
-pub mod Bits
-pub mod Lists
