@@ -5,7 +5,7 @@ use Rattle.std.proofs.lemmas.Bool.{cond-true, cond-false, le-ltb, lt-ltb, eq-eqb
 use Rattle.std.proofs.lemmas.Nat.{and_mask, div-add-mod', mod_below, mod-mul-add, mul-le, pow-add, pow_below, same_from_place, shl-shr}
 use Rattle.std.proofs.lemmas.List.{get_or-set_same, get_or-set_other, length-set}
 use Rattle.std.proofs.Math.Nat.{max-eq_right, mod-eq_of_lt}
-use Rattle.c_base.specs.Frees.{after, raised_all, times}
+use Rattle.c_base.specs.Frees.{generation_after, raised_all, times_in}
 use Rattle.std.specs.List.{range_with_len}
 use Rattle.std.proofs.lemmas.List.FromFn.{length-range_with_len}
 use Rattle.c_base.specs.Handles.{base_of, first_handles, handle_of, next, none, number_in, raised}
@@ -43,18 +43,18 @@ next_is count most n g whole low few = elim (cases_lt (g + 2) most) [
 ]
 
 -- g after k frees, k at most c: larger by k, or by k less c
-pub after_is : (c k g : ℕ) → g < c → k ≤ c → (after c k g < c) × ((after c k g ≡ g + k) ⊎ (after c k g + c ≡ g + k))
+pub after_is : (c k g : ℕ) → g < c → k ≤ c → (generation_after c k g < c) × ((generation_after c k g ≡ g + k) ⊎ (generation_after c k g + c ≡ g + k))
 after_is c zero g small few = (small, inl (omega arith))
 after_is c (suc k) g small few = elim (cases_lt (g + 1) c) [
   | inl lt ↦ (
       let now : cond (nat_lt (g + 1) c) (g + 1) 0 ≡ g + 1 = cond-true (nat_lt (g + 1) c) (g + 1) 0 (lt-ltb (g + 1) c lt) in
       let rest = after_is c k (g + 1) lt (omega arith) in
-      subst (λ x. (after c k x < c) × ((after c k x ≡ g + suc k) ⊎ (after c k x + c ≡ g + suc k))) (sym now)
+      subst (λ x. (generation_after c k x < c) × ((generation_after c k x ≡ g + suc k) ⊎ (generation_after c k x + c ≡ g + suc k))) (sym now)
       (rest.0, elim rest.1 [ inl e ↦ inl (omega (arith, e)) | inr e ↦ inr (omega (arith, e)) ]))
   | inr ge ↦ (
       let now : cond (nat_lt (g + 1) c) (g + 1) 0 ≡ 0 = cond-false (nat_lt (g + 1) c) (g + 1) 0 (le-ltb (g + 1) c ge) in
       let rest = after_is c k 0 (omega arith) (omega arith) in
-      subst (λ x. (after c k x < c) × ((after c k x ≡ g + suc k) ⊎ (after c k x + c ≡ g + suc k))) (sym now)
+      subst (λ x. (generation_after c k x < c) × ((generation_after c k x ≡ g + suc k) ⊎ (generation_after c k x + c ≡ g + suc k))) (sym now)
       (rest.0, elim rest.1 [ inl e ↦ inr (omega (arith, e)) | inr e ↦ absurd (omega (arith, e, rest.0)) ]))
 ]
 
@@ -67,7 +67,7 @@ length-raised_all handles (n ∷ ns) = length-raised_all (raised handles n) ns �
 
 -- the handle of number n after frees is that of the generation after its own frees
 raised_at : (count most n : ℕ) → most * count ≡ 2 ^ 32 → n < count → (ns handles : List ℕ) → length handles ≡ count → (g : ℕ) → g + 1 < most
-    → slice_index handles n ≡ g * count + n → slice_index (raised_all handles ns) n ≡ after (most - 1) (times n ns) g * count + n
+    → slice_index handles n ≡ g * count + n → slice_index (raised_all handles ns) n ≡ generation_after (most - 1) (times_in n ns) g * count + n
 raised_at count most n whole low [] handles long g few is = is
 raised_at count most n whole low (m ∷ ms) handles long g few is =
     let longer : length (raised handles m) ≡ count = length-raised handles m ∙ long in
@@ -84,12 +84,12 @@ raised_at count most n whole low (m ∷ ms) handles long g few is =
             | inl lt ↦ (let e = cond-true (nat_lt (g + 1) (most - 1)) (g + 1) 0 (lt-ltb (g + 1) (most - 1) lt) in omega (arith, e, lt))
             | inr ge ↦ (let e = cond-false (nat_lt (g + 1) (most - 1)) (g + 1) 0 (le-ltb (g + 1) (most - 1) ge) in omega (arith, e, few))
           ] in
-          let more : times n (m ∷ ms) ≡ suc (times n ms) = cond-true (nat_eq m n) (suc (times n ms)) (times n ms) (eq-eqb m n same) in
-          raised_at count most n whole low ms (raised handles m) longer g' few' one ∙ sym (ap (λ k. after (most - 1) k g * count + n) more))
+          let more : times_in n (m ∷ ms) ≡ suc (times_in n ms) = cond-true (nat_eq m n) (suc (times_in n ms)) (times_in n ms) (eq-eqb m n same) in
+          raised_at count most n whole low ms (raised handles m) longer g' few' one ∙ sym (ap (λ k. generation_after (most - 1) k g * count + n) more))
       | inr other ↦ (
           let one : slice_index (raised handles m) n ≡ slice_index handles n = get_or-set_other handles m n h 0 (λ e. other (sym e)) in
-          let same : times n (m ∷ ms) ≡ times n ms = cond-false (nat_eq m n) (suc (times n ms)) (times n ms) (ne_eqb m n other) in
-          raised_at count most n whole low ms (raised handles m) longer g few (one ∙ is) ∙ sym (ap (λ k. after (most - 1) k g * count + n) same))
+          let same : times_in n (m ∷ ms) ≡ times_in n ms = cond-false (nat_eq m n) (suc (times_in n ms)) (times_in n ms) (ne_eqb m n other) in
+          raised_at count most n whole low ms (raised handles m) longer g few (one ∙ is) ∙ sym (ap (λ k. generation_after (most - 1) k g * count + n) same))
     ]
 
 -- a handle with these low bits names their number if it is the handle of that number, and else nothing
@@ -141,16 +141,16 @@ module _ (handles : List ℕ) (k : AreHandles handles) (n : ℕ) (within : n < l
       omega (arith, at, v, room, two, w, lt)
 
   -- THE LAW: a handle names no object from the first free of its number until that number was freed as many times as it has generations
-  pub refused_since_freed : (ns : List ℕ) → 1 ≤ times n ns → times n ns + 1 < 2 ^ 32 / length handles → number_in (raised_all handles ns) (handle_of handles n) ≡ none
+  pub refused_since_freed : (ns : List ℕ) → 1 ≤ times_in n ns → times_in n ns + 1 < 2 ^ 32 / length handles → number_in (raised_all handles ns) (handle_of handles n) ≡ none
   refused_since_freed ns some_free not_all =
       let i = k.each n within in let g = i.generation in let most = 2 ^ 32 / count in
       let now = raised_all handles ns in
-      let at : slice_index now n ≡ after (most - 1) (times n ns) g * count + n =
+      let at : slice_index now n ≡ generation_after (most - 1) (times_in n ns) g * count + n =
       raised_at count most n (generations_whole count k.count) within ns handles refl g i.in_range i.whole in
       let other : slice_index now n ≢ handle_of handles n = λ same.
-      let place : after (most - 1) (times n ns) g * count + n ≡ g * count + n = sym at ∙ same ∙ is_at ∙ i.whole in
-      let still : after (most - 1) (times n ns) g ≡ g = (same_from_place (after (most - 1) (times n ns) g) n g n count within within place).0 in
-      elim (after_is (most - 1) (times n ns) g (omega (arith, i.in_range)) (omega (arith, not_all))).1 [
+      let place : generation_after (most - 1) (times_in n ns) g * count + n ≡ g * count + n = sym at ∙ same ∙ is_at ∙ i.whole in
+      let still : generation_after (most - 1) (times_in n ns) g ≡ g = (same_from_place (generation_after (most - 1) (times_in n ns) g) n g n count within within place).0 in
+      elim (after_is (most - 1) (times_in n ns) g (omega (arith, i.in_range)) (omega (arith, not_all))).1 [
         | inl e ↦ omega (arith, e, still, some_free)
         | inr e ↦ omega (arith, e, still, not_all)
       ] in

@@ -28,8 +28,8 @@ use denote.Struct.Struct.{within}
 use denote.Struct.Tuple.{Tuple}
 use Rattle.std.specs.contracts.marker.PhantomData as Mark
 use Rattle.c_base.specs.HeapBlock.{lies_in_block}
-use Rattle.c_base.specs.Lending.{IsFit, IsOf, Lending}
-use Rattle.c_base.specs.Lent.{Names, loan_owns, may_free, open_borrow, opened}
+use Rattle.c_base.specs.Lending.{IsFit, IsLooseOf, Lending}
+use Rattle.c_base.specs.Lent.{Names, loan_owns, may_free_value, open_borrow, opened}
 use Rattle.c_base.specs.declared.loan.Lendable.{Ghosts}
 use Rattle.c_base.specs.contracts.loan.Loan as Q
 
@@ -65,10 +65,10 @@ module _ (T S : RattleType) (g : Ghosts T.Denot S.Denot) {M : Type 1} {𝓤 : Ur
       let L = g.lending in let xs : List ℕ = L.words x in
       fsplit t $ fpick t (λ vss. fsplit t $ feq_l t (λ whole. fsplit t $ fpick t (λ zss. fsplit t $ feq_l t (λ first. drop t $ drop t $
       rewrite t 0 (λ (h : Option T.Denot). ‵ (loan_owns S L d.block d.words h)) some refl $
-      fsplit t $ move t (1 ∷ []) $ fpick t (λ (m : (n : Names S.Denot) × IsOf L (L.with_words n.parts xs) x). fsplit t $ feq_l t (λ at.
+      fsplit t $ move t (1 ∷ []) $ fpick t (λ (m : (n : Names S.Denot) × IsLooseOf L (L.with_words n.parts xs) x). fsplit t $ feq_l t (λ at.
       -- the address is that of the names
       feq_i t Ptr d.block (block_ptr m.0.heap_at.0 m.0.heap_at.1) at $ fjoin t $
-      fpack t ((n : Names S.Denot) × IsOf L (L.with_words n.parts xs) x) (λ n. open_borrow S L.with_words d.block d.words (length xs) n.0) m $ move t (1 ∷ 0 ∷ []) $ fjoin t $
+      fpack t ((n : Names S.Denot) × IsLooseOf L (L.with_words n.parts xs) x) (λ n. open_borrow S L.with_words d.block d.words (length xs) n.0) m $ move t (1 ∷ 0 ∷ []) $ fjoin t $
       rewrite t 0 (λ (p : Ptr). ‵ (loan_owns S L p d.words (Some x))) at refl $
       k m.0.heap_at.0 m.0.heap_at.1 at (subst (λ (ps : List Val). vs ≡ vstruct (of_list (ps ++ [])) ∷ []) first whole)))))))
 
@@ -86,11 +86,11 @@ module _ (T S : RattleType) (g : Ghosts T.Denot S.Denot) {M : Type 1} {𝓤 : Ur
 
 module _ (S : RattleType) {T : Type 0} (L : Lending T S.Denot) {M : Type 1} {𝓤 : Ura M} {𝓛 : Logic 𝓤} {K : Type 0} {Γ : List (Item 𝓤)} {G : Goal 𝓤 𝓛.H} where
   -- the loan ends: the words are put back into the open borrow, which is closed; its lifetime ends, and the heap's fields are back, with these words
-  pub rejoined : K → Soaks G → (b o : ℕ) (w : Ptr) (x : T) → ((a : S.Denot) → IsOf L a x → Seq K 𝓛 (‵ (lies_in_block S (block_ptr b o) a) ∷ Γ) G)
+  pub rejoined : K → Soaks G → (b o : ℕ) (w : Ptr) (x : T) → ((a : S.Denot) → IsLooseOf L a x → Seq K 𝓛 (‵ (lies_in_block S (block_ptr b o) a) ∷ Γ) G)
       → Seq K 𝓛 (‵ (loan_owns S L (block_ptr b o) w (Some x)) ∷ Γ) G
   rejoined t z b o w x k =
       let xs : List ℕ = L.words x in let n = length xs in
-      fsplit t $ move t (1 ∷ []) $ fpick t (λ (p : (n : Names S.Denot) × IsOf L (L.with_words n.parts xs) x). fsplit t $ feq_l t (λ at. fsplit t $ feq_l t (λ words_at. fsplit t $ feq_l t (λ many.
+      fsplit t $ move t (1 ∷ []) $ fpick t (λ (p : (n : Names S.Denot) × IsLooseOf L (L.with_words n.parts xs) x). fsplit t $ feq_l t (λ at. fsplit t $ feq_l t (λ words_at. fsplit t $ feq_l t (λ many.
       let m = p.0 in let hb = m.heap_at.0 in let ho = m.heap_at.1 in let wb = m.words_at.0 in let wo = m.words_at.1 in
       let left : S.Denot = L.with_words m.parts xs in
       fsplit t $ move t (1 ∷ []) $ fsplit t $ move t (1 ∷ []) $ fsplit t $ move t (1 ∷ []) $ fsplit t $ move t (1 ∷ []) $ fsplit t $
@@ -104,16 +104,16 @@ module _ (S : RattleType) {T : Type 0} (L : Lending T S.Denot) {M : Type 1} {�
       move t (1 ∷ []) $ drop t $ move t (1 ∷ []) $ lft_end t z $
       -- [the lifetime is over; how the heap ends; the right to free its block; what the lender keeps]
       move t (0 ∷ 3 ∷ 1 ∷ []) $ use3 𝓛 (later (‵ ((mem S).own_at left hb ho))) (ref_back 𝓛 S (m.life ∷ []) m.heap_name left hb ho) $ await t z $
-      move t (1 ∷ []) $ rewrite t 0 (λ (q : Ptr). ‵ (may_free S q)) at refl $ move t (1 ∷ 0 ∷ []) $ fjoin t $
+      move t (1 ∷ []) $ rewrite t 0 (λ (q : Ptr). ‵ (may_free_value S q)) at refl $ move t (1 ∷ 0 ∷ []) $ fjoin t $
       rewrite t 0 (λ (q : Ptr). ‵ (lies_in_block S q left)) (sym at) refl $ k left p.1))))
 
 module _ (S : RattleType) {T : Type 0} (L : Lending T S.Denot) {M : Type 1} {𝓤 : Ura M} (𝓛 : Logic 𝓤) where
   -- the heap x may be replaced by a heap t with as many words, if the fields with the words of t are those of t
   pub replaced : (p w : Ptr) (x t : T) → length (L.words t) ≡ length (L.words x)
-      → ((a : S.Denot) → IsOf L (L.with_words a (L.words x)) x → IsOf L (L.with_words a (L.words t)) t)
+      → ((a : S.Denot) → IsLooseOf L (L.with_words a (L.words x)) x → IsLooseOf L (L.with_words a (L.words t)) t)
       → ent 𝓤 (sem 𝓛 (opened S L p w x)) (sem 𝓛 (opened S L p w t))
   replaced p w x t many still =
-      qed 𝓛 (‵ (opened S L p w x) ∷ []) ∵ fpick ! (λ (m : (n : Names S.Denot) × IsOf L (L.with_words n.parts (L.words x)) x).
+      qed 𝓛 (‵ (opened S L p w x) ∷ []) ∵ fpick ! (λ (m : (n : Names S.Denot) × IsLooseOf L (L.with_words n.parts (L.words x)) x).
       rewrite ! 0 (λ (n : ℕ). ‵ (open_borrow S L.with_words p w n m.0)) (sym many) refl $
-      fpack ! ((n : Names S.Denot) × IsOf L (L.with_words n.parts (L.words t)) t) (λ n. open_borrow S L.with_words p w (length (L.words t)) n.0)
+      fpack ! ((n : Names S.Denot) × IsLooseOf L (L.with_words n.parts (L.words t)) t) (λ n. open_borrow S L.with_words p w (length (L.words t)) n.0)
       (m.0, still m.0.parts m.1) $ done !)

@@ -19,16 +19,16 @@ IsCallOnOpen (Opened h) code new kept step = IsOpenWith new (step h)
 IsCallOnOpen (Lent h w) code new kept step = (code ≡ pos 9) × (new ≡ Lent h w) × kept
 
 -- An open of a closed heap with valid settings. It returns 0, and `fresh` holds of the new heap; or 10 (`MEMORY`), and the heap is still closed.
-abbrev pub IsOpened : {T : Type 0} → (T → Type 0) → ℕ → ℤ → CallerHeap T → Type 0
-IsOpened fresh last code (Closed now) = (code ≡ pos 10) × (now ≡ last)
-IsOpened fresh last code (Opened h) = (code ≡ pos 0) × fresh h
-IsOpened fresh last code (Lent h w) = ⊥
+abbrev pub IsOpenedHeap : {T : Type 0} → (T → Type 0) → ℕ → ℤ → CallerHeap T → Type 0
+IsOpenedHeap fresh last code (Closed now) = (code ≡ pos 10) × (now ≡ last)
+IsOpenedHeap fresh last code (Opened h) = (code ≡ pos 0) × fresh h
+IsOpenedHeap fresh last code (Lent h w) = ⊥
 
--- An open of a closed heap. If the first argument is `None`, all settings are valid and `IsOpened` holds. Else it is the first setting out of range: the call
+-- An open of a closed heap. If the first argument is `None`, all settings are valid and `IsOpenedHeap` holds. Else it is the first setting out of range: the call
 -- returns its code, and the heap stays closed.
 abbrev pub IsOpening : {T : Type 0} → Option SettingFault → (T → Type 0) → ℕ → ℤ → CallerHeap T → Type 0
 IsOpening (Some e) fresh last code new = (code ≡ fault_code e) × (new ≡ Closed last)
-IsOpening None fresh last code new = IsOpened fresh last code new
+IsOpening None fresh last code new = IsOpenedHeap fresh last code new
 
 -- An open. The first argument is the first setting out of range, or `None`. `fresh last` holds of a heap that was just opened with these settings and whose
 -- handles are larger than `last`. On an open heap the call returns 8 (`OPEN`), on a lent one 9 (`LENT`), and changes nothing.

@@ -33,10 +33,10 @@ closed_now (Opened h) = Err (pos 8)
 closed_now (Lent h w) = Err (pos 9)
 
 -- the address of the block of a loan: of the heap at p if it is lent, else q, any address
-abbrev pub block_in : {T : Type 0} → CallerHeap T → Ptr → Ptr → Ptr
-block_in (Closed last) p q = q
-block_in (Opened h) p q = q
-block_in (Lent h w) p q = p
+abbrev pub lent_block_in : {T : Type 0} → CallerHeap T → Ptr → Ptr → Ptr
+lent_block_in (Closed last) p q = q
+lent_block_in (Opened h) p q = q
+lent_block_in (Lent h w) p q = p
 
 -- the code of a call on a heap that is not open: 9 (`LENT`) if it is lent, else 7 (`CLOSED`)
 abbrev pub refusal_code : {T : Type 0} → CallerHeap T → ℤ

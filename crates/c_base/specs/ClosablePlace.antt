@@ -9,8 +9,8 @@ use Rattle.c_base.specs.declared.closable.ClosableHeap.{ClosableHeap}
 use Rattle.c_base.specs.contracts.closable.ClosableHeap.{the_row}
 
 -- the heap of the struct: closed or open; it is never lent
-abbrev pub held_in : {T : Type 0} → ClosableHeap T → CallerHeap T
-held_in n = heap_of n.place.held None null_ptr n.last
+abbrev pub caller_heap : {T : Type 0} → ClosableHeap T → CallerHeap T
+caller_heap n = heap_of n.place.held None null_ptr n.last
 
 -- s is the borrow of the struct, r that of its heap: when r ends, the struct is open, and has the heap as r leaves it (as `LendsHeap` of `Place`)
 abbrev pub LendsHeap : (T : RattleType) → MutBor (ClosableHeap T.Denot) → MutBor T.Denot → Fml

@@ -8,11 +8,11 @@ raised_all handles [] = handles
 raised_all handles (n ∷ ns) = raised_all (raised handles n) ns
 
 -- how often the list has n
-abbrev pub times : ℕ → List ℕ → ℕ
-times n [] = 0
-times n (m ∷ ms) = cond (nat_eq m n) (suc (times n ms)) (times n ms)
+abbrev pub times_in : ℕ → List ℕ → ℕ
+times_in n [] = 0
+times_in n (m ∷ ms) = cond (nat_eq m n) (suc (times_in n ms)) (times_in n ms)
 
 -- the generation g, one of c, after k frees
-abbrev pub after : ℕ → ℕ → ℕ → ℕ
-after c zero g = g
-after c (suc k) g = after c k (cond (nat_lt (g + 1) c) (g + 1) 0)
+abbrev pub generation_after : ℕ → ℕ → ℕ → ℕ
+generation_after c zero g = g
+generation_after c (suc k) g = generation_after c k (cond (nat_lt (g + 1) c) (g + 1) 0)

@@ -10,7 +10,7 @@ pub record Lending (T S : Type 0) : Type 1 where
   pub last : T → ℕ
 
 -- a are the fields of the heap x
-pub record IsOf {T S : Type 0} (L : Lending T S) (a : S) (x : T) : Type 0 where
+pub record IsLooseOf {T S : Type 0} (L : Lending T S) (a : S) (x : T) : Type 0 where
   pub fit : L.fits a
   pub shown : L.state a ≡ x
 
@@ -18,7 +18,7 @@ pub record IsOf {T S : Type 0} (L : Lending T S) (a : S) (x : T) : Type 0 where
 abbrev pub AreOf : {T S : Type 0} → Lending T S → Option S → Option T → Type 0
 AreOf L None h = ⊥
 AreOf L (Some a) None = ⊥
-AreOf L (Some a) (Some x) = IsOf L a x
+AreOf L (Some a) (Some x) = IsLooseOf L a x
 
 -- the block has the fields of a heap
 abbrev pub IsFit : {T S : Type 0} → Lending T S → Option S → Type 0

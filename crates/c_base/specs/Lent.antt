@@ -13,7 +13,7 @@ use mir.Raw.{raw}
 use types.SemTy.{Body}
 use Rattle.std.specs.Prelude.{ℕ, List, [], ◌∷◌, Option, Some, None, length}
 use Rattle.std.specs.contracts.prelude.GlobalAllocator.TheImpl.{ghosts}
-use Rattle.c_base.specs.Lending.{IsOf, Lending}
+use Rattle.c_base.specs.Lending.{IsLooseOf, Lending}
 
 -- the names of an open borrow of all words of the region: its lifetime, the ghost names of the heap and of the words, the places of both, and the heap's fields, of type S, and the words when it was opened
 pub record Names (S : Type 0) : Type 0 where
@@ -26,8 +26,8 @@ pub record Names (S : Type 0) : Type 0 where
   pub lent : List ℕ
 
 -- the right to free the block at p, which has a value of type S
-abbrev pub may_free : RattleType → Ptr → Fml
-may_free S p = ghosts.dealloc_token (record { memory = record { seal = tt } }) (raw (lone S.mir)) p
+abbrev pub may_free_value : RattleType → Ptr → Fml
+may_free_value S p = ghosts.dealloc_token (record { memory = record { seal = tt } }) (raw (lone S.mir)) p
 
 -- the open borrow, with these names, of the n words at w of the heap in the block at p. With any n words at w it is closed, and the heap's fields are back with these words
 abbrev pub open_borrow : (S : RattleType) → (S.Denot → List ℕ → S.Denot) → Ptr → Ptr → ℕ → Names S.Denot → Fml
@@ -40,7 +40,7 @@ open_borrow S with_words p w n m =
     (fsep (fauth m.words_name ((coded_holeys u64).code (heres u64 m.lent)))
     (fsep (flent (m.life ∷ []) (Body (mem S) m.heap_at.0 m.heap_at.1 m.heap_name))
     (fsep (follows S (Array u64 0) m.heap_name m.words_name (with_words m.parts))
-    (may_free S p))))))))
+    (may_free_value S p))))))))
 
 -- the words ws lie at w
 abbrev pub words_lie : Ptr → List ℕ → Fml
@@ -48,7 +48,7 @@ words_lie w ws = lies_at (Array u64 (length ws)) full_share w ws
 
 -- what makes the heap x whole again, with its words at w: the open borrow, and that the fields with these words are those of this heap
 abbrev pub opened : (S : RattleType) {T : Type 0} → Lending T S.Denot → Ptr → Ptr → T → Fml
-opened S L p w x = fex ((m : Names S.Denot) × IsOf L (L.with_words m.parts (L.words x)) x) (λ m. open_borrow S L.with_words p w (length (L.words x)) m.0)
+opened S L p w x = fex ((m : Names S.Denot) × IsLooseOf L (L.with_words m.parts (L.words x)) x) (λ m. open_borrow S L.with_words p w (length (L.words x)) m.0)
 
 -- what a `Loan` owns: nothing; or the words of the heap x in the block at p, which lie at w, and what makes it whole again
 abbrev pub loan_owns : (S : RattleType) {T : Type 0} → Lending T S.Denot → Ptr → Ptr → Option T → Fml

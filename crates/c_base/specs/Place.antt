@@ -9,8 +9,8 @@ use Rattle.c_base.specs.declared.loan.Lendable.{Ghosts}
 use Rattle.c_base.specs.contracts.heap.LendableHeap.{the_row}
 
 -- the heap of the struct: closed, open or lent
-abbrev pub held_in : {T S : Type 0} → LendableHeap T S → CallerHeap T
-held_in n = heap_of n.place.held n.loan.heap n.loan.words n.last
+abbrev pub caller_heap : {T S : Type 0} → LendableHeap T S → CallerHeap T
+caller_heap n = heap_of n.place.held n.loan.heap n.loan.words n.last
 
 -- s is the borrow of the struct, r that of its heap: when r ends, the struct is open, and has the heap as r leaves it. `Lends` of the standard library states
 -- this: its last argument computes the struct from the state h in which r leaves the heap. `the_row` is the type of the struct.

@@ -45,11 +45,11 @@ pub struct ClosableHeap<T> {
 impl<T> ClosableHeap<T> {
     ghost use Rattle.std.specs.Prelude.{IsTrue};
     ghost use Rattle.c_base.specs.CallerHeap.{Opened, opened_now};
-    ghost use Rattle.c_base.specs.ClosablePlace.{LendsHeap, held_in};
+    ghost use Rattle.c_base.specs.ClosablePlace.{LendsHeap, caller_heap};
 
     /// Returns whether this `ClosableHeap` is open.
     pub fn is_open(&self) -> bool
-        ensures { result ≡ opened_now (held_in self.now) }
+        ensures { result ≡ opened_now (caller_heap self.now) }
     {
         self.is_open
     }
@@ -57,9 +57,9 @@ impl<T> ClosableHeap<T> {
     /// Borrows the open heap of this `ClosableHeap`. When the borrow ends, the heap as it then is belongs to this
     /// struct again.
     pub fn held(&mut self) -> &mut T
-        requires { IsTrue (opened_now (held_in self.old)) }
+        requires { IsTrue (opened_now (caller_heap self.old)) }
         ensures* writes_back { sem 𝓛 (LendsHeap T.row self.entry result) }
-        ensures value { held_in self.old ≡ Opened result.now }
+        ensures value { caller_heap self.old ≡ Opened result.now }
     {
         self.place.lend()
     }
@@ -68,12 +68,12 @@ impl<T> ClosableHeap<T> {
 impl<T: Drop> ClosableHeap<T> {
     ghost use Rattle.std.specs.Prelude.{IsOk};
     ghost use Rattle.c_base.specs.CallerHeap.{Opened, closed_now};
-    ghost use Rattle.c_base.specs.ClosablePlace.{held_in};
+    ghost use Rattle.c_base.specs.ClosablePlace.{caller_heap};
 
     /// Opens a `ClosableHeap` that is closed: it is this one.
     pub fn put(&mut self, heap: Box<T, Global>)
-        requires { IsOk (closed_now (held_in self.old)) }
-        ensures { held_in self.new ≡ Opened heap.value }
+        requires { IsOk (closed_now (caller_heap self.old)) }
+        ensures { caller_heap self.new ≡ Opened heap.value }
     {
         self.place = HeapBlock::of(heap);
         self.is_open = true;
@@ -83,7 +83,7 @@ impl<T: Drop> ClosableHeap<T> {
 impl<T: Openable + Drop> ClosableHeap<T> {
     ghost use Rattle.c_base.specs.AtPlace.{IsOpenBy};
     ghost use Rattle.c_base.specs.CallerHeap.{closed_with};
-    ghost use Rattle.c_base.specs.ClosablePlace.{held_in};
+    ghost use Rattle.c_base.specs.ClosablePlace.{caller_heap};
     ghost use Rattle.c_base.specs.Needed.{AreNeeded};
 
     /// Writes into `needed` what `ClosableHeap::open` with these settings asks for. Returns `DONE`, or the code of the
@@ -115,7 +115,7 @@ impl<T: Openable + Drop> ClosableHeap<T> {
     /// open already, the code of the first setting out of range, or `MEMORY`.
     pub fn open(&mut self, memory: Memory, pages: u32, page_bytes: u32, k: u32, proxies: u32) -> i32
         requires { T.opening.takes k }
-        ensures { IsOpenBy (setting_fault pages page_bytes k proxies) (T.opening.is_fresh (profile_from pages page_bytes k proxies)) (held_in self.old) result (held_in self.new) }
+        ensures { IsOpenBy (setting_fault pages page_bytes k proxies) (T.opening.is_fresh (profile_from pages page_bytes k proxies)) (caller_heap self.old) result (caller_heap self.new) }
     {
         if self.is_open {
             return OPEN;
@@ -134,7 +134,7 @@ impl<T: Openable + Drop> ClosableHeap<T> {
 
     /// Closes this `ClosableHeap` and frees its memory; does nothing if it is closed.
     pub fn close(&mut self, memory: Memory)
-        ensures { held_in self.new ≡ closed_with T.opening.last (held_in self.old) }
+        ensures { caller_heap self.new ≡ closed_with T.opening.last (caller_heap self.old) }
     {
         if !self.is_open {
             return;

@@ -1,7 +1,7 @@
 //! `LendableHeap`: what a caller in C has for its heap, open, lent or closed, for each type of heap that can be lent.
 ghost use Rattle.std.specs.Prelude.{◌≡◌};
 ghost use Rattle.std.specs.Borrow.{sem};
-ghost use Rattle.c_base.specs.CallerHeap.{block_in, heap_of, lent_now, opened_now};
+ghost use Rattle.c_base.specs.CallerHeap.{heap_of, lent_block_in, lent_now, opened_now};
 
 use crate::block::HeapBlock;
 use crate::codes::{CLOSED, DONE, LENT, NOT_LENT, OPEN};
@@ -22,25 +22,25 @@ pub struct LendableHeap<T: Lendable<S>, S> {
     is_lent: bool,
     ghost shown: { is_open ≡ opened_now (heap_of place.held loan.heap loan.words last) },
     ghost lent_shown: { is_lent ≡ lent_now (heap_of place.held loan.heap loan.words last) },
-    ghost same: { loan.block ≡ block_in (heap_of place.held loan.heap loan.words last) place.at loan.block },
+    ghost same: { loan.block ≡ lent_block_in (heap_of place.held loan.heap loan.words last) place.at loan.block },
 }
 
 impl<T: Lendable<S>, S> LendableHeap<T, S> {
     ghost use Rattle.std.specs.Prelude.{IsTrue};
     ghost use Rattle.c_base.specs.AtPlace.{IsLendCall, IsReturnCall};
     ghost use Rattle.c_base.specs.CallerHeap.{Opened, closed_now, refusal_code};
-    ghost use Rattle.c_base.specs.Place.{LendsHeap, held_in};
+    ghost use Rattle.c_base.specs.Place.{LendsHeap, caller_heap};
 
     /// Returns whether this `LendableHeap` is open, and not lent.
     pub fn is_open(&self) -> bool
-        ensures { result ≡ opened_now (held_in self.now) }
+        ensures { result ≡ opened_now (caller_heap self.now) }
     {
         self.is_open
     }
 
     /// Returns the largest handle of the heaps before, if the heap is closed; else the code of an open, `OPEN` or `LENT`.
     pub fn closed(&self) -> Result<u32, i32>
-        ensures { result ≡ closed_now (held_in self.now) }
+        ensures { result ≡ closed_now (caller_heap self.now) }
     {
         if self.is_lent {
             Err(LENT)
@@ -53,7 +53,7 @@ impl<T: Lendable<S>, S> LendableHeap<T, S> {
 
     /// Returns the code of a call on a heap that is not open: `LENT` or `CLOSED`.
     pub fn refusal(&self) -> i32
-        ensures { result ≡ refusal_code (held_in self.now) }
+        ensures { result ≡ refusal_code (caller_heap self.now) }
     {
         if self.is_lent { LENT } else { CLOSED }
     }
@@ -61,9 +61,9 @@ impl<T: Lendable<S>, S> LendableHeap<T, S> {
     /// Borrows the open heap of this `LendableHeap`. When the borrow ends, the heap as it then is belongs to this
     /// struct again.
     pub fn held(&mut self) -> &mut T
-        requires { IsTrue (opened_now (held_in self.old)) }
+        requires { IsTrue (opened_now (caller_heap self.old)) }
         ensures* writes_back { sem 𝓛 (LendsHeap T.row S.row ⟦<T as Lendable<S>>⟧ self.entry result) }
-        ensures value { held_in self.old ≡ Opened result.now }
+        ensures value { caller_heap self.old ≡ Opened result.now }
     {
         self.place.lend()
     }
@@ -73,7 +73,7 @@ impl<T: Lendable<S>, S> LendableHeap<T, S> {
     /// The caller may read them, and write the bytes of objects (the law `bytes_are_written` of the manager). Returns `DONE`,
     /// or the code of the refusal, and then `words` is unchanged.
     pub fn lend(&mut self, words: &mut *mut u64) -> i32
-        ensures { IsLendCall (held_in self.old) result (held_in self.new) words.old words.new }
+        ensures { IsLendCall (caller_heap self.old) result (caller_heap self.new) words.old words.new }
     {
         if self.is_open {
             self.is_open = false;
@@ -92,7 +92,7 @@ impl<T: Lendable<S>, S> LendableHeap<T, S> {
     /// Ends the loan to C: the heap is open, with the words as the caller left them. Returns `DONE`, or `NOT_LENT` or
     /// `CLOSED` if the heap isn't lent.
     pub fn end_loan(&mut self) -> i32
-        ensures { IsReturnCall (held_in self.old) result (held_in self.new) }
+        ensures { IsReturnCall (caller_heap self.old) result (caller_heap self.new) }
     {
         if self.is_lent {
             let block = std::mem::replace(&mut self.place, HeapBlock::nowhere());
@@ -112,12 +112,12 @@ impl<T: Lendable<S>, S> LendableHeap<T, S> {
 impl<T: Lendable<S> + Drop, S> LendableHeap<T, S> {
     ghost use Rattle.std.specs.Prelude.{IsOk};
     ghost use Rattle.c_base.specs.CallerHeap.{Opened, closed_now, closed_with};
-    ghost use Rattle.c_base.specs.Place.{held_in};
+    ghost use Rattle.c_base.specs.Place.{caller_heap};
 
     /// Opens a `LendableHeap` that is closed: it is this one.
     pub fn put(&mut self, heap: Box<T, Global>)
-        requires { IsOk (closed_now (held_in self.old)) }
-        ensures { held_in self.new ≡ Opened heap.value }
+        requires { IsOk (closed_now (caller_heap self.old)) }
+        ensures { caller_heap self.new ≡ Opened heap.value }
     {
         self.place = HeapBlock::of(heap);
         self.is_open = true;
@@ -125,7 +125,7 @@ impl<T: Lendable<S> + Drop, S> LendableHeap<T, S> {
 
     /// Closes this `LendableHeap` and frees its memory, also if it is lent; does nothing if it is closed.
     pub fn close(&mut self, memory: Memory)
-        ensures { held_in self.new ≡ closed_with T.lending.last (held_in self.old) }
+        ensures { caller_heap self.new ≡ closed_with T.lending.last (caller_heap self.old) }
     {
         if self.is_lent {
             let _code = self.end_loan();

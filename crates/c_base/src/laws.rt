@@ -1,6 +1,6 @@
 //! Laws of the handles that C has. The functions do nothing; each contract is a law.
 ghost use Rattle.std.specs.Prelude.{◌≡◌, ◌+◌, ◌*◌, ◌/◌, ◌^◌, ◌<◌, ◌≤◌, ℕ, List, length};
-ghost use Rattle.c_base.specs.Frees.{raised_all, times};
+ghost use Rattle.c_base.specs.Frees.{raised_all, times_in};
 ghost use Rattle.c_base.specs.HandleRules.{AreFirstHandles, AreHandles};
 ghost use Rattle.c_base.specs.Handles.{handle_of, largest, none, number_in};
 
@@ -8,8 +8,8 @@ ghost use Rattle.c_base.specs.Handles.{handle_of, largest, none, number_in};
 /// `2 ^ 32 / length handles - 1` times, where `ns` are the numbers that were freed since, in any order.
 pub fn a_freed_handle_names_nothing()
     ensures names { (handles : List ℕ) (n : ℕ) → AreHandles handles → n < length handles → number_in handles (handle_of handles n) ≡ n }
-    ensures freed { (handles ns : List ℕ) (n : ℕ) → AreHandles handles → n < length handles → 1 ≤ times n ns
-        → times n ns + 1 < 2 ^ 32 / length handles → number_in (raised_all handles ns) (handle_of handles n) ≡ none }
+    ensures freed { (handles ns : List ℕ) (n : ℕ) → AreHandles handles → n < length handles → 1 ≤ times_in n ns
+        → times_in n ns + 1 < 2 ^ 32 / length handles → number_in (raised_all handles ns) (handle_of handles n) ≡ none }
 {}
 
 /// If no handle has reached the last three generations, C's handle of a heap names nothing in the next heap of the same

@@ -9,7 +9,7 @@ use Rattle.script_reader.specs.Items.{is_bound}
 use Rattle.script_reader.specs.declared.command.Command.{Command}
 use Rattle.script_reader.specs.declared.command.Command.TheVariants.{Malloc, Free, Write, Read}
 use Rattle.generator.specs.Generated.{bytes_asked, command_of_word, generated, id_named, one_of_eight}
-use Rattle.generator.specs.ReadBack.{ArePlain, IsCommand}
+use Rattle.generator.specs.ReadBack.{ArePlainCommands, IsCommand}
 
 few_bytes : (word : ℕ) → bytes_asked word < 16384
 few_bytes word = go (word / 2 ^ 32 % 8 == 0)
@@ -49,7 +49,7 @@ plain_of_word word = go (nat_lt (one_of_eight word) 3) (nat_lt (one_of_eight wor
     go false false true = record { is = record { formed = (lit≤ tt, lit≤ tt); typed = (id, lit≤ tt, are_bytes word) }; plain = refl }
     go false false false = record { is = record { formed = lit≤ tt; typed = (id, lit≤ tt) }; plain = refl }
 
-pub generated_plain : (seed count : ℕ) → ArePlain (generated seed count)
+pub generated_plain : (seed count : ℕ) → ArePlainCommands (generated seed count)
 generated_plain seed zero = tt
 generated_plain seed (suc count) =
     let one = plain_of_word (mix_u64 seed).0 in (one.is, one.plain, generated_plain (mix_u64 seed).1 count)

@@ -21,7 +21,7 @@ use Rattle.script_reader.specs.declared.command.Command.TheVariants.{Task, Quota
 use Rattle.script_reader.specs.declared.stage.Stage.{Stage}
 use Rattle.script_reader.specs.declared.stage.Stage.TheVariants.{Opening, Bounding, Running}
 use Rattle.generator.specs.CommandText.{after_spaces, line_of, spaced, tokens_of, word_and_numbers}
-use Rattle.generator.specs.ReadBack.{ArePlain, CanOpen, IsCommand, IsShort, IsWord, heap_line, lines_of}
+use Rattle.generator.specs.ReadBack.{ArePlainCommands, CanOpen, IsCommand, IsShort, IsWord, command_lines, heap_line}
 use Rattle.generator.proofs.TextLemmas.{AreWords, hex_token, number_token, number_tokens, numbers_short}
 use Rattle.generator.proofs.TokenLemmas.{AreTokens, IsToken, high_by_test, line_cut, no_return, shown_spaced, tokens_spaced}
 
@@ -193,17 +193,17 @@ plain_verdict Opening c opened plain = absurd opened
 plain_verdict Bounding c opened plain = rw plain refl
 plain_verdict Running c opened plain = rw plain refl
 
-commands_back : (cs : List Command) (n : ℕ) (stage : Stage) → IsOpened stage → ArePlain cs
-    → items_at (lines (lines_of cs) true) n stage ≡ map (λ c. asks c) cs
+commands_back : (cs : List Command) (n : ℕ) (stage : Stage) → IsOpened stage → ArePlainCommands cs
+    → items_at (lines (command_lines cs) true) n stage ≡ map (λ c. asks c) cs
 commands_back [] n stage opened are = refl
 commands_back (c ∷ cs) n stage opened are =
-    ap (λ l. items_at l n stage) (line_back c (lines_of cs) true are.0)
-    ∙ ap (λ says. items_by (verdict stage says) n stage (items_at (lines (lines_of cs) true) (n + 1))) (says_back c are.0)
-    ∙ ap (λ v. items_by v n stage (items_at (lines (lines_of cs) true) (n + 1))) (plain_verdict stage c opened are.1)
+    ap (λ l. items_at l n stage) (line_back c (command_lines cs) true are.0)
+    ∙ ap (λ says. items_by (verdict stage says) n stage (items_at (lines (command_lines cs) true) (n + 1))) (says_back c are.0)
+    ∙ ap (λ v. items_by v n stage (items_at (lines (command_lines cs) true) (n + 1))) (plain_verdict stage c opened are.1)
     ∙ ap (λ l. asks c ∷ l) (commands_back cs (n + 1) Running tt are.2)
 
-pub script_back : (pages page_bytes k proxies : ℕ) (cs : List Command) → CanOpen pages page_bytes k proxies → ArePlain cs
-    → items (heap_line pages page_bytes k proxies ++ lines_of cs) true ≡ starts (profile_from pages page_bytes k proxies) ∷ map (λ c. asks c) cs
+pub script_back : (pages page_bytes k proxies : ℕ) (cs : List Command) → CanOpen pages page_bytes k proxies → ArePlainCommands cs
+    → items (heap_line pages page_bytes k proxies ++ command_lines cs) true ≡ starts (profile_from pages page_bytes k proxies) ∷ map (λ c. asks c) cs
 script_back pages page_bytes k proxies cs can are =
-    after_opening pages page_bytes k proxies can (lines_of cs)
+    after_opening pages page_bytes k proxies can (command_lines cs)
     ∙ ap (λ l. starts (profile_from pages page_bytes k proxies) ∷ l) (commands_back cs 1 Bounding tt are)

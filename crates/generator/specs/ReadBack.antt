@@ -48,11 +48,11 @@ abbrev pub heap_line : ℕ → ℕ → ℕ → ℕ → List ℕ
 heap_line pages page_bytes k proxies = spaced (word_and_numbers (codes "heap") (pages ∷ page_bytes ∷ k ∷ proxies ∷ [])) ++ 10 ∷ []
 
 -- the bytes of the lines of the commands, one after the other
-abbrev pub lines_of : List Command → List ℕ
-lines_of [] = []
-lines_of (c ∷ rest) = line_of c ++ lines_of rest
+abbrev pub command_lines : List Command → List ℕ
+command_lines [] = []
+command_lines (c ∷ rest) = line_of c ++ command_lines rest
 
 -- each of these is a command of the code's type (`IsCommand`), and none of them is the command `k`
-abbrev pub ArePlain : List Command → Type 0
-ArePlain [] = ⊤
-ArePlain (c ∷ rest) = IsCommand c × (is_bound c ≡ false) × ArePlain rest
+abbrev pub ArePlainCommands : List Command → Type 0
+ArePlainCommands [] = ⊤
+ArePlainCommands (c ∷ rest) = IsCommand c × (is_bound c ≡ false) × ArePlainCommands rest

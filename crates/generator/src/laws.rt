@@ -4,7 +4,7 @@ ghost use Rattle.std.specs.Prelude.{◌≡◌, ◌++◌, ◌∷◌, [], ℕ, Lis
 ghost use Rattle.cf_base.specs.Settings.{profile_from};
 ghost use Rattle.generator.specs.CommandText.{line_of, spaced, tokens_of};
 ghost use Rattle.generator.specs.Generated.{generated};
-ghost use Rattle.generator.specs.ReadBack.{ArePlain, CanOpen, IsCommand, heap_line, lines_of};
+ghost use Rattle.generator.specs.ReadBack.{ArePlainCommands, CanOpen, IsCommand, command_lines, heap_line};
 ghost use Rattle.script_reader.specs.Items.{asks, item, items, line_says, starts};
 ghost use Rattle.script_reader.specs.Lines.{lines};
 ghost use Rattle.script_reader.specs.declared.command.Command.{Command};
@@ -22,8 +22,8 @@ pub fn commands_are_read_back()
 /// A script begins with a `heap` line whose settings are in range. The lines that are written for a list of
 /// commands follow; none of these is the command `k`. The script's items are the `heap` line and these commands.
 pub fn scripts_are_read_back()
-    ensures { (pages page_bytes k proxies : ℕ) (commands : List Command) → CanOpen pages page_bytes k proxies → ArePlain commands
-        → items (heap_line pages page_bytes k proxies ++ lines_of commands) true
+    ensures { (pages page_bytes k proxies : ℕ) (commands : List Command) → CanOpen pages page_bytes k proxies → ArePlainCommands commands
+        → items (heap_line pages page_bytes k proxies ++ command_lines commands) true
         ≡ starts (profile_from pages page_bytes k proxies) ∷ map (λ c. asks c) commands }
 {}
 
@@ -31,6 +31,6 @@ pub fn scripts_are_read_back()
 /// `count` commands of a seed, its items are the `heap` line and these commands.
 pub fn generated_scripts_are_read_back()
     ensures { (pages page_bytes k proxies seed count : ℕ) → CanOpen pages page_bytes k proxies
-        → items (heap_line pages page_bytes k proxies ++ lines_of (generated seed count)) true
+        → items (heap_line pages page_bytes k proxies ++ command_lines (generated seed count)) true
         ≡ starts (profile_from pages page_bytes k proxies) ∷ map (λ c. asks c) (generated seed count) }
 {}

@@ -9,7 +9,7 @@ use Rattle.cf_model.specs.Rules.{KeepsRules}
 use Rattle.cf_model.specs.State.{HeapState, paging_in}
 use Rattle.page_model.specs.Figures.{totals_of}
 use Rattle.page_model.proofs.CallerLemmas.{len-objects}
-use Rattle.held_heap.specs.Bound.{IsBoundCall, bound_code, class_to_bound}
+use Rattle.held_heap.specs.Bound.{IsBoundCall, bound_code, class_with_bound}
 use Rattle.held_heap.specs.HeldState.{HeldState}
 
 abbrev figures_by : HeapState → Family → Totals
@@ -28,7 +28,7 @@ module _ (old : HeldState) (words k : ℕ) (least : 1 ≤ k) (most : k ≤ 64) w
   pub refused : len old.heap.held ≢ 0 → IsBoundCall old words k (pos 20) old
   refused some =
       let none : nat_eq (len old.heap.held) 0 ≡ false = ne_eqb (len old.heap.held) 0 some in
-      let here : class_to_bound old.heap words k ≡ None = rw more (rw less (rw none refl)) in
+      let here : class_with_bound old.heap words k ≡ None = rw more (rw less (rw none refl)) in
       record {
         by_code = rw here (rw more (rw less (rw none refl)));
         whole = rw here refl;
@@ -36,10 +36,10 @@ module _ (old : HeldState) (words k : ℕ) (least : 1 ≤ k) (most : k ≤ 64) w
       }
 
   module _ (empty_now : len old.heap.held ≡ 0) (new : HeapState) (is : new ≡ with_bound old.heap (class_with old.heap.kind old.heap words) k) (kept : KeepsRules new) where
-    here : class_to_bound old.heap words k ≡ class_with old.heap.kind old.heap words
+    here : class_with_bound old.heap words k ≡ class_with old.heap.kind old.heap words
     here = rw more (rw less (rw empty_now refl))
 
-    whole : ◌≡◌ {A = HeldState} (record old { heap = new }) (record old { heap = with_bound old.heap (class_to_bound old.heap words k) k })
+    whole : ◌≡◌ {A = HeldState} (record old { heap = new }) (record old { heap = with_bound old.heap (class_with_bound old.heap words k) k })
     whole = ap (λ (h : HeapState). record old { heap = h }) (is ∙ ap (λ (o : Option ℕ). with_bound old.heap o k) (sym here))
 
     code_ok : (o : Option ℕ) → is_some o ≡ true → pos 0 ≡ bound_code old.heap k o

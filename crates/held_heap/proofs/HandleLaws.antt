@@ -19,7 +19,7 @@ use Rattle.cf_model.specs.Rules.{KeepsRules}
 use Rattle.cf_model.specs.Steps.{ChangesCost, IsFreeStep, IsMallocStep, IsReadAnswer, IsResizeStep, IsWriteStep, Position}
 use Rattle.page_model.specs.Held.{Placed}
 use Rattle.page_model.specs.Steps.{Request}
-use Rattle.held_heap.specs.Bound.{IsBoundCall, bound_code, class_to_bound}
+use Rattle.held_heap.specs.Bound.{IsBoundCall, bound_code, class_with_bound}
 use Rattle.held_heap.specs.Calls.{resized_shown}
 use Rattle.c_base.specs.Shown.{freed_shown, malloc_number}
 use Rattle.c_base.specs.Codes.{access_code, free_code, malloc_code, resize_code}
@@ -36,9 +36,9 @@ use Rattle.held_heap.proofs.SettingsStay.{settings}
 
 -- a set bound keeps the rules, whatever its code
 pub bound_rules : (old new : HeldState) (words n : ℕ) (code : ℤ) → IsBoundCall old words n code new → KeepsRules old.heap → KeepsRules new.heap
-bound_rules old new words n code c rules = by_class (class_to_bound old.heap words n) refl
+bound_rules old new words n code c rules = by_class (class_with_bound old.heap words n) refl
   where
-    by_class : (o : Option ℕ) → class_to_bound old.heap words n ≡ o → KeepsRules new.heap
+    by_class : (o : Option ℕ) → class_with_bound old.heap words n ≡ o → KeepsRules new.heap
     by_class None is = subst KeepsRules (sym (ap (λ (h : HeldState). h.heap) c.whole ∙ ap (λ (o : Option ℕ). with_bound old.heap o n) is)) rules
     by_class (Some class) is = c.rules (c.by_code ∙ ap (bound_code old.heap n) is)
 

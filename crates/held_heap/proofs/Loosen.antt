@@ -28,8 +28,8 @@ use Rattle.held_heap.specs.declared.held.Held.TheInside as held_fields
 use Rattle.held_heap.specs.contracts.loose.LooseHeld as loose
 use Rattle.held_heap.specs.declared.loose.LooseHeld.{LooseHeld}
 use Rattle.held_heap.specs.HeldState.{HeldState, IsOpenOfKind}
-use Rattle.c_base.specs.Lending.{IsOf}
-use Rattle.held_heap.specs.Loose.{Fits, lending, state_of}
+use Rattle.c_base.specs.Lending.{IsLooseOf}
+use Rattle.held_heap.specs.Loose.{Fits, lending, loose_state_of}
 use Rattle.held_heap.specs.Moving.{open_heap as T}
 
 -- the type of the fields
@@ -55,7 +55,7 @@ abbrev ManagerOf : PagedState → Type 0
 ManagerOf s = (j : manager_fields.Inside direct.the_row.Denot) × ((paged_in Moving j.inner ≡ s) × IsValidIn Moving j.inner)
 
 module _ {M : Type 1} {𝓤 : Ura M} {𝓛 : Logic 𝓤} {K : Type 0} {Γ : List (Item 𝓤)} {G : Goal 𝓤 𝓛.H} where
-  pub loosen : K → (x : HeldState) (b o : ℕ) → ((a : LooseHeld) → IsOf lending a x → Seq K 𝓛 (‵ ((mem S).own_at a b o) ∷ Γ) G)
+  pub loosen : K → (x : HeldState) (b o : ℕ) → ((a : LooseHeld) → IsLooseOf lending a x → Seq K 𝓛 (‵ ((mem S).own_at a b o) ∷ Γ) G)
       → Seq K 𝓛 (‵ ((mem T).own_at x b o) ∷ Γ) G
   unfolding part_of
   loosen t x b o k =
@@ -73,10 +73,10 @@ module _ {M : Type 1} {𝓤 : Ura M} {𝓛 : Logic 𝓤} {K : Type 0} {Γ : List
         shown = ap (λ (s : PagedState). record { heap = s.state; steps = i.0.steps; handles = i.0.handles; counts = i.0.counts }) j.1.0 ∙ i.1.0;
       }))))))
 
-  pub tighten : K → (a : LooseHeld) (b o : ℕ) → Fits a → Step K 𝓛 (‵ ((mem T).own_at (state_of a) b o) ∷ Γ) G (‵ ((mem S).own_at a b o) ∷ Γ) G
+  pub tighten : K → (a : LooseHeld) (b o : ℕ) → Fits a → Step K 𝓛 (‵ ((mem T).own_at (loose_state_of a) b o) ∷ Γ) G (‵ ((mem S).own_at a b o) ∷ Γ) G
   unfolding part_of
   tighten t a b o fit = step (λ s.
-      let x = state_of a in
+      let x = loose_state_of a in
       let inner : PagedState = paged_in Moving a.heap.inner in
       let i : held_fields.Inside PagedState = record { heap = inner; steps = a.steps; memory = a.memory; handles = a.handles; counts = a.counts } in
       let held_type = inside_held.the_type

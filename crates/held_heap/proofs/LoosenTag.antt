@@ -26,7 +26,7 @@ use Rattle.tag_blocks.specs.contracts.blocks.TagBlocks as blocks
 use Rattle.tag_blocks.specs.contracts.blocks.TagBlocks.TheInside as inside_blocks
 use Rattle.tag_blocks.specs.declared.blocks.TagBlocks.TheInside as blocks_fields
 use Rattle.tag_blocks.specs.declared.buckets.Buckets as buckets
-use Rattle.tag_heap.specs.Heap.{Heap, IsKeptIn, IsValid, state_in}
+use Rattle.tag_heap.specs.Heap.{Heap, IsKeptIn, IsValid, tag_state_in}
 use Rattle.tag_heap.specs.contracts.open_heap.OpenHeap as open_heap
 use Rattle.tag_heap.specs.contracts.open_heap.OpenHeap.TheInside as inside_open
 use Rattle.tag_heap.specs.declared.open_heap.OpenHeap.TheInside as open_fields
@@ -50,8 +50,8 @@ use Rattle.held_heap.specs.declared.loose_tag.LooseOpen.{LooseOpen}
 use Rattle.held_heap.specs.declared.loose_tag.LooseManager.{LooseManager}
 use Rattle.held_heap.specs.declared.loose_tag.LooseTag.{LooseTag}
 use Rattle.held_heap.specs.HeldState.{HeldState, IsOpenOfKind}
-use Rattle.c_base.specs.Lending.{IsOf}
-use Rattle.held_heap.specs.LooseTag.{Rule, FitBlocks, FitIn, FitOpen, Fits, lending, seen_in, seen_heap, state_of, state_seen, seen_blocks}
+use Rattle.c_base.specs.Lending.{IsLooseOf}
+use Rattle.held_heap.specs.LooseTag.{Rule, FitBlocks, FitIn, FitOpen, Fits, lending, seen_in, seen_heap, loose_state_of, state_seen, seen_blocks}
 use Rattle.held_heap.specs.Tag as tag
 
 -- the type of the fields
@@ -132,7 +132,7 @@ module _ (R : RattleType) (P : policy.Ghosts R.Denot) (B : buckets.Ghosts R.Deno
   OpenOf h = (i : open_fields.Inside R.Denot) × ((shown_open i i.blocks ≡ h) × IsValid rule.kind (shown_open i i.blocks))
 
   abbrev ManagerOf : HeapState → Type 0
-  ManagerOf s = (i : manager_fields.Inside R.Denot) × ((state_in rule.kind i.inner ≡ s) × IsKeptIn rule.kind i.inner)
+  ManagerOf s = (i : manager_fields.Inside R.Denot) × ((tag_state_in rule.kind i.inner ≡ s) × IsKeptIn rule.kind i.inner)
 
   abbrev HeldOf : HeldState → Type 0
   HeldOf x = (i : held_fields.Inside HeapState) × ((◌≡◌ {A = HeldState} (record { heap = i.heap; steps = i.steps; handles = i.handles; counts = i.counts }) x) × IsOpenOfKind rule.kind i.heap)
@@ -221,7 +221,7 @@ module _ (R : RattleType) (P : policy.Ghosts R.Denot) (B : buckets.Ghosts R.Deno
         fjoin t $ move t (1 ∷ 0 ∷ []) $ fjoin t $
         feq_i t (List Val) vs (vstruct (of_list (flat (fields loose_manager.the_type) vss)) ∷ []) whole $ fjoin t $
         fpack t (Valss (fields loose_manager.the_type)) (within (shape loose_manager.the_type) (loose_manager.the_type.to a) vs) vss $
-        k a (ap (state_in rule.kind) e ∙ i.1.0) fit (subst (IsKeptIn rule.kind) (sym e) i.1.1)))))
+        k a (ap (tag_state_in rule.kind) e ∙ i.1.0) fit (subst (IsKeptIn rule.kind) (sym e) i.1.1)))))
 
     manager_in : K → (a : LooseManager) (vs : List Val) → FitIn rule a.inner → IsKeptIn rule.kind (seen_in a.inner)
         → Step K 𝓛 (‵ (Manager.own_val (state_seen rule.kind a.inner) vs) ∷ Γ) G (‵ (loose_manager.the_row.own_val a vs) ∷ Γ) G
@@ -235,7 +235,7 @@ module _ (R : RattleType) (P : policy.Ghosts R.Denot) (B : buckets.Ghosts R.Deno
         fpack t (ManagerOf (state_seen rule.kind a.inner)) (λ i. fsep (ManagerIn.own_val i.0 vs) ftrue) (i, (refl, rules)) $ s)))
 
   module _ {M : Type 1} {𝓤 : Ura M} {𝓛 : Logic 𝓤} {K : Type 0} {Γ : List (Item 𝓤)} {G : Goal 𝓤 𝓛.H} where
-    pub loosen : K → (x : HeldState) (b o : ℕ) → ((a : LooseTag) → IsOf (lending rule) a x → Seq K 𝓛 (‵ ((mem S).own_at a b o) ∷ Γ) G)
+    pub loosen : K → (x : HeldState) (b o : ℕ) → ((a : LooseTag) → IsLooseOf (lending rule) a x → Seq K 𝓛 (‵ ((mem S).own_at a b o) ∷ Γ) G)
         → Seq K 𝓛 (‵ ((mem T).own_at x b o) ∷ Γ) G
     unfolding part_of
     loosen t x b o k =
@@ -253,10 +253,10 @@ module _ (R : RattleType) (P : policy.Ghosts R.Denot) (B : buckets.Ghosts R.Deno
           shown = ap (λ (s : HeapState). record { heap = s; steps = i.0.steps; handles = i.0.handles; counts = i.0.counts }) e ∙ i.1.0;
         }))))))
 
-    pub tighten : K → (a : LooseTag) (b o : ℕ) → Fits rule a → Step K 𝓛 (‵ ((mem T).own_at (state_of rule.kind a) b o) ∷ Γ) G (‵ ((mem S).own_at a b o) ∷ Γ) G
+    pub tighten : K → (a : LooseTag) (b o : ℕ) → Fits rule a → Step K 𝓛 (‵ ((mem T).own_at (loose_state_of rule.kind a) b o) ∷ Γ) G (‵ ((mem S).own_at a b o) ∷ Γ) G
     unfolding part_of
     tighten t a b o fit = step (λ s.
-        let x = state_of rule.kind a in
+        let x = loose_state_of rule.kind a in
         let i : held_fields.Inside HeapState = record { heap = state_seen rule.kind a.heap.inner; steps = a.steps; memory = a.memory; handles = a.handles; counts = a.counts } in
         let type = inside_held.the_type Manager
         (of_kind.ghosts R P of_kind.no_dict B of_kind.no_dict of_kind.no_dict)

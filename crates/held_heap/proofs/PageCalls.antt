@@ -20,8 +20,8 @@ use Rattle.page_model.specs.Held.{Placed, objects}
 use Rattle.page_model.specs.Steps.{Request, resized}
 use Rattle.quota_model.specs.declared.answers.Need.{Need}
 use Rattle.sizing.specs.Demands.{KeepsTo}
-use Rattle.sizing.specs.Heaps.{Answered, HeapRun, IsFresh, Leads, free_with, malloc_with, resize_with, write_with}
-use Rattle.held_heap.specs.Bound.{IsBoundCall, bound_code, class_to_bound}
+use Rattle.sizing.specs.Heaps.{AnsweredCall, HeapRun, IsFresh, Leads, free_with, malloc_with, resize_with, write_with}
+use Rattle.held_heap.specs.Bound.{IsBoundCall, bound_code, class_with_bound}
 use Rattle.held_heap.specs.Calls.{IsFreshHeap, IsMallocCall, IsResizeCall}
 use Rattle.c_base.specs.Codes.{malloc_code, resize_code}
 use Rattle.c_base.specs.Handles.{number_in}
@@ -37,16 +37,16 @@ module _ (kind : Kind) (p : Profile) (most : Option Bounds) (needs : List Need) 
     start : HeapState
     fresh : IsFresh start
     begins : settings start ≡ (kind, p)
-    done : List Answered
+    done : List AnsweredCall
     run : HeapRun (KeepsTo needs) start done s
     here : settings s ≡ (kind, p)
 
-  one_more : (s mid next : HeapState) (done : List Answered) (call : Answered) → HeapRun (KeepsTo needs) s done mid → Leads mid call next
+  one_more : (s mid next : HeapState) (done : List AnsweredCall) (call : AnsweredCall) → HeapRun (KeepsTo needs) s done mid → Leads mid call next
       → KeepsTo needs (objects next.held) → HeapRun (KeepsTo needs) s (done ++ call ∷ []) next
   one_more s mid next [] call run leads within = (next, subst (λ (h : HeapState). Leads h call next) run leads, within, refl)
   one_more s mid next (first ∷ rest) call run leads within = (run.0, run.1, run.2, one_more run.0 mid next rest call run.3 leads within)
 
-  then_call : (s next : HeapState) → Reached s → (call : Answered) → Leads s call next → KeepsTo needs (objects next.held) → settings next ≡ settings s → Reached next
+  then_call : (s next : HeapState) → Reached s → (call : AnsweredCall) → Leads s call next → KeepsTo needs (objects next.held) → settings next ≡ settings s → Reached next
   then_call s next r call leads within stay = record {
     start = r.start;
     fresh = r.fresh;
@@ -67,7 +67,7 @@ module _ (kind : Kind) (p : Profile) (most : Option Bounds) (needs : List Need) 
   no_object false b d o c is = absurd (let e : None ≡ Some c = is in cc)
 
   -- a heap whose bound was set has no objects, so a run begins there
-  anew : (old new : HeldState) (words k : ℕ) (code : ℤ) → Reached old.heap → IsBoundCall old words k code new → (o : Option ℕ) → class_to_bound old.heap words k ≡ o
+  anew : (old new : HeldState) (words k : ℕ) (code : ℤ) → Reached old.heap → IsBoundCall old words k code new → (o : Option ℕ) → class_with_bound old.heap words k ≡ o
       → Reached new.heap
   anew old new words k code r call None is =
       same_heap old.heap new.heap r (ap (λ (h : HeldState). h.heap) call.whole ∙ ap (λ (o : Option ℕ). with_bound old.heap o k) is)
@@ -106,7 +106,7 @@ module _ (kind : Kind) (p : Profile) (most : Option Bounds) (needs : List Need) 
       reached run.0 last rest (then_call s.heap (run.0).heap r (write_with at bytes (run.1).answer) (run.1).step run.2
       (write_settings s.heap (run.0).heap at bytes (run.1).answer (run.1).step)) run.3
   reached s last (bound_call words k code ∷ rest) r run =
-      reached run.0 last rest (anew s run.0 words k code r run.1 (class_to_bound s.heap words k) refl) run.3
+      reached run.0 last rest (anew s run.0 words k code r run.1 (class_with_bound s.heap words k) refl) run.3
   reached s last (other_call ∷ rest) r run = reached run.0 last rest (same_heap s.heap (run.0).heap r run.1) run.3
 
 module _ (kind : Kind) (p : Profile) (last page_bytes pages : ℕ) (needs : List Need) (most : Option Bounds) (first old new : HeldState) (calls : List CCall)

@@ -18,7 +18,7 @@ use Rattle.paged_heap.specs.Layout.{Holds, IsValid, IsValidIn, state_at, state_i
 use Rattle.paged_heap.specs.declared.open_heap.OpenHeap.{OpenHeap}
 use Rattle.paged_heap.proofs.CallerLemmas.{has_place, no_place, lies, wrote, wrote_kept}
 use Rattle.held_heap.specs.HeldState.{HeldState, IsOpenOfKind}
-use Rattle.c_base.specs.Lending.{IsOf}
+use Rattle.c_base.specs.Lending.{IsLooseOf}
 use Rattle.c_base.specs.Lent.{opened}
 use Rattle.c_base.proofs.CallerLemmas.{again, as_many, long, replaced}
 use Rattle.held_heap.specs.Loose.{held_all, inner_all, lending, region_all}
@@ -95,7 +95,7 @@ fits_in (Some h) ws k s e is_open t q from bytes w =
     let is = left_is h ws k t q from bytes v in
     (subst (Holds Moving) (sym is) (left_holds h ws k t q from bytes v), ap (state_at Moving) is ∙ left_shown h ws k t q from bytes v)
 
-module _ (x : HeldState) (a : LooseHeld) (of : IsOf lending (held_all a x.heap.words) x) (t : HeapState) (q from : ℕ) (bytes : List ℕ) (w : IsWritten 1 x.heap t q from bytes) where
+module _ (x : HeldState) (a : LooseHeld) (of : IsLooseOf lending (held_all a x.heap.words) x) (t : HeapState) (q from : ℕ) (bytes : List ℕ) (w : IsWritten 1 x.heap t q from bytes) where
   shown_heap : state_in Moving (inner_all a.heap.inner x.heap.words) ≡ x.heap
   shown_heap = ap (λ (h : HeldState). h.heap) of.shown
 
@@ -110,7 +110,7 @@ module _ (x : HeldState) (a : LooseHeld) (of : IsOf lending (held_all a x.heap.w
       let k = subst (IsOpenOfKind Moving) shown_heap of.fit.open_now in
       subst (IsOpenOfKind Moving) (sym w.whole) (record { open_now = k.open_now; kind = k.kind })
 
-  pub still_of : IsOf lending (held_all a t.words) (record x { heap = t })
+  pub still_of : IsLooseOf lending (held_all a t.words) (record x { heap = t })
   still_of = record {
     fit = record { valid = two.0; open_now = subst (IsOpenOfKind Moving) (sym two.1) open_after };
     shown = λ k. record { heap = two.1 k; steps = (of.shown k).steps; handles = (of.shown k).handles; counts = (of.shown k).counts };

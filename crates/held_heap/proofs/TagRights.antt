@@ -19,13 +19,13 @@ use Rattle.tag_blocks.specs.Layout.{Fields, IsValid as AreValidBlocks}
 use Rattle.tag_blocks.specs.Tags.{blocks_of, lists_of}
 use Rattle.tag_blocks.proofs.AccessLemmas.{bytes_blocks, bytes_kept, bytes_lists}
 use Rattle.tag_blocks.proofs.ViewLemmas.{tags_kept}
-use Rattle.tag_heap.specs.Access.{HoldsBytesAt}
-use Rattle.tag_heap.specs.Heap.{Heap, IsKeptIn, held_in, state_of}
+use Rattle.tag_heap.specs.Access.{HoldsTagBytes}
+use Rattle.tag_heap.specs.Heap.{Heap, IsKeptIn, tag_held_in, tag_state_of}
 use Rattle.tag_heap.proofs.PartLemmas.{part_within}
 use Rattle.tag_heap.proofs.Preserved.{ReadsAs, read_is, used_at}
 use Rattle.tag_heap.proofs.WriteLemmas.{writes, wrote_rules, wrote_valid}
 use Rattle.held_heap.specs.HeldState.{HeldState, IsOpenOfKind}
-use Rattle.c_base.specs.Lending.{IsOf}
+use Rattle.c_base.specs.Lending.{IsLooseOf}
 use Rattle.c_base.specs.Lent.{opened}
 use Rattle.c_base.proofs.CallerLemmas.{again, replaced}
 use Rattle.held_heap.specs.declared.loose_tag.LooseTag.{LooseTag}
@@ -36,7 +36,7 @@ use Rattle.held_heap.specs.Written.{IsWritten}
 
 -- a heap whose region was replaced before, with the words of t
 module _ (rule : Rule) (is_tiled : IsTiled rule.kind) (h : LooseOpen) (ws : List ℕ) (fit : FitOpen rule (open_all h ws)) (t : HeapState) (q from : ℕ) (bytes : List ℕ)
-    (w : IsWritten 2 (state_of rule.kind (seen_heap (open_all h ws))) t q from bytes) where
+    (w : IsWritten 2 (tag_state_of rule.kind (seen_heap (open_all h ws))) t q from bytes) where
   abbrev h0 : Heap
   h0 = seen_heap (open_all h ws)
 
@@ -58,7 +58,7 @@ module _ (rule : Rule) (is_tiled : IsTiled rule.kind) (h : LooseOpen) (ws : List
   same : w.object ≡ record { place = a; bytes = bytes_at h0.tagged.words (a + 1) }
   same = ap (λ (bs : List ℕ). record w.object { bytes = bs }) as_read.bytes
 
-  there : HoldsBytesAt h0 (record { number = q; from = from }) (length bytes) a
+  there : HoldsTagBytes h0 (record { number = q; from = from }) (length bytes) a
   there = record { found = w.found ∙ ap Some same; within = subst (λ (bs : List ℕ). from + length bytes ≤ length bs) as_read.bytes w.within }
 
   user : IsUsedAt h0.tagged.blocks a
@@ -88,15 +88,15 @@ module _ (rule : Rule) (is_tiled : IsTiled rule.kind) (h : LooseOpen) (ws : List
     valid = wrote_valid h0 fit.valid q from a bytes there w.bytes_are (seen_blocks left.blocks) same_blocks same_lists tags w.words;
   }
 
-  pub left_rules : KeepsRules (state_of rule.kind (seen_heap left))
+  pub left_rules : KeepsRules (tag_state_of rule.kind (seen_heap left))
   left_rules = wrote_rules h0 fit.valid q from a bytes there w.bytes_are (seen_blocks left.blocks) same_blocks same_lists tags w.words is_tiled
 
-  pub left_shown : state_of rule.kind (seen_heap left) ≡ t
+  pub left_shown : tag_state_of rule.kind (seen_heap left) ≡ t
   left_shown =
       let v = writes h0 fit.valid q from a bytes there w.bytes_are (seen_blocks left.blocks) same_blocks same_lists tags w.words is_tiled in
       let is : v.object ≡ w.object = (let f = v.found in let g = w.found in cc) in
       v.whole
-      ∙ ap (λ (x : Placed). record (state_of rule.kind h0) { held = insert (held_in h0) q (record x { bytes = bytes_written x.bytes from bytes }); words = t.words }) is
+      ∙ ap (λ (x : Placed). record (tag_state_of rule.kind h0) { held = insert (tag_held_in h0) q (record x { bytes = bytes_written x.bytes from bytes }); words = t.words }) is
       ∙ sym w.whole
 
 -- the parts with the words of the state after a write are those of a heap of this state
@@ -109,12 +109,12 @@ fits_in rule is_tiled (Some h) ws k s e is_open t q from bytes w =
     let is = left_is rule is_tiled h ws k t q from bytes v in (
       subst (FitOpen rule) (sym is) (left_fits rule is_tiled h ws k t q from bytes v),
       (
-        subst (λ (l : LooseOpen). KeepsRules (state_of rule.kind (seen_heap l))) (sym is) (left_rules rule is_tiled h ws k t q from bytes v),
-        ap (λ (l : LooseOpen). state_of rule.kind (seen_heap l)) is ∙ left_shown rule is_tiled h ws k t q from bytes v,
+        subst (λ (l : LooseOpen). KeepsRules (tag_state_of rule.kind (seen_heap l))) (sym is) (left_rules rule is_tiled h ws k t q from bytes v),
+        ap (λ (l : LooseOpen). tag_state_of rule.kind (seen_heap l)) is ∙ left_shown rule is_tiled h ws k t q from bytes v,
       ),
     )
 
-module _ (rule : Rule) (is_tiled : IsTiled rule.kind) (x : HeldState) (a : LooseTag) (of : IsOf (lending rule) (held_all a x.heap.words) x) (t : HeapState) (q from : ℕ) (bytes : List ℕ) (w : IsWritten 2 x.heap t q from bytes) where
+module _ (rule : Rule) (is_tiled : IsTiled rule.kind) (x : HeldState) (a : LooseTag) (of : IsLooseOf (lending rule) (held_all a x.heap.words) x) (t : HeapState) (q from : ℕ) (bytes : List ℕ) (w : IsWritten 2 x.heap t q from bytes) where
   abbrev o : Option LooseOpen
   o = a.heap.inner
 
@@ -132,7 +132,7 @@ module _ (rule : Rule) (is_tiled : IsTiled rule.kind) (x : HeldState) (a : Loose
       let k = subst (IsOpenOfKind rule.kind) shown_heap of.fit.open_now in
       subst (IsOpenOfKind rule.kind) (sym w.whole) (record { open_now = k.open_now; kind = k.kind })
 
-  pub still_of : IsOf (lending rule) (held_all a t.words) (record x { heap = t })
+  pub still_of : IsLooseOf (lending rule) (held_all a t.words) (record x { heap = t })
   still_of = record {
     fit = record { valid = all.0; rules = all.1.0; open_now = subst (IsOpenOfKind rule.kind) (sym all.1.1) open_after };
     shown = λ k. record { heap = all.1.1 k; steps = (of.shown k).steps; handles = (of.shown k).handles; counts = (of.shown k).counts };

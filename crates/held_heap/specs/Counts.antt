@@ -27,34 +27,34 @@ abbrev pub opening_counts : ℕ → NphCounted
 opening_counts free = record { most_asked = 0; least_free = free; moves = 0; unknown = 0; size = 0; proxy = 0; space = 0 }
 
 -- one more, but at most the largest number of 64 bits
-abbrev pub one_more : ℕ → ℕ
-one_more n = min (n + 1) (2 ^ 64 - 1)
+abbrev pub next_count : ℕ → ℕ
+next_count n = min (n + 1) (2 ^ 64 - 1)
 
 -- after a call that left the heap s: the most bytes asked for and the least free
 abbrev pub with_peaks : NphCounted → HeapState → NphCounted
 with_peaks c s = record c { most_asked = max c.most_asked (asked_in s); least_free = min c.least_free (free_left s) }
 
 -- after a call that moved this object, if any
-abbrev pub with_move : NphCounted → Option Handle → NphCounted
-with_move c (Some h) = record c { moves = one_more c.moves }
-with_move c None = c
+abbrev pub counted_move : NphCounted → Option Handle → NphCounted
+counted_move c (Some h) = record c { moves = next_count c.moves }
+counted_move c None = c
 
 -- the counts after a malloc with this result, which left the heap s
 abbrev pub malloc_counts : NphCounted → Result Handle Refusal → HeapState → NphCounted
 malloc_counts c (Ok h) s = with_peaks c s
-malloc_counts c (Err refusal.Size) s = record c { size = one_more c.size }
-malloc_counts c (Err refusal.Proxy) s = record c { proxy = one_more c.proxy }
-malloc_counts c (Err refusal.Space) s = record c { space = one_more c.space }
+malloc_counts c (Err refusal.Size) s = record c { size = next_count c.size }
+malloc_counts c (Err refusal.Proxy) s = record c { proxy = next_count c.proxy }
+malloc_counts c (Err refusal.Space) s = record c { space = next_count c.space }
 
 -- the counts after a free with this result
 abbrev pub free_counts : NphCounted → Result Freed NotLive → NphCounted
-free_counts c (Ok freed) = with_move c freed.moved
-free_counts c (Err e) = record c { unknown = one_more c.unknown }
+free_counts c (Ok freed) = counted_move c freed.moved
+free_counts c (Err e) = record c { unknown = next_count c.unknown }
 
 -- the counts after a resize with this result, which left the heap s; that a manager with blocks does not resize is not counted
 abbrev pub resize_counts : NphCounted → Result Resized ResizeFault → HeapState → NphCounted
-resize_counts c (Ok done) s = with_move (with_peaks c s) done.moved
-resize_counts c (Err resize.Unknown) s = record c { unknown = one_more c.unknown }
+resize_counts c (Ok done) s = counted_move (with_peaks c s) done.moved
+resize_counts c (Err resize.Unknown) s = record c { unknown = next_count c.unknown }
 resize_counts c (Err resize.Kind) s = c
-resize_counts c (Err resize.Size) s = record c { size = one_more c.size }
-resize_counts c (Err resize.Space) s = record c { space = one_more c.space }
+resize_counts c (Err resize.Size) s = record c { size = next_count c.size }
+resize_counts c (Err resize.Space) s = record c { space = next_count c.space }

@@ -39,8 +39,8 @@ outer_of h = record {
 }
 
 -- the heap of the struct: closed, open or lent
-abbrev pub held_in : NphHeap → CallerHeap HeldState
-held_in n = base.held_in (inner_of n)
+abbrev pub heap_in : NphHeap → CallerHeap HeldState
+heap_in n = base.caller_heap (inner_of n)
 
 -- s is the borrow of the struct, r that of the `LendableHeap` in the same memory: when r ends, the struct is what r leaves
 abbrev pub LendsInner : MutBor NphHeap → MutBor (LendableHeap HeldState LooseTag) → Fml

@@ -11,8 +11,8 @@ use Rattle.held_heap.specs.HeldState.{HeldState, IsOpenOfKind}
 use Rattle.held_heap.specs.declared.loose.LooseHeld.{LooseHeld}
 
 -- the words of the region; none if the heap is closed
-abbrev pub words_of : LooseHeld → List ℕ
-words_of a = region_in a.heap.inner
+abbrev pub loose_words : LooseHeld → List ℕ
+loose_words a = region_in a.heap.inner
 
 -- the heap with the words ws in its region
 abbrev pub region_all : OpenHeap → List ℕ → OpenHeap
@@ -26,8 +26,8 @@ abbrev pub held_all : LooseHeld → List ℕ → LooseHeld
 held_all a ws = record a { heap = record a.heap { inner = inner_all a.heap.inner ws } }
 
 -- the state of a `Held` with the fields a
-abbrev pub state_of : LooseHeld → HeldState
-state_of a = record { heap = state_in Moving a.heap.inner; steps = a.steps; handles = a.handles; counts = a.counts }
+abbrev pub loose_state_of : LooseHeld → HeldState
+loose_state_of a = record { heap = state_in Moving a.heap.inner; steps = a.steps; handles = a.handles; counts = a.counts }
 
 -- the fields a are those of a `Held`: the heap is valid and open
 pub record Fits (a : LooseHeld) : Type 0 where
@@ -36,4 +36,4 @@ pub record Fits (a : LooseHeld) : Type 0 where
 
 -- the loan of the words of a `Held`
 abbrev pub lending : Lending HeldState LooseHeld
-lending = record { words = λ h. h.heap.words; with_words = held_all; fits = Fits; state = state_of; last = λ h. largest h.handles }
+lending = record { words = λ h. h.heap.words; with_words = held_all; fits = Fits; state = loose_state_of; last = λ h. largest h.handles }

@@ -8,7 +8,7 @@ use Rattle.tag_blocks.specs.Blocks.{Tagged}
 use Rattle.tag_blocks.specs.Layout.{IsValid as AreValidBlocks}
 use Rattle.tag_blocks.specs.ListHeads.{AreMarkedCells}
 use Rattle.tag_blocks.specs.Tags.{blocks_of, lists_of}
-use Rattle.tag_heap.specs.Heap.{Heap, IsKeptIn, IsValid, state_in}
+use Rattle.tag_heap.specs.Heap.{Heap, IsKeptIn, IsValid, tag_state_in}
 use Rattle.c_base.specs.Handles.{largest}
 use Rattle.c_base.specs.Lending.{Lending}
 use Rattle.held_heap.specs.HeldState.{HeldState, IsOpenOfKind}
@@ -23,12 +23,12 @@ pub record Rule : Type 0 where
   pub count : ℕ
 
 -- the words of the region; none if the heap is closed
-abbrev pub region_in : Option LooseOpen → List ℕ
-region_in None = []
-region_in (Some h) = h.blocks.region
+abbrev pub tag_region_in : Option LooseOpen → List ℕ
+tag_region_in None = []
+tag_region_in (Some h) = h.blocks.region
 
-abbrev pub words_of : LooseTag → List ℕ
-words_of a = region_in a.heap.inner
+abbrev pub loose_words : LooseTag → List ℕ
+loose_words a = tag_region_in a.heap.inner
 
 -- the heap with the words ws in its region
 abbrev pub blocks_all : LooseBlocks → List ℕ → LooseBlocks
@@ -56,7 +56,7 @@ seen_in None = None
 seen_in (Some h) = Some (seen_heap h)
 
 abbrev pub state_seen : Kind → Option LooseOpen → HeapState
-state_seen kind o = state_in kind (seen_in o)
+state_seen kind o = tag_state_in kind (seen_in o)
 
 -- the fields are those of valid blocks
 pub record FitBlocks (rule : Rule) (t : LooseBlocks) : Type 0 where
@@ -74,8 +74,8 @@ FitIn rule None = Unit {0}
 FitIn rule (Some h) = FitOpen rule h
 
 -- the state of a `Held` with the fields a
-abbrev pub state_of : Kind → LooseTag → HeldState
-state_of kind a = record { heap = state_seen kind a.heap.inner; steps = a.steps; handles = a.handles; counts = a.counts }
+abbrev pub loose_state_of : Kind → LooseTag → HeldState
+loose_state_of kind a = record { heap = state_seen kind a.heap.inner; steps = a.steps; handles = a.handles; counts = a.counts }
 
 -- the fields a are those of a `Held`: the heap is valid and open
 pub record Fits (rule : Rule) (a : LooseTag) : Type 0 where
@@ -85,4 +85,4 @@ pub record Fits (rule : Rule) (a : LooseTag) : Type 0 where
 
 -- the loan of the words of a `Held`
 abbrev pub lending : Rule → Lending HeldState LooseTag
-lending rule = record { words = λ h. h.heap.words; with_words = held_all; fits = Fits rule; state = state_of rule.kind; last = λ h. largest h.handles }
+lending rule = record { words = λ h. h.heap.words; with_words = held_all; fits = Fits rule; state = loose_state_of rule.kind; last = λ h. largest h.handles }

@@ -13,13 +13,13 @@ use Rattle.held_heap.specs.contracts.nonmoving.Place.{the_row as place_row}
 use Rattle.held_heap.specs.declared.nonmoving.Place.{Place}
 
 -- the heap of the struct: closed or open; it is never lent
-abbrev pub held_in : NphHeap → CallerHeap HeldState
-held_in n = heap_of n.place.held None null_ptr n.last
+abbrev pub heap_in : NphHeap → CallerHeap HeldState
+heap_in n = heap_of n.place.held None null_ptr n.last
 
 -- s is the borrow of the struct, r that of its heap: when r ends, the struct is open, and has the heap as r leaves it. `Lends` of the standard library states
 -- this: its last argument computes the struct from the state h in which r leaves the heap. `the_row` is the type of the struct.
-abbrev pub LendsHeap : MutBor NphHeap → MutBor HeldState → Fml
-LendsHeap s r = Lends the_row open_heap s r (λ h. record { place = record { at = s.now.place.at; held = Some h }; last = s.now.last; is_open = true; shown = refl })
+abbrev pub LendsNonMoving : MutBor NphHeap → MutBor HeldState → Fml
+LendsNonMoving s r = Lends the_row open_heap s r (λ h. record { place = record { at = s.now.place.at; held = Some h }; last = s.now.last; is_open = true; shown = refl })
 
 -- the `HeapBlock` that a `Place` is in memory, and the `Place` that a `HeapBlock` is
 abbrev pub inner_of : Place → HeapBlock HeldState

@@ -18,8 +18,8 @@ abbrev pub slot_words_of : Kind → HeapState → ℕ → Option ℕ
 slot_words_of kind s n = option_map (slot_in kind s) (get s.held n)
 
 -- the exact steps of a call for the words of an object's slot or block, by its result
-abbrev pub slot_words_steps : Kind → Option ℕ → ℕ
-slot_words_steps kind words = elim (family_of kind) [ paged ↦ page.slot_words_steps kind words | tiled ↦ block_words_steps words ]
+abbrev pub object_words_steps : Kind → Option ℕ → ℕ
+object_words_steps kind words = elim (family_of kind) [ paged ↦ page.slot_words_steps kind words | tiled ↦ block_words_steps words ]
 
 -- a call for the words of the slot or block of the object that `handle` names; the heap is unchanged
 pub record IsSlotWordsCall (of_kind : Kind) (old : HeldState) (handle before : ℕ) (code : ℤ) (after : ℕ) (new : HeldState) : Type 0 where
@@ -29,7 +29,7 @@ pub record IsSlotWordsCall (of_kind : Kind) (old : HeldState) (handle before : �
   pub kept : new.heap ≡ old.heap
   pub same : new.handles ≡ old.handles
   pub counts : new.counts ≡ old.counts
-  pub exact : RoseBy 0 new.steps (slot_words_steps of_kind (slot_words_of of_kind old.heap (number_in old.handles handle)))
+  pub exact : RoseBy 0 new.steps (object_words_steps of_kind (slot_words_of of_kind old.heap (number_in old.handles handle)))
 
 -- a call for the class of an object of `bytes` bytes; the heap is unchanged
 pub record IsClassCall (old : HeldState) (bytes before : ℕ) (code : ℤ) (after : ℕ) (new : HeldState) : Type 0 where

@@ -30,15 +30,15 @@ walk_from s handle =
     if nat_eq handle none then Some 0 else option_map (λ (x : Placed). number_in s.handles handle + 1) (get s.heap.held (number_in s.handles handle))
 
 -- the steps to find the object that `handle` names; with `none` no object is looked for
-abbrev pub handle_steps : ℕ → ℕ
-handle_steps handle = if nat_eq handle none then 0 else 1
+abbrev pub lookup_steps : ℕ → ℕ
+lookup_steps handle = if nat_eq handle none then 0 else 1
 
 -- a call for the next object where the walk looks from this number on: code 0, and its handle, or `none` after the last. Where there is no number, the code is 4
 -- (`UNKNOWN`)
 abbrev pub IsNextFrom : Option ℕ → HeldState → ℕ → ℕ → ℤ → ℕ → ℕ → Type 0
 IsNextFrom (Some from) s handle before code after steps =
     (answer : Option Handle) × IsNextLive s.heap.held from (length s.handles) answer × (code ≡ pos 0) × (after ≡ moved_handle s.handles answer)
-    × RoseBy 0 steps (handle_steps handle + looked_at from (length s.handles) answer)
+    × RoseBy 0 steps (lookup_steps handle + looked_at from (length s.handles) answer)
 IsNextFrom None s handle before code after steps = (code ≡ pos 4) × (after ≡ before) × RoseBy 0 steps 1
 
 -- a call for the object after the one that `handle` names; nothing but the steps changes

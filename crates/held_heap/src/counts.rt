@@ -3,7 +3,7 @@ ghost use Rattle.std.specs.Prelude.{◌≡◌, Err};
 ghost use Rattle.cf_model.specs.State.{HeapState};
 ghost use Rattle.held_heap.specs.Calls.{IsCountsCall};
 ghost use Rattle.held_heap.specs.HeldState.{IsOpenOfKind};
-ghost use Rattle.held_heap.specs.Counts.{malloc_counts, one_more, resize_counts, with_move, with_peaks};
+ghost use Rattle.held_heap.specs.Counts.{counted_move, malloc_counts, next_count, resize_counts, with_peaks};
 
 use crate::held::Held;
 use crate::of_kind::OfKind;
@@ -12,7 +12,7 @@ use cf_base::{Handle, Refusal, ResizeFault};
 
 /// For C, counts one more, but at most `2^64 - 1`.
 pub(crate) fn count(n: &mut u64)
-    ensures { n.new ≡ one_more n.old }
+    ensures { n.new ≡ next_count n.old }
 {
     *n = n.saturating_add(1);
 }
@@ -34,7 +34,7 @@ pub(crate) fn count_peaks<H: OfKind>(heap: &H, counts: &mut NphCounted)
 
 /// For C, counts a move, if an object moved.
 pub(crate) fn count_move(counts: &mut NphCounted, moved: Option<Handle>)
-    ensures { counts.new ≡ with_move counts.old moved }
+    ensures { counts.new ≡ counted_move counts.old moved }
 {
     if moved.is_some() {
         count(&mut counts.moves);
@@ -44,7 +44,7 @@ pub(crate) fn count_move(counts: &mut NphCounted, moved: Option<Handle>)
 /// For C, counts a resize that succeeded: as `count_peaks` and `count_move`.
 pub(crate) fn count_resized<H: OfKind>(heap: &H, counts: &mut NphCounted, moved: Option<Handle>)
     requires { IsOpenOfKind H.of_kind (H.state heap.now) }
-    ensures { counts.new ≡ with_move (with_peaks counts.old (H.state heap.now)) moved }
+    ensures { counts.new ≡ counted_move (with_peaks counts.old (H.state heap.now)) moved }
 {
     count_peaks(heap, counts);
     count_move(counts, moved);

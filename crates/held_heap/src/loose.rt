@@ -5,7 +5,7 @@ ghost use Rattle.std.specs.Prelude.{◌≡◌, IsSome, refl};
 ghost use Rattle.c_base.specs.Lending.{AreOf, IsFit};
 ghost use Rattle.std.specs.Borrow.{sem};
 ghost use Rattle.paged_heap.specs.PagedState.{region_in};
-ghost use Rattle.held_heap.specs.Loose.{lending as of_held, words_of};
+ghost use Rattle.held_heap.specs.Loose.{lending as of_held, loose_words};
 ghost use Rattle.held_heap.specs.LooseLoan.{LendsAllOf, LendsAllIn, LendsAllWords};
 ghost use Rattle.held_heap.specs.Restored.{moving_restored};
 
@@ -64,7 +64,7 @@ fn all_in(inner: &mut Option<OpenHeap>, memory: Memory) -> &mut [u64]
 fn all_words(held: &mut LooseHeld) -> &mut [u64]
     requires open { IsSome held.old.heap.inner }
     ensures* writes_back { sem 𝓛 (LendsAllWords held.entry result) }
-    ensures value { result.now ≡ words_of held.old }
+    ensures value { result.now ≡ loose_words held.old }
 {
     let memory = held.memory;
     let heap = &mut held.heap;

@@ -4,7 +4,7 @@
 ghost use Rattle.std.specs.Prelude.{◌≡◌, IsSome, refl};
 ghost use Rattle.c_base.specs.Lending.{AreOf, IsFit};
 ghost use Rattle.std.specs.Borrow.{sem};
-ghost use Rattle.held_heap.specs.LooseTag.{lending as of_held, region_in, words_of};
+ghost use Rattle.held_heap.specs.LooseTag.{lending as of_held, loose_words, tag_region_in};
 ghost use Rattle.held_heap.specs.Half.{rule as half_rule};
 ghost use Rattle.held_heap.specs.Tlsf.{rule as tlsf_rule};
 ghost use Rattle.held_heap.specs.LooseTagLoan.{LendsAllIn, LendsAllOfBlocks, LendsAllOfOpen, LendsAllWords};
@@ -89,7 +89,7 @@ fn all_of_open(heap: &mut LooseOpen, memory: Memory) -> &mut [u64]
 fn all_in(inner: &mut Option<LooseOpen>, memory: Memory) -> &mut [u64]
     requires open { IsSome inner.old }
     ensures* writes_back { sem 𝓛 (LendsAllIn inner.entry result) }
-    ensures value { result.now ≡ region_in inner.old }
+    ensures value { result.now ≡ tag_region_in inner.old }
 {
     match inner {
         Some(heap) => all_of_open(heap, memory),
@@ -102,7 +102,7 @@ fn all_in(inner: &mut Option<LooseOpen>, memory: Memory) -> &mut [u64]
 fn all_words(held: &mut LooseTag) -> &mut [u64]
     requires open { IsSome held.old.heap.inner }
     ensures* writes_back { sem 𝓛 (LendsAllWords held.entry result) }
-    ensures value { result.now ≡ words_of held.old }
+    ensures value { result.now ≡ loose_words held.old }
 {
     let memory = held.memory;
     let heap = &mut held.heap;

@@ -69,20 +69,20 @@ impl NphHeap {
     ghost use Rattle.held_heap.specs.AtPlace.{IsOpenCall};
     ghost use Rattle.held_heap.specs.CallerHeap.{closed_by};
     ghost use Rattle.c_base.specs.CallerHeap.{Opened, opened_now};
-    ghost use Rattle.held_heap.specs.NonMovingPlace.{LendsHeap, held_in};
+    ghost use Rattle.held_heap.specs.NonMovingPlace.{LendsNonMoving, heap_in};
 
     /// Returns whether the non-moving heap is open.
     pub fn is_open(&self) -> bool
-        ensures { result ≡ opened_now (held_in self.now) }
+        ensures { result ≡ opened_now (heap_in self.now) }
     {
         self.is_open
     }
 
     /// Borrows the open non-moving heap. When the borrow ends, the heap as it then is belongs to this struct again.
     pub fn held(&mut self) -> &mut Open
-        requires { IsTrue (opened_now (held_in self.old)) }
-        ensures* writes_back { sem 𝓛 (LendsHeap self.entry result) }
-        ensures value { held_in self.old ≡ Opened result.now }
+        requires { IsTrue (opened_now (heap_in self.old)) }
+        ensures* writes_back { sem 𝓛 (LendsNonMoving self.entry result) }
+        ensures value { heap_in self.old ≡ Opened result.now }
     {
         self.place.inner().lend()
     }
@@ -111,7 +111,7 @@ impl NphHeap {
     /// if the heap is open already, the code of the first setting out of range, or `MEMORY`. No other call of the heap
     /// allocates.
     pub fn open(&mut self, memory: Memory, pages: u32, page_bytes: u32, k: u32, proxies: u32) -> i32
-        ensures { IsOpenCall NonMoving (held_in self.old) pages page_bytes k proxies result (held_in self.new) }
+        ensures { IsOpenCall NonMoving (heap_in self.old) pages page_bytes k proxies result (heap_in self.new) }
     {
         if self.is_open {
             return OPEN;
@@ -136,7 +136,7 @@ impl NphHeap {
 
     /// Closes C's non-moving heap and frees its memory; does nothing if the heap isn't open.
     pub fn close(&mut self, memory: Memory)
-        ensures { held_in self.new ≡ closed_by (held_in self.old) }
+        ensures { heap_in self.new ≡ closed_by (heap_in self.old) }
     {
         if !self.is_open {
             return;

@@ -3,7 +3,7 @@ ghost use Rattle.std.specs.Prelude.{◌≡◌};
 ghost use Rattle.cf_base.specs.declared.kind.Kind.{Kind};
 ghost use Rattle.held_heap.specs.Counts.{free_left};
 ghost use Rattle.held_heap.specs.HeldState.{IsOpenOfKind};
-ghost use Rattle.held_heap.specs.Slots.{slot_words_of, slot_words_steps};
+ghost use Rattle.held_heap.specs.Slots.{object_words_steps, slot_words_of};
 ghost use Rattle.step_ledger.specs.Counting.{RoseBy};
 
 use cf_base::Handle;
@@ -26,7 +26,7 @@ pub trait OfKind: Manager {
     fn words_of(&self, h: Handle, steps: &mut Steps) -> Option<u32>
         requires { IsOpenOfKind of_kind (Self.state self.now) }
         ensures value { result ≡ slot_words_of of_kind (Self.state self.now) h.0 }
-        ensures steps { RoseBy steps.old steps.new (slot_words_steps of_kind result) };
+        ensures steps { RoseBy steps.old steps.new (object_words_steps of_kind result) };
 }
 
 impl<A: PageKind> OfKind for PagedHeap<A> {

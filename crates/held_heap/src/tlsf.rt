@@ -3,7 +3,7 @@
 ghost use Rattle.std.specs.Prelude.{◌≡◌, Option};
 ghost use Rattle.std.specs.Borrow.{sem};
 ghost use Rattle.std.specs.Coded.{coded_option};
-ghost use Rattle.c_base.specs.CallerHeap.{block_in, heap_of, lent_now, opened_now};
+ghost use Rattle.c_base.specs.CallerHeap.{heap_of, lent_block_in, lent_now, opened_now};
 ghost use Rattle.c_base.specs.HeapBlock.{place_owns};
 ghost use Rattle.c_base.specs.Lent.{loan_owns};
 ghost use Rattle.held_heap.specs.HeldState.{HeldState, held_code};
@@ -73,14 +73,14 @@ pub struct NphHeap {
     is_lent: bool,
     ghost shown: { is_open ≡ opened_now (heap_of place.held loan.heap loan.words last) },
     ghost lent_shown: { is_lent ≡ lent_now (heap_of place.held loan.heap loan.words last) },
-    ghost same: { loan.block ≡ block_in (heap_of place.held loan.heap loan.words last) place.at loan.block },
+    ghost same: { loan.block ≡ lent_block_in (heap_of place.held loan.heap loan.words last) place.at loan.block },
 }
 
 impl NphHeap {
     ghost use Rattle.cf_base.specs.declared.kind.Kind.TheVariants.{Tlsf};
     ghost use Rattle.held_heap.specs.AtPlace.{IsOpenCall};
     ghost use Rattle.held_heap.specs.Needed.{IsNeededCall};
-    ghost use Rattle.held_heap.specs.TlsfPlace.{LendsInner, held_in, inner_of};
+    ghost use Rattle.held_heap.specs.TlsfPlace.{LendsInner, heap_in, inner_of};
 
     /// Borrows the `LendableHeap` that this TLSF heap is in memory.
     pub fn inner(&mut self) -> &mut LendableHeap<Open, LooseTag>
@@ -114,7 +114,7 @@ impl NphHeap {
     /// `OPEN` if the heap is lent or open already, the code of the first setting out of range, or `MEMORY`. No other
     /// call of the heap allocates.
     pub fn open(&mut self, memory: Memory, pages: u32, page_bytes: u32, k: u32, proxies: u32) -> i32
-        ensures { IsOpenCall Tlsf (held_in self.old) pages page_bytes k proxies result (held_in self.new) }
+        ensures { IsOpenCall Tlsf (heap_in self.old) pages page_bytes k proxies result (heap_in self.new) }
     {
         let heap = self.inner();
         let last = match heap.closed() {

@@ -2,7 +2,7 @@
 use Rattle.std.proofs.Common.{◌≡◌, ◌∙◌, ◌++◌, List, [], ◌∷◌, ℕ, ap, sym, append_assoc, append-nil, ◌+◌, ◌-◌, ◌<◌, ◌≤◌, zero, suc, length, take, drop, refl, arith, inl, inr, length-drop, codes, decimal, Err, Ok, min, Result, drop-drop, take_all}
 use Rattle.run_model.specs.Terms.{Malloc, with_number, Write, Command, Failed, SinkState, Writes, Profile, RunState}
 use Rattle.generator.specs.CommandText.{line_of}
-use Rattle.generator.specs.ReadBack.{heap_line, lines_of}
+use Rattle.generator.specs.ReadBack.{command_lines, heap_line}
 use Rattle.hex.specs.Hex.{encode_lower}
 use Rattle.std.specs.Int.{div_ceil}
 use Rattle.std.proofs.lemmas.Bool.{cases_lt}
@@ -75,13 +75,13 @@ whole_chunk count at bytes is = elim (cases_lt 4096 (length bytes - at)) [
 -- w before the loop and is x now.
 pub record WroteTo (id : ℕ) (bytes : List ℕ) (w x : SinkState) (at : ℕ) : Type 0 where
   pub done : List ℕ
-  pub rest : lines_of (writes_of id bytes) ≡ done ++ lines_of (writes_from (div_ceil (length bytes - at) 4096) id at (drop at bytes))
+  pub rest : command_lines (writes_of id bytes) ≡ done ++ command_lines (writes_from (div_ceil (length bytes - at) 4096) id at (drop at bytes))
   pub written : WritesAll w done x
 
 pub writes_first : (id : ℕ) (bytes : List ℕ) (w : SinkState) → WroteTo id bytes w w 0
 writes_first id bytes w = record {
   done = [];
-  rest = ap (λ n. lines_of (writes_from (div_ceil n 4096) id 0 bytes)) (omega arith);
+  rest = ap (λ n. command_lines (writes_from (div_ceil n 4096) id 0 bytes)) (omega arith);
   written = writes_none w;
 }
 
@@ -91,12 +91,12 @@ module _ (id : ℕ) (bytes : List ℕ) (w x : SinkState) (at : ℕ) (so_far : Wr
     line = line_of (Write id at (take 4096 (drop at bytes)))
 
     abbrev behind : List ℕ
-    behind = lines_of (writes_from (div_ceil (length bytes - (at + 4096)) 4096) id (at + 4096) (drop (at + 4096) bytes))
+    behind = command_lines (writes_from (div_ceil (length bytes - (at + 4096)) 4096) id (at + 4096) (drop (at + 4096) bytes))
 
-    split : lines_of (writes_of id bytes) ≡ so_far.done ++ (line ++ behind)
+    split : command_lines (writes_of id bytes) ≡ so_far.done ++ (line ++ behind)
     split =
         let lines : div_ceil (length bytes - at) 4096 ≡ suc (div_ceil (length bytes - (at + 4096)) 4096) = omega arith in
-        so_far.rest ∙ ap (λ (cs : List Command). so_far.done ++ lines_of cs) (ap (λ n. writes_from n id at (drop at bytes)) lines
+        so_far.rest ∙ ap (λ (cs : List Command). so_far.done ++ command_lines cs) (ap (λ n. writes_from n id at (drop at bytes)) lines
         ∙ one_more (div_ceil (length bytes - (at + 4096)) 4096) id at (drop at bytes)
         ∙ ap (λ (l : List ℕ). Write id at (take 4096 (drop at bytes)) ∷ writes_from (div_ceil (length bytes - (at + 4096)) 4096) id (at + 4096) l)
         (drop-drop 4096 at bytes))
@@ -110,39 +110,39 @@ module _ (id : ℕ) (bytes : List ℕ) (w x : SinkState) (at : ℕ) (so_far : Wr
     }
 
     -- a line was cut
-    pub writes_cut : (y : SinkState) (e : Failed) → Writes {T = Unit {0}} x line (Err e) y → Writes {T = Unit {0}} w (lines_of (writes_of id bytes)) (Err e) y
-    writes_cut y e put = puts_same {T = Unit {0}} w y (so_far.done ++ (line ++ behind)) (lines_of (writes_of id bytes)) (Err e) (sym split)
+    pub writes_cut : (y : SinkState) (e : Failed) → Writes {T = Unit {0}} x line (Err e) y → Writes {T = Unit {0}} w (command_lines (writes_of id bytes)) (Err e) y
+    writes_cut y e put = puts_same {T = Unit {0}} w y (so_far.done ++ (line ++ behind)) (command_lines (writes_of id bytes)) (Err e) (sym split)
         (puts_then {T = Unit {0}} w x y so_far.done (line ++ behind) (Err e) so_far.written (puts_cut x y line behind e put))
 
   -- if no byte of the object is left, all lines were written
-  pub writes_last : length bytes ≤ at → WritesAll w (lines_of (writes_of id bytes)) x
+  pub writes_last : length bytes ≤ at → WritesAll w (command_lines (writes_of id bytes)) x
   writes_last end =
       let none : length bytes - at ≡ 0 = omega (arith, end) in
-      puts_same {T = Unit {0}} w x _ _ (Ok tt) (sym (so_far.rest ∙ ap (λ n. so_far.done ++ lines_of (writes_from (div_ceil n 4096) id at (drop at bytes))) none
-      ∙ ap (λ (cs : List Command). so_far.done ++ lines_of cs) (none_more id at (drop at bytes)) ∙ append-nil so_far.done)) so_far.written
+      puts_same {T = Unit {0}} w x _ _ (Ok tt) (sym (so_far.rest ∙ ap (λ n. so_far.done ++ command_lines (writes_from (div_ceil n 4096) id at (drop at bytes))) none
+      ∙ ap (λ (cs : List Command). so_far.done ++ command_lines cs) (none_more id at (drop at bytes)) ∙ append-nil so_far.done)) so_far.written
 
 -- For `print_script`, of mode `load`: the script that makes the live objects, its `heap` line and then the lines of each object, written one after the
 -- other, or cut by a failed sink.
 
-lines_joined : (cs ds : List Command) → lines_of (cs ++ ds) ≡ lines_of cs ++ lines_of ds
+lines_joined : (cs ds : List Command) → command_lines (cs ++ ds) ≡ command_lines cs ++ command_lines ds
 lines_joined [] ds = refl
-lines_joined (c ∷ cs) ds = ap (λ (l : List ℕ). line_of c ++ l) (lines_joined cs ds) ∙ sym (append_assoc (line_of c) (lines_of cs) (lines_of ds))
+lines_joined (c ∷ cs) ds = ap (λ (l : List ℕ). line_of c ++ l) (lines_joined cs ds) ∙ sym (append_assoc (line_of c) (command_lines cs) (command_lines ds))
 
 -- the line that makes an object, and those that write its bytes
 pub object_put : {T : Type 0} (w x y : SinkState) (id n : ℕ) (bytes : List ℕ) (r : Result T Failed) → n ≡ length bytes → WritesAll w (line_of (Malloc id n)) x
-    → Writes x (lines_of (writes_of id bytes)) r y → Writes w (object_lines id bytes) r y
+    → Writes x (command_lines (writes_of id bytes)) r y → Writes w (object_lines id bytes) r y
 object_put w x y id n bytes r same put rest =
-    puts_then w x y (line_of (Malloc id (length bytes))) (lines_of (writes_of id bytes)) r
+    puts_then w x y (line_of (Malloc id (length bytes))) (command_lines (writes_of id bytes)) r
     (puts_same {T = Unit {0}} w x _ _ (Ok tt) (ap (λ n. line_of (Malloc id n)) same) put) rest
 
 pub object_cut : (w y : SinkState) (id n : ℕ) (bytes : List ℕ) (e : Failed) → n ≡ length bytes → Writes {T = Unit {0}} w (line_of (Malloc id n)) (Err e) y
     → Writes {T = Unit {0}} w (object_lines id bytes) (Err e) y
 object_cut w y id n bytes e same put =
-    puts_cut w y (line_of (Malloc id (length bytes))) (lines_of (writes_of id bytes)) e
+    puts_cut w y (line_of (Malloc id (length bytes))) (command_lines (writes_of id bytes)) e
     (puts_same {T = Unit {0}} w y (line_of (Malloc id n)) (line_of (Malloc id (length bytes))) (Err e) (ap (λ n. line_of (Malloc id n)) same) put)
 
 -- the lines of all objects
-lines_are : (es : List (ℕ × List ℕ)) → lines_of (commands_of es) ≡ object_texts object_lines es
+lines_are : (es : List (ℕ × List ℕ)) → command_lines (commands_of es) ≡ object_texts object_lines es
 lines_are [] = refl
 lines_are (e ∷ es) = lines_joined (object_commands e.0 e.1) (commands_of es) ∙ ap (λ (l : List ℕ). object_lines e.0 e.1 ++ l) (lines_are es)
 
@@ -151,12 +151,12 @@ module _ (s : RunState) where
   pub opening_then : (w x y : SinkState) (p : Profile) (r : Result Unit Failed) → s.heap.profile ≡ p → WritesAll w (opening_line p) x
       → Writes x (object_texts object_lines (entries (live_objects s))) r y → Writes w (heap_script s) r y
   opening_then w x y p r same put rest =
-      puts_then {T = Unit {0}} w x y (opening_line s.heap.profile) (lines_of (commands_of (entries (live_objects s)))) r
+      puts_then {T = Unit {0}} w x y (opening_line s.heap.profile) (command_lines (commands_of (entries (live_objects s)))) r
       (puts_same {T = Unit {0}} w x _ _ (Ok tt) (ap opening_line (sym same)) put)
-      (puts_same x y _ (lines_of (commands_of (entries (live_objects s)))) r (sym (lines_are (entries (live_objects s)))) rest)
+      (puts_same x y _ (command_lines (commands_of (entries (live_objects s)))) r (sym (lines_are (entries (live_objects s)))) rest)
 
   -- the `heap` line was cut
   pub opening_cut : (w y : SinkState) (p : Profile) (e : Failed) → s.heap.profile ≡ p → Writes {T = Unit {0}} w (opening_line p) (Err e) y
       → Writes {T = Unit {0}} w (heap_script s) (Err e) y
-  opening_cut w y p e same put = puts_cut w y (opening_line s.heap.profile) (lines_of (commands_of (entries (live_objects s)))) e
+  opening_cut w y p e same put = puts_cut w y (opening_line s.heap.profile) (command_lines (commands_of (entries (live_objects s)))) e
       (puts_same {T = Unit {0}} w y (opening_line p) (opening_line s.heap.profile) (Err e) (ap opening_line (sym same)) put)

@@ -12,7 +12,7 @@ use Rattle.heap_image.specs.Heaps.{HaveImage, image_under}
 use Rattle.heap_image.specs.Listed.{listed_objects}
 use Rattle.image_run.proofs.OnlyImages.{bytes_left, bytes_taken}
 use Rattle.image_run.specs.Script.{commands_of, object_commands, script_under, writes_from, script_items}
-use Rattle.generator.specs.ReadBack.{ArePlain, CanOpen, IsWord, heap_line, lines_of}
+use Rattle.generator.specs.ReadBack.{ArePlainCommands, CanOpen, IsWord, command_lines, heap_line}
 use Rattle.heap_image.proofs.CallerLemmas.{listed_all, listed_end, listed_none, listed_some, page_small, profile_is, AreBelow, below_none, below_some, below_end, length-entry, length-header}
 use Rattle.generator.proofs.CallerLemmas.{script_back, numbers_short}
 use Rattle.std.specs.List.{range_with_len}
@@ -40,7 +40,7 @@ use Rattle.heap_image.specs.Image.{entries_of, entry_of, header_of}
 -- For the law `printed_scripts_are_read_back`, clause `read`: the text of the script that mode `load` prints for some objects is read back as its items, a
 -- `heap` line and valid commands.
 
-plain_joined : (cs ds : List Command) → ArePlain cs → ArePlain ds → ArePlain (cs ++ ds)
+plain_joined : (cs ds : List Command) → ArePlainCommands cs → ArePlainCommands ds → ArePlainCommands (cs ++ ds)
 plain_joined [] ds are more = more
 plain_joined (c ∷ cs) ds are more = (are.0, are.1, plain_joined cs ds are.2 more)
 
@@ -57,7 +57,7 @@ few_taken bytes = elim (cases_lt 4096 (length bytes)) [
 ]
 
 plain_writes : (n id at : ℕ) (bytes : List ℕ) → id ≤ 65535 → AreBytes bytes → 4096 * n < length bytes + 4096 → at + 4096 * n ≤ 4294967295 + 4096
-    → ArePlain (writes_from n id at bytes)
+    → ArePlainCommands (writes_from n id at bytes)
 unfolding writes_from
 plain_writes zero id at bytes low are many fits = tt
 plain_writes (suc n) id at bytes low are many fits =
@@ -70,7 +70,7 @@ plain_writes (suc n) id at bytes low are many fits =
       plain_writes n id (at + 4096) (drop 4096 bytes) low (bytes_left 4096 bytes are) (omega (arith, many, left)) (omega (arith, fits)),
     )
 
-plain_object : (id : ℕ) (v : List ℕ) → id ≤ 65535 → AreBytes v → length v ≤ 4294967295 → ArePlain (object_commands id v)
+plain_object : (id : ℕ) (v : List ℕ) → id ≤ 65535 → AreBytes v → length v ≤ 4294967295 → ArePlainCommands (object_commands id v)
 plain_object id v low are small = (
   record { formed = tt; typed = (low, small) },
   refl,
@@ -81,18 +81,18 @@ module _ (p : Profile) (o : Objects) (h : HaveImage p o) where
   pub bytes_small : (k : ℕ) (v : List ℕ) → get o k ≡ Some v → length v ≤ 4294967295
   bytes_small k v some = (let fit = h.fit k v some in let small = page_small p h.settings in omega arith)
 
-  plain_listed : (n k : ℕ) → ArePlain (commands_of (listed_objects o k n))
-  plain_listed zero k = subst (λ (es : List (ℕ × List ℕ)). ArePlain (commands_of es)) (sym (listed_end o k)) tt
+  plain_listed : (n k : ℕ) → ArePlainCommands (commands_of (listed_objects o k n))
+  plain_listed zero k = subst (λ (es : List (ℕ × List ℕ)). ArePlainCommands (commands_of es)) (sym (listed_end o k)) tt
   plain_listed (suc n) k = go (get o k) refl (plain_listed n (k + 1))
     where
-      go : (v : Option (List ℕ)) → get o k ≡ v → ArePlain (commands_of (listed_objects o (k + 1) n)) → ArePlain (commands_of (listed_objects o k (suc n)))
-      go None e rest = subst (λ (es : List (ℕ × List ℕ)). ArePlain (commands_of es)) (sym (listed_none o k n e)) rest
-      go (Some v) e rest = subst (λ (es : List (ℕ × List ℕ)). ArePlain (commands_of es)) (sym (listed_some o k n v e))
+      go : (v : Option (List ℕ)) → get o k ≡ v → ArePlainCommands (commands_of (listed_objects o (k + 1) n)) → ArePlainCommands (commands_of (listed_objects o k (suc n)))
+      go None e rest = subst (λ (es : List (ℕ × List ℕ)). ArePlainCommands (commands_of es)) (sym (listed_none o k n e)) rest
+      go (Some v) e rest = subst (λ (es : List (ℕ × List ℕ)). ArePlainCommands (commands_of es)) (sym (listed_some o k n v e))
           (plain_joined (object_commands k v) (commands_of (listed_objects o (k + 1) n))
           (plain_object k v (let low = h.ids k v e in omega (arith, low)) (h.bytes k v e) (bytes_small k v e)) rest)
 
-  pub plain_all : ArePlain (commands_of (entries o))
-  plain_all = subst (λ (es : List (ℕ × List ℕ)). ArePlain (commands_of es)) (sym (listed_all o 65536 (λ q v e. h.ids q v e))) (plain_listed 65536 0)
+  pub plain_all : ArePlainCommands (commands_of (entries o))
+  plain_all = subst (λ (es : List (ℕ × List ℕ)). ArePlainCommands (commands_of es)) (sym (listed_all o 65536 (λ q v e. h.ids q v e))) (plain_listed 65536 0)
 
   page_is : is_page_bytes (8 * p.page_words) ≡ true
   page_is =
@@ -226,10 +226,10 @@ module _ (p : Paging) (ok : IsPaging p) where
 -- For the law `printed_scripts_are_read_back`, clause `clean`: the script that mode `load` prints for the objects of an image is within the limit of a
 -- script, 268,435,455 bytes.
 
-lines_joined : (cs ds : List Command) → length (lines_of (cs ++ ds)) ≡ length (lines_of cs) + length (lines_of ds)
+lines_joined : (cs ds : List Command) → length (command_lines (cs ++ ds)) ≡ length (command_lines cs) + length (command_lines ds)
 lines_joined [] ds = omega arith
 lines_joined (c ∷ cs) ds =
-    let a = length-append (line_of c) (lines_of (cs ++ ds)) in let b = length-append (line_of c) (lines_of cs) in let d = lines_joined cs ds in
+    let a = length-append (line_of c) (command_lines (cs ++ ds)) in let b = length-append (line_of c) (command_lines cs) in let d = lines_joined cs ds in
     omega (arith, a, b, d)
 
 malloc_short : (id n : ℕ) → IsWord id → IsWord n → length (line_of (Malloc id n)) ≤ 44
@@ -253,20 +253,20 @@ write_short id at bytes low small =
     omega (arith, numbers, a, b, e, f, g, h, i, long)
 
 writes_short : (n id at : ℕ) (bytes : List ℕ) → IsWord id → at + 4096 * n ≤ 4294967295 + 4096
-    → length (lines_of (writes_from n id at bytes)) ≤ 45 * n + 2 * length bytes
+    → length (command_lines (writes_from n id at bytes)) ≤ 45 * n + 2 * length bytes
 unfolding writes_from
 writes_short zero id at bytes low fits = omega arith
 writes_short (suc n) id at bytes low fits =
-    let a = length-append (line_of (Write id at (take 4096 bytes))) (lines_of (writes_from n id (at + 4096) (drop 4096 bytes))) in
+    let a = length-append (line_of (Write id at (take 4096 bytes))) (command_lines (writes_from n id (at + 4096) (drop 4096 bytes))) in
     let b = write_short id at (take 4096 bytes) low (let w : at ≤ 4294967295 = omega (arith, fits) in w) in
     let c = writes_short n id (at + 4096) (drop 4096 bytes) low (omega (arith, fits)) in
     let d = ap (length {A = ℕ}) (take-append-drop 4096 bytes) in
     let e = length-append (take 4096 bytes) (drop 4096 bytes) in
     omega (arith, a, b, c, d, e)
 
-object_short : (id : ℕ) (v : List ℕ) → IsWord id → IsWord (length v) → length (lines_of (object_commands id v)) ≤ 89 + 3 * length v
+object_short : (id : ℕ) (v : List ℕ) → IsWord id → IsWord (length v) → length (command_lines (object_commands id v)) ≤ 89 + 3 * length v
 object_short id v low small =
-    let a = length-append (line_of (Malloc id (length v))) (lines_of (writes_from (div_ceil (length v) 4096) id 0 v)) in
+    let a = length-append (line_of (Malloc id (length v))) (command_lines (writes_from (div_ceil (length v) 4096) id 0 v)) in
     let b = malloc_short id (length v) low small in
     let c = writes_short (div_ceil (length v) 4096) id 0 v low (omega (arith, small)) in
     omega (arith, a, b, c)
@@ -280,22 +280,22 @@ heap_short a b c d wa wb wc wd =
 
 module _ (p : Profile) (o : Objects) (h : HaveImage p o) where
   all_short : (n k : ℕ) (m : Objects) → k + n ≡ 65536 → AreBelow o k m
-      → length (lines_of (commands_of (listed_objects o k n))) + (89 * len m + 3 * asked_bytes m) ≤ 89 * len o + 3 * asked_bytes o
+      → length (command_lines (commands_of (listed_objects o k n))) + (89 * len m + 3 * asked_bytes m) ≤ 89 * len o + 3 * asked_bytes o
   all_short zero k m end b =
       let same = below_end o h.ids k m (omega arith) b in
       let a = ap (λ (m : Objects). len m) same in
       let c = ap asked_bytes same in
-      let d = ap (λ (es : List (ℕ × List ℕ)). length (lines_of (commands_of es))) (listed_end o k) in
+      let d = ap (λ (es : List (ℕ × List ℕ)). length (command_lines (commands_of es))) (listed_end o k) in
       omega (arith, a, c, d)
   all_short (suc n) k m end b = go (get o k) refl (λ m b. all_short n (k + 1) m (omega arith) b)
     where
       go : (v : Option (List ℕ)) → get o k ≡ v
           → ((m : Objects) → AreBelow o (k + 1) m
-          → length (lines_of (commands_of (listed_objects o (k + 1) n))) + (89 * len m + 3 * asked_bytes m) ≤ 89 * len o + 3 * asked_bytes o)
-          → length (lines_of (commands_of (listed_objects o k (suc n)))) + (89 * len m + 3 * asked_bytes m) ≤ 89 * len o + 3 * asked_bytes o
+          → length (command_lines (commands_of (listed_objects o (k + 1) n))) + (89 * len m + 3 * asked_bytes m) ≤ 89 * len o + 3 * asked_bytes o)
+          → length (command_lines (commands_of (listed_objects o k (suc n)))) + (89 * len m + 3 * asked_bytes m) ≤ 89 * len o + 3 * asked_bytes o
       go None e rest =
           let a = rest m (below_none o k m b e) in
-          let d = ap (λ (es : List (ℕ × List ℕ)). length (lines_of (commands_of es))) (listed_none o k n e) in
+          let d = ap (λ (es : List (ℕ × List ℕ)). length (command_lines (commands_of es))) (listed_none o k n e) in
           omega (arith, a, d)
       go (Some v) e rest =
           let none : get m k ≡ None = b.high k (omega arith) in
@@ -304,7 +304,7 @@ module _ (p : Profile) (o : Objects) (h : HaveImage p o) where
           let f = asked_added m k v none in
           let low = h.ids k v e in
           let g = object_short k v (let w : k ≤ 4294967295 = omega (arith, low) in w) (bytes_small p o h k v e) in
-          let d = ap (λ (es : List (ℕ × List ℕ)). length (lines_of (commands_of es))) (listed_some o k n v e) in
+          let d = ap (λ (es : List (ℕ × List ℕ)). length (command_lines (commands_of es))) (listed_some o k n v e) in
           let j = lines_joined (object_commands k v) (commands_of (listed_objects o (k + 1) n)) in
           omega (arith, a, c, d, f, g, j)
 
@@ -325,8 +325,8 @@ module _ (p : Profile) (o : Objects) (h : HaveImage p o) where
       let proxies = h.settings.few_proxies in
       let top = heap_short p.pages (8 * p.page_words) 1 p.proxies (omega (arith, pages)) (omega (arith, small)) (omega arith) (omega (arith, proxies)) in
       let all = all_short 65536 0 empty (omega arith) (record { low = λ q lt. absurd (omega (arith, lt)); high = λ q le. get-empty nat_cmp q }) in
-      let is = ap (λ (es : List (ℕ × List ℕ)). length (lines_of (commands_of es))) (listed_all o 65536 (λ q v e. h.ids q v e)) in
-      let joined = length-append (heap_line p.pages (8 * p.page_words) 1 p.proxies) (lines_of (commands_of (entries o))) in
+      let is = ap (λ (es : List (ℕ × List ℕ)). length (command_lines (commands_of es))) (listed_all o 65536 (λ q v e. h.ids q v e)) in
+      let joined = length-append (heap_line p.pages (8 * p.page_words) 1 p.proxies) (command_lines (commands_of (entries o))) in
       let few = h.few in
       let asked = asked_few in
       omega (arith, top, all, is, joined, few, proxies, asked)

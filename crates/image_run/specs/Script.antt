@@ -4,7 +4,7 @@ use Rattle.std.specs.Prelude.{ℕ, zero, suc, ◌+◌, ◌*◌, ◌++◌, List, 
 use Rattle.std.specs.FinMap.{entries}
 use Rattle.std.specs.Int.{div_ceil}
 use Rattle.run_model.specs.Terms.{asks, Command, Item, Kind, Malloc, Moving, Objects, Profile, RunState, starts, Write}
-use Rattle.generator.specs.ReadBack.{heap_line, lines_of}
+use Rattle.generator.specs.ReadBack.{command_lines, heap_line}
 use Rattle.heap_image.specs.Heaps.{live_objects}
 use Rattle.script_laws.specs.ById.{ById, begun}
 use Rattle.script_laws.specs.Transcripts.{after_at}
@@ -25,7 +25,7 @@ object_commands id bytes = Malloc id (length bytes) ∷ writes_of id bytes
 
 -- the lines of those commands
 abbrev pub object_lines : ℕ → List ℕ → List ℕ
-object_lines id bytes = lines_of (object_commands id bytes)
+object_lines id bytes = command_lines (object_commands id bytes)
 
 -- the commands that make the objects of a list, one after the other; an entry is an id and the bytes of its object
 abbrev pub commands_of : List (ℕ × List ℕ) → List Command
@@ -38,7 +38,7 @@ opening_line p = heap_line p.pages (8 * p.page_words) 1 p.proxies
 
 -- the script that makes these objects by id, in rising order of the ids, on a heap with the settings `p`
 abbrev pub script_under : Profile → Objects → List ℕ
-script_under p objects = opening_line p ++ lines_of (commands_of (entries objects))
+script_under p objects = opening_line p ++ command_lines (commands_of (entries objects))
 
 -- the script that makes the live objects of a run in state `s`
 abbrev pub heap_script : RunState → List ℕ

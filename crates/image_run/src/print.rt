@@ -4,7 +4,7 @@ ghost use Rattle.std.specs.FinMap as map;
 ghost use Rattle.run_model.specs.Terms.{AreTied, Malloc, Moving, Placed, profile_of, Write, Writes};
 ghost use Rattle.cf_session.specs.Apply.{run_at};
 ghost use Rattle.generator.specs.CommandText.{line_of};
-ghost use Rattle.generator.specs.ReadBack.{lines_of};
+ghost use Rattle.generator.specs.ReadBack.{command_lines};
 ghost use Rattle.image_run.specs.Script.{heap_script, object_lines, opening_line, writes_of};
 
 use cf_base::{CHUNK, Failed, Handle, Settings};
@@ -102,7 +102,7 @@ fn put_writes<H: Manager, K: Sink>(
     requires live { (x : Placed) × (map.get (H.state heap.now).held h.0 ≡ Some x) × (n ≡ length x.bytes) }
     requires buffer { length buffer.old ≡ 4096 }
     ensures { (x : Placed) → map.get (H.state heap.now).held h.0 ≡ Some x
-        → Writes (K.state out.old) (lines_of (writes_of id x.bytes)) result (K.state out.new) }
+        → Writes (K.state out.old) (command_lines (writes_of id x.bytes)) result (K.state out.new) }
 {
     let mut at = 0;
     'chunks: while at < n as u64 {

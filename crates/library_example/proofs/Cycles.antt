@@ -13,9 +13,9 @@ use Rattle.slice_model.specs.declared.answers.SliceRefusal.TheVariants.{Busy}
 use Rattle.slice_model.specs.declared.job_slot.JobSlot.{JobSlot}
 use Rattle.slice_model.specs.Runs.{Happens, HeapWithWords, Free, Malloc}
 use Rattle.slice_model.specs.State.{Plan, IsPlan, Job, Sliced, IsKept, job_slot, Idle, Clear, Move}
-use Rattle.slice_model.specs.Steps.{AreSlices, IsRefusedBy, IsSlice, LacksSlot}
+use Rattle.slice_model.specs.Steps.{AreSlices, IsSlice, IsSlicedRefusedBy, LacksUsableSlot}
 use Rattle.slice_model.proofs.CallerLemmas.{call_on_map, job_class, objects_sliced, slices_idle, slices_split}
-use Rattle.sliced_heap.specs.Shown.{KeepsRules, SlicedState, StaysOpen, plan_in, working_in}
+use Rattle.sliced_heap.specs.Shown.{KeepsSlicedRules, SlicedState, StaysSlicedOpen, plan_in, working_in}
 use Rattle.sliced_heap.proofs.CallerLemmas.{plan_stays}
 use Rattle.step_ledger.specs.Counting.{RoseAtMost}
 use Rattle.library_example.specs.Cycle.{HasFrame, others}
@@ -62,7 +62,7 @@ module _ (plan : Plan) where
             slices_idle plan (n - c) parts.0 new (ends old parts.0 k ok kept e parts.1) parts.2
 
 -- the same of heaps: `mid` is the heap after n slices, `new` after one more
-pub next_slice : (old mid new : SlicedState) (n : ℕ) → StaysOpen old mid → AreSlices (plan_in old) n (working_in old).state (working_in mid).state
+pub next_slice : (old mid new : SlicedState) (n : ℕ) → StaysSlicedOpen old mid → AreSlices (plan_in old) n (working_in old).state (working_in mid).state
     → IsSlice (plan_in mid) (working_in mid).state (working_in new).state
     → AreSlices (plan_in old) (n + 1) (working_in old).state (working_in new).state
 next_slice old mid new n stays slices slice =
@@ -72,7 +72,7 @@ next_slice old mid new n stays slices slice =
     (slices_more (plan_in old) n (working_in old).state (working_in mid).state (working_in new).state slices is)
 
 -- a heap that stays open twice stays open
-pub stays_on : (old mid new : SlicedState) → StaysOpen old mid → StaysOpen mid new → StaysOpen old new
+pub stays_on : (old mid new : SlicedState) → StaysSlicedOpen old mid → StaysSlicedOpen mid new → StaysSlicedOpen old new
 stays_on old mid new a b = record { is_open = b.is_open ∙ a.is_open; profile = b.profile ∙ a.profile; quantum = b.quantum ∙ a.quantum; region = b.region ∙ a.region }
 
 -- steps: n slices of at most q steps each, and one more, add at most (n + 1) * q
@@ -86,9 +86,9 @@ one_more old mid new n q r a b same =
     record { kept = omega arith; bound = rw m (omega arith) }
 
 -- a free, n slices and a malloc: the heap is `old` before the free, `freed` after it, `ready` after the slices, and `new` after the malloc
-module _ (old freed ready : SlicedState) (last n : ℕ) (rules : KeepsRules old)
+module _ (old freed ready : SlicedState) (last n : ℕ) (rules : KeepsSlicedRules old)
     (free : Happens (plan_in old) (working_in old) (Free last None) (working_in freed))
-    (slices : AreSlices (plan_in freed) n (working_in freed).state (working_in ready).state) (rules' : KeepsRules ready) where
+    (slices : AreSlices (plan_in freed) n (working_in freed).state (working_in ready).state) (rules' : KeepsSlicedRules ready) where
   -- after the free and the slices the objects are all but the last frame
   left : objects ready.held ≡ others old last
   left =
@@ -106,24 +106,24 @@ module _ (old freed ready : SlicedState) (last n : ℕ) (rules : KeepsRules old)
       }
 
   -- a malloc that is refused then leaves these objects
-  pub has_none : (new : SlicedState) (bytes : ℕ) (cause : SliceRefusal) → StaysOpen ready new
-      → IsRefusedBy (plan_in ready) (working_in ready).state bytes cause → working_in new ≡ working_in ready
-      → IsRefusedBy (plan_in new) (working_in new).state bytes cause × (objects new.held ≡ others old last)
+  pub has_none : (new : SlicedState) (bytes : ℕ) (cause : SliceRefusal) → StaysSlicedOpen ready new
+      → IsSlicedRefusedBy (plan_in ready) (working_in ready).state bytes cause → working_in new ≡ working_in ready
+      → IsSlicedRefusedBy (plan_in new) (working_in new).state bytes cause × (objects new.held ≡ others old last)
   has_none new bytes cause stays is same =
       let s : (working_in new).state ≡ (working_in ready).state = ap (λ (w : HeapWithWords). w.state) same in (
-        subst (λ p. IsRefusedBy p (working_in new).state bytes cause) (sym (plan_stays ready new stays))
-            (subst (λ t. IsRefusedBy (plan_in ready) t bytes cause) (sym s) is),
+        subst (λ p. IsSlicedRefusedBy p (working_in new).state bytes cause) (sym (plan_stays ready new stays))
+            (subst (λ t. IsSlicedRefusedBy (plan_in ready) t bytes cause) (sym s) is),
         ap (λ (t : Sliced). objects t.held) s ∙ left,
       )
 
 -- from the law on refusals (`a_malloc_is_busy_only_with_a_job`): without a pending job a malloc is not refused as `Busy`
 abbrev pub WaitsForJob : Type 0
-WaitsForJob = (plan : Plan) (s : Sliced) (bytes : ℕ) → IsPlan plan → IsKept plan s → LacksSlot plan s bytes → s.job ≢ Idle
+WaitsForJob = (plan : Plan) (s : Sliced) (bytes : ℕ) → IsPlan plan → IsKept plan s → LacksUsableSlot plan s bytes → s.job ≢ Idle
 
 -- after a free and n slices, at least twice those of a page, a malloc is not refused as `Busy`
-pub not_busy : ((plan : Plan) → EndsBySlices plan) → WaitsForJob → (old freed ready : SlicedState) (n bytes : ℕ) (cause : SliceRefusal) → StaysOpen old freed
-    → KeepsRules freed → KeepsRules ready → 2 * ceil_div old.profile.page_words old.quantum ≤ n
-    → AreSlices (plan_in freed) n (working_in freed).state (working_in ready).state → IsRefusedBy (plan_in ready) (working_in ready).state bytes cause
+pub not_busy : ((plan : Plan) → EndsBySlices plan) → WaitsForJob → (old freed ready : SlicedState) (n bytes : ℕ) (cause : SliceRefusal) → StaysSlicedOpen old freed
+    → KeepsSlicedRules freed → KeepsSlicedRules ready → 2 * ceil_div old.profile.page_words old.quantum ≤ n
+    → AreSlices (plan_in freed) n (working_in freed).state (working_in ready).state → IsSlicedRefusedBy (plan_in ready) (working_in ready).state bytes cause
     → cause ≢ Busy
 not_busy ends waits old freed ready n bytes cause stays rules rules' enough slices is busy =
     let p = stays.profile in
@@ -132,4 +132,4 @@ not_busy ends waits old freed ready n bytes cause stays rules rules' enough slic
     let idle = idle_after (plan_in freed) rules.plan (ends (plan_in freed)) n (working_in freed).state (working_in ready).state rules.consistent.kept enough'
     slices in
     waits (plan_in ready) (working_in ready).state bytes rules'.plan rules'.consistent.kept
-    (subst (λ c. IsRefusedBy (plan_in ready) (working_in ready).state bytes c) busy is) idle
+    (subst (λ c. IsSlicedRefusedBy (plan_in ready) (working_in ready).state bytes c) busy is) idle

@@ -3,7 +3,7 @@
 use Rattle.std.specs.Prelude.{◌≡◌, ℕ, None, replicate}
 use Rattle.std.specs.FinMap.{get, insert, remove}
 use Rattle.page_model.specs.Held.{Objects, objects}
-use Rattle.slice_model.specs.Steps.{IsFaultOf, IsRefusedBy}
+use Rattle.slice_model.specs.Steps.{IsFaultOf, IsSlicedRefusedBy}
 use Rattle.sliced_heap.specs.Shown.{SlicedState, plan_in, working_in}
 use Rattle.library_example.specs.declared.control_loop.Missed.{Missed}
 use Rattle.library_example.specs.declared.control_loop.Missed.TheVariants as missed
@@ -22,4 +22,4 @@ pub record HasFrame (old : SlicedState) (last bytes frame : ℕ) (new : SlicedSt
 -- `new` is the heap at the end.
 abbrev pub IsMissed : SlicedState → ℕ → ℕ → Missed → SlicedState → Type 0
 IsMissed old last bytes (missed.Free cause) new = IsFaultOf (working_in old).state last cause × (working_in new ≡ working_in old)
-IsMissed old last bytes (missed.Malloc cause) new = IsRefusedBy (plan_in new) (working_in new).state bytes cause × (objects new.held ≡ others old last)
+IsMissed old last bytes (missed.Malloc cause) new = IsSlicedRefusedBy (plan_in new) (working_in new).state bytes cause × (objects new.held ≡ others old last)

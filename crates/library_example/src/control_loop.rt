@@ -3,7 +3,7 @@
 ghost use Rattle.std.specs.Prelude.{◌≡◌, ◌≢◌, ◌+◌, ◌*◌, ◌≤◌, IsTrue, IfErr, IfOk, Err};
 ghost use Rattle.page_model.specs.Counts.{ceil_div};
 ghost use Rattle.slice_model.specs.declared.answers.SliceRefusal.TheVariants.{Busy};
-ghost use Rattle.sliced_heap.specs.Shown.{KeepsRules, StaysOpen};
+ghost use Rattle.sliced_heap.specs.Shown.{KeepsSlicedRules, StaysSlicedOpen};
 ghost use Rattle.step_ledger.specs.Counting.{RoseAtMost};
 ghost use Rattle.library_example.specs.Cycle.{HasFrame, IsMissed};
 ghost use Rattle.library_example.specs.declared.control_loop.Missed.TheVariants.{Malloc};
@@ -40,8 +40,8 @@ pub fn next_frame(
     ensures made { IfOk result (λ h. HasFrame heap.old last.0 bytes h.0 heap.new) }
     ensures failed { IfErr result (λ cause. IsMissed heap.old last.0 bytes cause heap.new) }
     ensures in_time { 2 * ceil_div heap.old.profile.page_words heap.old.quantum ≤ slices → result ≢ Err (Malloc Busy) }
-    ensures same { StaysOpen heap.old heap.new }
-    ensures rules { KeepsRules heap.new }
+    ensures same { StaysSlicedOpen heap.old heap.new }
+    ensures rules { KeepsSlicedRules heap.new }
     ensures steps { RoseAtMost steps.old steps.new (40 + heap.old.quantum + slices * (15 + heap.old.quantum)) }
 {
     // For their contracts: an open heap keeps its rules, enough slices end every job, and without one

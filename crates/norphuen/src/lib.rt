@@ -11,7 +11,7 @@ ghost use Rattle.cf_base.specs.declared.kind.Layout.TheVariants.{Words};
 ghost use Rattle.held_heap.specs.Bound.{IsBoundCall};
 ghost use Rattle.held_heap.specs.Calls.{IsCountsCall, IsFiguresCall, IsFreeCall, IsLengthCall, IsMallocCall, IsPlaceCall, IsReadCall, IsResizeCall, IsRoomCall, IsStepsCall, IsTotalsCall, IsWriteCall};
 ghost use Rattle.c_base.specs.AtPlace.{IsCallOnOpen, IsLendCall, IsReturnCall};
-ghost use Rattle.held_heap.specs.MovingPlace.{held_in};
+ghost use Rattle.held_heap.specs.MovingPlace.{heap_in};
 ghost use Rattle.held_heap.specs.AtPlace.{IsOpenCall};
 ghost use Rattle.held_heap.specs.CallerHeap.{closed_by};
 ghost use Rattle.held_heap.specs.Most.{IsMostAccess, IsMostFree, IsMostLength, IsMostMalloc, IsMostResize, IsMostRoom, IsMostTotals, kind_code};
@@ -42,7 +42,7 @@ pub extern "C" fn nph_open(
     k: u32,
     proxies: u32,
 ) -> i32
-    ensures { IsOpenCall Moving (held_in heap.old) pages page_bytes k proxies result (held_in heap.new) }
+    ensures { IsOpenCall Moving (heap_in heap.old) pages page_bytes k proxies result (heap_in heap.new) }
 {
     heap.open(memory, pages, page_bytes, k, proxies)
 }
@@ -81,7 +81,7 @@ pub extern "C" fn nph_pages_needed(
 /// Closes the heap and frees its memory, also if it is lent; does nothing if it is closed (`LendableHeap::close`).
 #[unsafe(no_mangle)]
 pub extern "C" fn nph_close(heap: &mut NphHeap, memory: Memory)
-    ensures { held_in heap.new ≡ closed_by (held_in heap.old) }
+    ensures { heap_in heap.new ≡ closed_by (heap_in heap.old) }
 {
     heap.inner().close(memory);
 }
@@ -89,7 +89,7 @@ pub extern "C" fn nph_close(heap: &mut NphHeap, memory: Memory)
 /// Makes an object of `bytes` zeros and writes its handle into `handle` (`Held::malloc`).
 #[unsafe(no_mangle)]
 pub extern "C" fn nph_malloc(heap: &mut NphHeap, bytes: u32, handle: &mut u32) -> i32
-    ensures { IsCallOnOpen (held_in heap.old) result (held_in heap.new) (handle.new ≡ handle.old)
+    ensures { IsCallOnOpen (heap_in heap.old) result (heap_in heap.new) (handle.new ≡ handle.old)
         (λ h h2. IsMallocCall bounds h bytes handle.old result handle.new h2) }
 {
     let heap = heap.inner();
@@ -104,7 +104,7 @@ pub extern "C" fn nph_malloc(heap: &mut NphHeap, bytes: u32, handle: &mut u32) -
 /// (`Held::free`).
 #[unsafe(no_mangle)]
 pub extern "C" fn nph_free(heap: &mut NphHeap, handle: u32, freed: &mut NphFreed) -> i32
-    ensures { IsCallOnOpen (held_in heap.old) result (held_in heap.new) (freed.new ≡ freed.old)
+    ensures { IsCallOnOpen (heap_in heap.old) result (heap_in heap.new) (freed.new ≡ freed.old)
         (λ h h2. IsFreeCall bounds h handle freed.old result freed.new h2) }
 {
     let heap = heap.inner();
@@ -124,7 +124,7 @@ pub extern "C" fn nph_resize(
     bytes: u32,
     resized: &mut NphResized,
 ) -> i32
-    ensures { IsCallOnOpen (held_in heap.old) result (held_in heap.new) (resized.new ≡ resized.old)
+    ensures { IsCallOnOpen (heap_in heap.old) result (heap_in heap.new) (resized.new ≡ resized.old)
         (λ h h2. IsResizeCall bounds h handle bytes resized.old result resized.new h2) }
 {
     let heap = heap.inner();
@@ -138,7 +138,7 @@ pub extern "C" fn nph_resize(
 /// Writes `bytes` into an object, from its byte `at` on (`Held::write`).
 #[unsafe(no_mangle)]
 pub extern "C" fn nph_write(heap: &mut NphHeap, handle: u32, at: u32, bytes: &[u8]) -> i32
-    ensures { IsCallOnOpen (held_in heap.old) result (held_in heap.new) (Unit {0})
+    ensures { IsCallOnOpen (heap_in heap.old) result (heap_in heap.new) (Unit {0})
         (λ h h2. IsWriteCall bounds h handle at bytes.now result h2) }
 {
     let heap = heap.inner();
@@ -152,7 +152,7 @@ pub extern "C" fn nph_write(heap: &mut NphHeap, handle: u32, at: u32, bytes: &[u
 /// Fills `out` with bytes of an object, from its byte `at` on (`Held::read`).
 #[unsafe(no_mangle)]
 pub extern "C" fn nph_read(heap: &mut NphHeap, handle: u32, at: u32, out: &mut [u8]) -> i32
-    ensures { IsCallOnOpen (held_in heap.old) result (held_in heap.new) (out.new ≡ out.old)
+    ensures { IsCallOnOpen (heap_in heap.old) result (heap_in heap.new) (out.new ≡ out.old)
         (λ h h2. IsReadCall bounds h handle at out.old result out.new h2) }
 {
     let heap = heap.inner();
@@ -166,7 +166,7 @@ pub extern "C" fn nph_read(heap: &mut NphHeap, handle: u32, at: u32, out: &mut [
 /// Writes the object's length in bytes into `bytes` (`Held::length`).
 #[unsafe(no_mangle)]
 pub extern "C" fn nph_length(heap: &mut NphHeap, handle: u32, bytes: &mut u32) -> i32
-    ensures { IsCallOnOpen (held_in heap.old) result (held_in heap.new) (bytes.new ≡ bytes.old)
+    ensures { IsCallOnOpen (heap_in heap.old) result (heap_in heap.new) (bytes.new ≡ bytes.old)
         (λ h h2. IsLengthCall Moving h handle bytes.old result bytes.new h2) }
 {
     let heap = heap.inner();
@@ -180,7 +180,7 @@ pub extern "C" fn nph_length(heap: &mut NphHeap, handle: u32, bytes: &mut u32) -
 /// Returns the code that a malloc of `bytes` bytes would return now (`Held::has_room`).
 #[unsafe(no_mangle)]
 pub extern "C" fn nph_has_room(heap: &mut NphHeap, bytes: u32) -> i32
-    ensures { IsCallOnOpen (held_in heap.old) result (held_in heap.new) (Unit {0})
+    ensures { IsCallOnOpen (heap_in heap.old) result (heap_in heap.new) (Unit {0})
         (λ h h2. IsRoomCall bounds h bytes result h2) }
 {
     let heap = heap.inner();
@@ -194,7 +194,7 @@ pub extern "C" fn nph_has_room(heap: &mut NphHeap, bytes: u32) -> i32
 /// Writes the words of an object's slot into `words`, as a free of it would (`Held::slot_words`).
 #[unsafe(no_mangle)]
 pub extern "C" fn nph_slot_words(heap: &mut NphHeap, handle: u32, words: &mut u32) -> i32
-    ensures { IsCallOnOpen (held_in heap.old) result (held_in heap.new) (words.new ≡ words.old)
+    ensures { IsCallOnOpen (heap_in heap.old) result (heap_in heap.new) (words.new ≡ words.old)
         (λ h h2. IsSlotWordsCall Moving h handle words.old result words.new h2) }
 {
     let heap = heap.inner();
@@ -208,7 +208,7 @@ pub extern "C" fn nph_slot_words(heap: &mut NphHeap, handle: u32, words: &mut u3
 /// Writes the size class of an object of `bytes` bytes, numbered from 0, into `class` (`Held::class_of`).
 #[unsafe(no_mangle)]
 pub extern "C" fn nph_class_of(heap: &mut NphHeap, bytes: u32, class: &mut u32) -> i32
-    ensures { IsCallOnOpen (held_in heap.old) result (held_in heap.new) (class.new ≡ class.old)
+    ensures { IsCallOnOpen (heap_in heap.old) result (heap_in heap.new) (class.new ≡ class.old)
         (λ h h2. IsClassCall h bytes class.old result class.new h2) }
 {
     let heap = heap.inner();
@@ -222,7 +222,7 @@ pub extern "C" fn nph_class_of(heap: &mut NphHeap, bytes: u32, class: &mut u32) 
 /// Writes the figures of a size class, numbered from 0, into `figures` (`Held::figures`).
 #[unsafe(no_mangle)]
 pub extern "C" fn nph_figures(heap: &mut NphHeap, class: u32, figures: &mut NphClass) -> i32
-    ensures { IsCallOnOpen (held_in heap.old) result (held_in heap.new) (figures.new ≡ figures.old)
+    ensures { IsCallOnOpen (heap_in heap.old) result (heap_in heap.new) (figures.new ≡ figures.old)
         (λ h h2. IsFiguresCall h class figures.old result figures.new h2) }
 {
     let heap = heap.inner();
@@ -236,7 +236,7 @@ pub extern "C" fn nph_figures(heap: &mut NphHeap, class: u32, figures: &mut NphC
 /// Writes the figures of the whole heap into `totals` (`Held::totals`).
 #[unsafe(no_mangle)]
 pub extern "C" fn nph_totals(heap: &mut NphHeap, totals: &mut NphHeapTotals) -> i32
-    ensures { IsCallOnOpen (held_in heap.old) result (held_in heap.new) (totals.new ≡ totals.old)
+    ensures { IsCallOnOpen (heap_in heap.old) result (heap_in heap.new) (totals.new ≡ totals.old)
         (λ h h2. IsTotalsCall bounds h result totals.new h2) }
 {
     let heap = heap.inner();
@@ -251,7 +251,7 @@ pub extern "C" fn nph_totals(heap: &mut NphHeap, totals: &mut NphHeapTotals) -> 
 /// `NONE` (`Held::next`). It takes a step for each number that it looks at.
 #[unsafe(no_mangle)]
 pub extern "C" fn nph_next(heap: &mut NphHeap, handle: u32, next: &mut u32) -> i32
-    ensures { IsCallOnOpen (held_in heap.old) result (held_in heap.new) (next.new ≡ next.old)
+    ensures { IsCallOnOpen (heap_in heap.old) result (heap_in heap.new) (next.new ≡ next.old)
         (λ h h2. IsNextCall h handle next.old result next.new h2) }
 {
     let heap = heap.inner();
@@ -265,7 +265,7 @@ pub extern "C" fn nph_next(heap: &mut NphHeap, handle: u32, next: &mut u32) -> i
 /// Writes what the heap counted since it was opened into `counts` (`Held::counts`). It counts no steps.
 #[unsafe(no_mangle)]
 pub extern "C" fn nph_counts(heap: &mut NphHeap, counts: &mut NphCounted) -> i32
-    ensures { IsCallOnOpen (held_in heap.old) result (held_in heap.new) (counts.new ≡ counts.old)
+    ensures { IsCallOnOpen (heap_in heap.old) result (heap_in heap.new) (counts.new ≡ counts.old)
         (λ h h2. IsCountsCall h result counts.new h2) }
 {
     let heap = heap.inner();
@@ -280,7 +280,7 @@ pub extern "C" fn nph_counts(heap: &mut NphHeap, counts: &mut NphCounted) -> i32
 /// (`Held::set_bound`). It counts no steps.
 #[unsafe(no_mangle)]
 pub extern "C" fn nph_set_bound(heap: &mut NphHeap, slot_words: u32, k: u32) -> i32
-    ensures { IsCallOnOpen (held_in heap.old) result (held_in heap.new) (Unit {0})
+    ensures { IsCallOnOpen (heap_in heap.old) result (heap_in heap.new) (Unit {0})
         (λ h h2. IsBoundCall h slot_words k result h2) }
 {
     let heap = heap.inner();
@@ -294,7 +294,7 @@ pub extern "C" fn nph_set_bound(heap: &mut NphHeap, slot_words: u32, k: u32) -> 
 /// Writes the steps of the last call that counts them into `steps` (`Held::last_steps`).
 #[unsafe(no_mangle)]
 pub extern "C" fn nph_last_steps(heap: &mut NphHeap, steps: &mut u64) -> i32
-    ensures { IsCallOnOpen (held_in heap.old) result (held_in heap.new) (steps.new ≡ steps.old)
+    ensures { IsCallOnOpen (heap_in heap.old) result (heap_in heap.new) (steps.new ≡ steps.old)
         (λ h h2. IsStepsCall h result steps.new h2) }
 {
     let heap = heap.inner();
@@ -309,7 +309,7 @@ pub extern "C" fn nph_last_steps(heap: &mut NphHeap, steps: &mut u64) -> i32
 /// is the object's header, and its bytes begin at the next word.
 #[unsafe(no_mangle)]
 pub extern "C" fn nph_place(heap: &mut NphHeap, handle: u32, place: &mut u32) -> i32
-    ensures { IsCallOnOpen (held_in heap.old) result (held_in heap.new) (place.new ≡ place.old)
+    ensures { IsCallOnOpen (heap_in heap.old) result (heap_in heap.new) (place.new ≡ place.old)
         (λ h h2. IsPlaceCall h handle place.old result place.new h2) }
 {
     let heap = heap.inner();
@@ -324,7 +324,7 @@ pub extern "C" fn nph_place(heap: &mut NphHeap, handle: u32, place: &mut u32) ->
 /// `nph_return` the caller may read them, and write the bytes of live objects.
 #[unsafe(no_mangle)]
 pub extern "C" fn nph_lend(heap: &mut NphHeap, words: &mut *mut u64) -> i32
-    ensures { IsLendCall (held_in heap.old) result (held_in heap.new) words.old words.new }
+    ensures { IsLendCall (heap_in heap.old) result (heap_in heap.new) words.old words.new }
 {
     heap.inner().lend(words)
 }
@@ -332,7 +332,7 @@ pub extern "C" fn nph_lend(heap: &mut NphHeap, words: &mut *mut u64) -> i32
 /// Ends the loan (`LendableHeap::end_loan`).
 #[unsafe(no_mangle)]
 pub extern "C" fn nph_return(heap: &mut NphHeap) -> i32
-    ensures { IsReturnCall (held_in heap.old) result (held_in heap.new) }
+    ensures { IsReturnCall (heap_in heap.old) result (heap_in heap.new) }
 {
     heap.inner().end_loan()
 }

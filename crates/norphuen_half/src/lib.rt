@@ -10,7 +10,7 @@ ghost use Rattle.std.specs.Prelude.{◌≡◌};
 ghost use Rattle.cf_base.specs.declared.kind.Kind.TheVariants.{HalfFit};
 ghost use Rattle.held_heap.specs.Calls.{IsCountsCall, IsFiguresCall, IsFreeCall, IsLengthCall, IsMallocCall, IsPlaceCall, IsReadCall, IsResizeCall, IsRoomCall, IsStepsCall, IsTotalsCall, IsWriteCall};
 ghost use Rattle.c_base.specs.AtPlace.{IsCallOnOpen, IsLendCall, IsReturnCall};
-ghost use Rattle.held_heap.specs.HalfPlace.{held_in};
+ghost use Rattle.held_heap.specs.HalfPlace.{heap_in};
 ghost use Rattle.held_heap.specs.AtPlace.{IsOpenCall};
 ghost use Rattle.held_heap.specs.CallerHeap.{closed_by};
 ghost use Rattle.held_heap.specs.Most.{IsMostAccess, IsMostFree, IsMostLength, IsMostMalloc, IsMostResize, IsMostRoom, IsMostTotals, kind_code};
@@ -39,7 +39,7 @@ pub extern "C" fn nph_half_open(
     k: u32,
     proxies: u32,
 ) -> i32
-    ensures { IsOpenCall HalfFit (held_in heap.old) pages page_bytes k proxies result (held_in heap.new) }
+    ensures { IsOpenCall HalfFit (heap_in heap.old) pages page_bytes k proxies result (heap_in heap.new) }
 {
     heap.open(memory, pages, page_bytes, k, proxies)
 }
@@ -63,7 +63,7 @@ pub extern "C" fn nph_half_bytes_needed(
 /// Closes the heap and frees its memory, also if it is lent; does nothing if it is closed (`LendableHeap::close`).
 #[unsafe(no_mangle)]
 pub extern "C" fn nph_half_close(heap: &mut NphHeap, memory: Memory)
-    ensures { held_in heap.new ≡ closed_by (held_in heap.old) }
+    ensures { heap_in heap.new ≡ closed_by (heap_in heap.old) }
 {
     heap.inner().close(memory);
 }
@@ -71,7 +71,7 @@ pub extern "C" fn nph_half_close(heap: &mut NphHeap, memory: Memory)
 /// Makes an object of `bytes` zeros and writes its handle into `handle` (`Held::malloc`).
 #[unsafe(no_mangle)]
 pub extern "C" fn nph_half_malloc(heap: &mut NphHeap, bytes: u32, handle: &mut u32) -> i32
-    ensures { IsCallOnOpen (held_in heap.old) result (held_in heap.new) (handle.new ≡ handle.old)
+    ensures { IsCallOnOpen (heap_in heap.old) result (heap_in heap.new) (handle.new ≡ handle.old)
         (λ h h2. IsMallocCall bounds h bytes handle.old result handle.new h2) }
 {
     let heap = heap.inner();
@@ -85,7 +85,7 @@ pub extern "C" fn nph_half_malloc(heap: &mut NphHeap, bytes: u32, handle: &mut u
 /// Frees an object. Writes into `freed` the words of its block; no object moves (`Held::free`).
 #[unsafe(no_mangle)]
 pub extern "C" fn nph_half_free(heap: &mut NphHeap, handle: u32, freed: &mut NphFreed) -> i32
-    ensures { IsCallOnOpen (held_in heap.old) result (held_in heap.new) (freed.new ≡ freed.old)
+    ensures { IsCallOnOpen (heap_in heap.old) result (heap_in heap.new) (freed.new ≡ freed.old)
         (λ h h2. IsFreeCall bounds h handle freed.old result freed.new h2) }
 {
     let heap = heap.inner();
@@ -104,7 +104,7 @@ pub extern "C" fn nph_half_resize(
     bytes: u32,
     resized: &mut NphResized,
 ) -> i32
-    ensures { IsCallOnOpen (held_in heap.old) result (held_in heap.new) (resized.new ≡ resized.old)
+    ensures { IsCallOnOpen (heap_in heap.old) result (heap_in heap.new) (resized.new ≡ resized.old)
         (λ h h2. IsResizeCall bounds h handle bytes resized.old result resized.new h2) }
 {
     let heap = heap.inner();
@@ -118,7 +118,7 @@ pub extern "C" fn nph_half_resize(
 /// Writes `bytes` into an object, from its byte `at` on (`Held::write`).
 #[unsafe(no_mangle)]
 pub extern "C" fn nph_half_write(heap: &mut NphHeap, handle: u32, at: u32, bytes: &[u8]) -> i32
-    ensures { IsCallOnOpen (held_in heap.old) result (held_in heap.new) (Unit {0})
+    ensures { IsCallOnOpen (heap_in heap.old) result (heap_in heap.new) (Unit {0})
         (λ h h2. IsWriteCall bounds h handle at bytes.now result h2) }
 {
     let heap = heap.inner();
@@ -132,7 +132,7 @@ pub extern "C" fn nph_half_write(heap: &mut NphHeap, handle: u32, at: u32, bytes
 /// Fills `out` with bytes of an object, from its byte `at` on (`Held::read`).
 #[unsafe(no_mangle)]
 pub extern "C" fn nph_half_read(heap: &mut NphHeap, handle: u32, at: u32, out: &mut [u8]) -> i32
-    ensures { IsCallOnOpen (held_in heap.old) result (held_in heap.new) (out.new ≡ out.old)
+    ensures { IsCallOnOpen (heap_in heap.old) result (heap_in heap.new) (out.new ≡ out.old)
         (λ h h2. IsReadCall bounds h handle at out.old result out.new h2) }
 {
     let heap = heap.inner();
@@ -146,7 +146,7 @@ pub extern "C" fn nph_half_read(heap: &mut NphHeap, handle: u32, at: u32, out: &
 /// Writes the object's length in bytes into `bytes` (`Held::length`).
 #[unsafe(no_mangle)]
 pub extern "C" fn nph_half_length(heap: &mut NphHeap, handle: u32, bytes: &mut u32) -> i32
-    ensures { IsCallOnOpen (held_in heap.old) result (held_in heap.new) (bytes.new ≡ bytes.old)
+    ensures { IsCallOnOpen (heap_in heap.old) result (heap_in heap.new) (bytes.new ≡ bytes.old)
         (λ h h2. IsLengthCall HalfFit h handle bytes.old result bytes.new h2) }
 {
     let heap = heap.inner();
@@ -160,7 +160,7 @@ pub extern "C" fn nph_half_length(heap: &mut NphHeap, handle: u32, bytes: &mut u
 /// Returns the code that a malloc of `bytes` bytes would return now (`Held::has_room`).
 #[unsafe(no_mangle)]
 pub extern "C" fn nph_half_has_room(heap: &mut NphHeap, bytes: u32) -> i32
-    ensures { IsCallOnOpen (held_in heap.old) result (held_in heap.new) (Unit {0})
+    ensures { IsCallOnOpen (heap_in heap.old) result (heap_in heap.new) (Unit {0})
         (λ h h2. IsRoomCall bounds h bytes result h2) }
 {
     let heap = heap.inner();
@@ -174,7 +174,7 @@ pub extern "C" fn nph_half_has_room(heap: &mut NphHeap, bytes: u32) -> i32
 /// Writes the words of an object's block, its headers included, into `words`, as a free of it would (`Held::slot_words`).
 #[unsafe(no_mangle)]
 pub extern "C" fn nph_half_slot_words(heap: &mut NphHeap, handle: u32, words: &mut u32) -> i32
-    ensures { IsCallOnOpen (held_in heap.old) result (held_in heap.new) (words.new ≡ words.old)
+    ensures { IsCallOnOpen (heap_in heap.old) result (heap_in heap.new) (words.new ≡ words.old)
         (λ h h2. IsSlotWordsCall HalfFit h handle words.old result words.new h2) }
 {
     let heap = heap.inner();
@@ -188,7 +188,7 @@ pub extern "C" fn nph_half_slot_words(heap: &mut NphHeap, handle: u32, words: &m
 /// Returns `UNKNOWN` on an open heap, since Half-Fit has no classes (`Held::figures`).
 #[unsafe(no_mangle)]
 pub extern "C" fn nph_half_figures(heap: &mut NphHeap, class: u32, figures: &mut NphClass) -> i32
-    ensures { IsCallOnOpen (held_in heap.old) result (held_in heap.new) (figures.new ≡ figures.old)
+    ensures { IsCallOnOpen (heap_in heap.old) result (heap_in heap.new) (figures.new ≡ figures.old)
         (λ h h2. IsFiguresCall h class figures.old result figures.new h2) }
 {
     let heap = heap.inner();
@@ -202,7 +202,7 @@ pub extern "C" fn nph_half_figures(heap: &mut NphHeap, class: u32, figures: &mut
 /// Writes the figures of the whole heap into `totals` (`Held::totals`).
 #[unsafe(no_mangle)]
 pub extern "C" fn nph_half_totals(heap: &mut NphHeap, totals: &mut NphHeapTotals) -> i32
-    ensures { IsCallOnOpen (held_in heap.old) result (held_in heap.new) (totals.new ≡ totals.old)
+    ensures { IsCallOnOpen (heap_in heap.old) result (heap_in heap.new) (totals.new ≡ totals.old)
         (λ h h2. IsTotalsCall bounds h result totals.new h2) }
 {
     let heap = heap.inner();
@@ -217,7 +217,7 @@ pub extern "C" fn nph_half_totals(heap: &mut NphHeap, totals: &mut NphHeapTotals
 /// `NONE` (`Held::next`). It takes a step for each number that it looks at.
 #[unsafe(no_mangle)]
 pub extern "C" fn nph_half_next(heap: &mut NphHeap, handle: u32, next: &mut u32) -> i32
-    ensures { IsCallOnOpen (held_in heap.old) result (held_in heap.new) (next.new ≡ next.old)
+    ensures { IsCallOnOpen (heap_in heap.old) result (heap_in heap.new) (next.new ≡ next.old)
         (λ h h2. IsNextCall h handle next.old result next.new h2) }
 {
     let heap = heap.inner();
@@ -231,7 +231,7 @@ pub extern "C" fn nph_half_next(heap: &mut NphHeap, handle: u32, next: &mut u32)
 /// Writes what the heap counted since it was opened into `counts` (`Held::counts`). It counts no steps.
 #[unsafe(no_mangle)]
 pub extern "C" fn nph_half_counts(heap: &mut NphHeap, counts: &mut NphCounted) -> i32
-    ensures { IsCallOnOpen (held_in heap.old) result (held_in heap.new) (counts.new ≡ counts.old)
+    ensures { IsCallOnOpen (heap_in heap.old) result (heap_in heap.new) (counts.new ≡ counts.old)
         (λ h h2. IsCountsCall h result counts.new h2) }
 {
     let heap = heap.inner();
@@ -245,7 +245,7 @@ pub extern "C" fn nph_half_counts(heap: &mut NphHeap, counts: &mut NphCounted) -
 /// Writes the steps of the last call that counts them into `steps` (`Held::last_steps`).
 #[unsafe(no_mangle)]
 pub extern "C" fn nph_half_last_steps(heap: &mut NphHeap, steps: &mut u64) -> i32
-    ensures { IsCallOnOpen (held_in heap.old) result (held_in heap.new) (steps.new ≡ steps.old)
+    ensures { IsCallOnOpen (heap_in heap.old) result (heap_in heap.new) (steps.new ≡ steps.old)
         (λ h h2. IsStepsCall h result steps.new h2) }
 {
     let heap = heap.inner();
@@ -260,7 +260,7 @@ pub extern "C" fn nph_half_last_steps(heap: &mut NphHeap, steps: &mut u64) -> i3
 /// begins there, with the block's header and the object's, and its bytes begin two words on.
 #[unsafe(no_mangle)]
 pub extern "C" fn nph_half_place(heap: &mut NphHeap, handle: u32, place: &mut u32) -> i32
-    ensures { IsCallOnOpen (held_in heap.old) result (held_in heap.new) (place.new ≡ place.old)
+    ensures { IsCallOnOpen (heap_in heap.old) result (heap_in heap.new) (place.new ≡ place.old)
         (λ h h2. IsPlaceCall h handle place.old result place.new h2) }
 {
     let heap = heap.inner();
@@ -275,7 +275,7 @@ pub extern "C" fn nph_half_place(heap: &mut NphHeap, handle: u32, place: &mut u3
 /// `nph_half_return` the caller may read them, and write the bytes of live objects.
 #[unsafe(no_mangle)]
 pub extern "C" fn nph_half_lend(heap: &mut NphHeap, words: &mut *mut u64) -> i32
-    ensures { IsLendCall (held_in heap.old) result (held_in heap.new) words.old words.new }
+    ensures { IsLendCall (heap_in heap.old) result (heap_in heap.new) words.old words.new }
 {
     heap.inner().lend(words)
 }
@@ -283,7 +283,7 @@ pub extern "C" fn nph_half_lend(heap: &mut NphHeap, words: &mut *mut u64) -> i32
 /// Ends the loan (`LendableHeap::end_loan`).
 #[unsafe(no_mangle)]
 pub extern "C" fn nph_half_return(heap: &mut NphHeap) -> i32
-    ensures { IsReturnCall (held_in heap.old) result (held_in heap.new) }
+    ensures { IsReturnCall (heap_in heap.old) result (heap_in heap.new) }
 {
     heap.inner().end_loan()
 }

@@ -16,7 +16,7 @@ use Rattle.id_table.specs.Named.{FreesNamed, MakesNamed}
 use Rattle.id_table.specs.Sessions.{CostsAtMost, IsGoing, RunState, run_at}
 use Rattle.id_table.specs.Ties.{AreTiedTo}
 use Rattle.id_table.proofs.CallerLemmas.{tied_same}
-use Rattle.norphuen_images.specs.Calls.{IsFreeCall, IsMakeCall, IsWriteCall, number_by}
+use Rattle.norphuen_images.specs.Calls.{IsImagesFreeCall, IsImagesWriteCall, IsMakeCall, number_by}
 use Rattle.norphuen_images.specs.State.{IsNamed}
 
 module _ (p : Profile) (old new : RunState) (named : IsNamed p old) where
@@ -62,7 +62,7 @@ module _ (p : Profile) (inside old new : RunState) (is : inside ≡ old) (before
   still : IsNamed old.heap.profile new
   still = subst (λ q. IsNamed q new) (sym before.profile ∙ ap (λ (s : RunState). s.heap.profile) is) after
 
-  pub free_call : (id : ℕ) → FreesNamed inside id new → IsFreeCall old id (pos 0) new
+  pub free_call : (id : ℕ) → FreesNamed inside id new → IsImagesFreeCall old id (pos 0) new
   free_call id call = inl (refl, subst (λ (s : RunState). FreesNamed s id new) is call, still)
 
   -- a malloc that is refused for no cause makes the object
@@ -82,7 +82,7 @@ module _ (p : Profile) (inside old new : RunState) (is : inside ≡ old) (before
 
   pub write_call : (id number from : ℕ) (bytes : List ℕ) (code : ℤ) (answer : Result (Unit {0}) AccessFault) → number ≡ number_by (get old.session.ids id)
       → code ≡ access_code answer → IsWriteStep inside.heap (record { number = number; from = from }) bytes answer new.heap → new.session ≡ inside.session
-      → IsWriteCall old id from bytes code new
+      → IsImagesWriteCall old id from bytes code new
   write_call id number from bytes code answer same by_code step session = record {
     answer = answer;
     by_code = by_code;

@@ -23,7 +23,7 @@ use Rattle.id_table.specs.Sessions.{RunState, SessionState}
 use Rattle.id_table.specs.Ties.{AreTiedTo}
 use Rattle.id_table.proofs.CallerLemmas.{by_id_changed, by_id_given, by_id_gone, counted_ids, live_by_id, names_of_objects}
 use Rattle.heap_image.specs.Heaps.{live_objects}
-use Rattle.norphuen_images.specs.Calls.{IsFreeCall, IsMakeCall, IsReadCall, IsWriteCall, number_by}
+use Rattle.norphuen_images.specs.Calls.{IsImagesFreeCall, IsImagesReadCall, IsImagesWriteCall, IsMakeCall, number_by}
 use Rattle.norphuen_images.specs.State.{IsNamed}
 
 not_done : {T : Type 0} (e : Refusal) → pos 0 ≡ malloc_code (Err e) → T
@@ -91,17 +91,17 @@ make_by_id p old new id bytes named (inr (inl (code, large), same)) = absurd (le
 make_by_id p old new id bytes named (inr (inr (inl (code, h, live)), same)) = absurd (let z : pos 0 ≡ pos 20 = code in cc)
 make_by_id p old new id bytes named (inr (inr (inr (e, code, cause)), same)) = not_done e code
 
-pub free_by_id : (p : Profile) (old new : RunState) (id : ℕ) → IsNamed p old → IsFreeCall old id (pos 0) new → live_objects new ≡ remove (live_objects old) id
+pub free_by_id : (p : Profile) (old new : RunState) (id : ℕ) → IsNamed p old → IsImagesFreeCall old id (pos 0) new → live_objects new ≡ remove (live_objects old) id
 free_by_id p old new id named (inl (done, call, after)) =
     let left : new.session.ids ≡ remove old.session.ids id = ap (λ (s : SessionState). s.ids) call.session ∙ counted_ids _ call.freed.moved _ in
     (λ i. objects_by_id (left i) (call.step.left i)) ∙ by_id_gone old.session.ids (objects old.heap.held) (names p old named) id call.number call.named
 free_by_id p old new id named (inr (code, none_there, same)) = absurd (let z : pos 0 ≡ pos 4 = code in cc)
 
-pub write_by_id : (p : Profile) (old new : RunState) (id from : ℕ) (bytes : List ℕ) → IsNamed p old → IsWriteCall old id from bytes (pos 0) new
+pub write_by_id : (p : Profile) (old new : RunState) (id from : ℕ) (bytes : List ℕ) → IsNamed p old → IsImagesWriteCall old id from bytes (pos 0) new
     → (v : List ℕ) × (get (live_objects old) id ≡ Some v) × (live_objects new ≡ insert (live_objects old) id (written v from bytes))
 write_by_id p old new id from bytes named call = changed p old named new id from bytes call.answer call.by_code call.step call.session
 
-pub read_by_id : (p : Profile) (old new : RunState) (id from : ℕ) (before after : List ℕ) → IsNamed p old → IsReadCall old id from before (pos 0) after new
+pub read_by_id : (p : Profile) (old new : RunState) (id from : ℕ) (before after : List ℕ) → IsNamed p old → IsImagesReadCall old id from before (pos 0) after new
     → (v : List ℕ) × (get (live_objects old) id ≡ Some v) × (after ≡ take (length before) (drop from v))
 read_by_id p old new id from before after named call = by call.answer call.by_code call.read
   where

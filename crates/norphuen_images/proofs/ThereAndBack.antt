@@ -10,7 +10,7 @@ use Rattle.id_table.specs.Sessions.{AreTied, RunState}
 use Rattle.heap_image.specs.Decoded.{Decoded, decoded, whole}
 use Rattle.heap_image.specs.Heaps.{heap_image, live_objects}
 use Rattle.norphuen_images.specs.Calls.{IsSaveCall, Saved, at_bound, image_in}
-use Rattle.norphuen_images.specs.CallerImages.{IsLoadAt, IsLoadCall, IsLoaded, IsLoadedAgain}
+use Rattle.norphuen_images.specs.CallerImages.{IsImageLoaded, IsLoadAt, IsLoadCall, IsLoadedAgain}
 use Rattle.norphuen_images.specs.State.{IsNamed}
 
 saved_is : (s kept : RunState) (before after : Saved) → IsSaveCall s before (pos 0) after kept → image_in after ≡ heap_image s
@@ -30,7 +30,7 @@ loaded_again p s kept before after last k offset offset2 code new reads saved le
     shown : decoded (image_in after) ≡ whole (at_bound_one s.heap.profile) (live_objects s)
     shown = ap decoded (saved_is s kept before after saved) ∙ reads
 
-    go : (new : CallerHeap RunState) → IsLoaded (image_in after) last k offset code offset2 new → IsLoadedAgain s k code new
+    go : (new : CallerHeap RunState) → IsImageLoaded (image_in after) last k offset code offset2 new → IsLoadedAgain s k code new
     go (Opened h) loaded =
         let image = loaded.2 in
         let same = parts_of _ _ _ _ (sym image.reads ∙ shown) in

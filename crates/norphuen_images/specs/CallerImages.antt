@@ -9,32 +9,32 @@ use Rattle.heap_image.specs.Decoded.{IsBroken}
 use Rattle.heap_image.specs.Heaps.{live_objects}
 use Rattle.id_table.specs.Sessions.{RunState}
 use Rattle.norphuen_images.specs.Calls.{HoldsImage, IsFreshRun, at_bound}
-use Rattle.norphuen_images.specs.Needed.{IsHeldBytes}
+use Rattle.norphuen_images.specs.Needed.{IsImagesHeldBytes}
 
 -- how a heap is opened, and what it needs; it has no handles
 abbrev pub images_opening : Opening RunState
-images_opening = record { takes = λ _. ⊤; is_fresh = λ p _. IsFreshRun p; needs = IsHeldBytes; last = λ _. 0 }
+images_opening = record { takes = λ _. ⊤; is_fresh = λ p _. IsFreshRun p; needs = IsImagesHeldBytes; last = λ _. 0 }
 
 -- the heap after it is closed
-abbrev pub closed_by : CallerHeap RunState → CallerHeap RunState
-closed_by = closed_with images_opening.last
+abbrev pub images_closed_by : CallerHeap RunState → CallerHeap RunState
+images_closed_by = closed_with images_opening.last
 
 -- an open with these settings: pages, bytes of a page, bound k, and proxies
-abbrev pub IsOpenCall : CallerHeap RunState → ℕ → ℕ → ℕ → ℕ → ℤ → CallerHeap RunState → Type 0
-IsOpenCall old pages page_bytes k proxies code new =
+abbrev pub IsImagesOpenCall : CallerHeap RunState → ℕ → ℕ → ℕ → ℕ → ℤ → CallerHeap RunState → Type 0
+IsImagesOpenCall old pages page_bytes k proxies code new =
     IsOpenBy (setting_fault pages page_bytes k proxies) (λ _. IsFreshRun (profile_from pages page_bytes k proxies)) old code new
 
 -- The end of a load of these bytes, with the bound k, into a closed heap. 0: they are an image, and the heap is open with its objects. Else the heap is still closed. 21 (`IMAGE`): the bytes
 -- are no image, and the caller's number is the offset of the first field that breaks a rule or is cut by the end, or of the first byte past the image. 10 (`MEMORY`): out of memory.
-abbrev pub IsLoaded : List ℕ → ℕ → ℕ → ℕ → ℤ → ℕ → CallerHeap RunState → Type 0
-IsLoaded bytes last k before code after (Closed now) = (((code ≡ pos 21) × IsBroken bytes after) ⊎ ((code ≡ pos 10) × (after ≡ before))) × (now ≡ last)
-IsLoaded bytes last k before code after (Opened h) = (code ≡ pos 0) × (after ≡ before) × HoldsImage bytes k h
-IsLoaded bytes last k before code after (Lent h w) = ⊥
+abbrev pub IsImageLoaded : List ℕ → ℕ → ℕ → ℕ → ℤ → ℕ → CallerHeap RunState → Type 0
+IsImageLoaded bytes last k before code after (Closed now) = (((code ≡ pos 21) × IsBroken bytes after) ⊎ ((code ≡ pos 10) × (after ≡ before))) × (now ≡ last)
+IsImageLoaded bytes last k before code after (Opened h) = (code ≡ pos 0) × (after ≡ before) × HoldsImage bytes k h
+IsImageLoaded bytes last k before code after (Lent h w) = ⊥
 
--- A load of these bytes, with the bound k, into a closed heap. The first argument is whether k is in its range: if not, it returns 13 (`BOUND`), and changes nothing. Else `IsLoaded` holds.
+-- A load of these bytes, with the bound k, into a closed heap. The first argument is whether k is in its range: if not, it returns 13 (`BOUND`), and changes nothing. Else `IsImageLoaded` holds.
 abbrev pub IsLoadAt : Bool → ℕ → List ℕ → ℕ → ℕ → ℤ → ℕ → CallerHeap RunState → Type 0
 IsLoadAt false last bytes k before code after new = (code ≡ pos 13) × (after ≡ before) × (new ≡ Closed last)
-IsLoadAt true last bytes k before code after new = IsLoaded bytes last k before code after new
+IsLoadAt true last bytes k before code after new = IsImageLoaded bytes last k before code after new
 
 -- A load of these bytes, with the bound k. On a heap that is open already it returns 8 (`OPEN`), on a lent one 9 (`LENT`), and changes nothing.
 abbrev pub IsLoadCall : CallerHeap RunState → List ℕ → ℕ → ℕ → ℤ → ℕ → CallerHeap RunState → Type 0

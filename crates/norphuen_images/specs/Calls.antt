@@ -41,8 +41,8 @@ abbrev pub NamesNone : RunState → ℕ → Type 0
 NamesNone s id = get s.session.ids id ≡ None
 
 -- a call that frees the object of the id; 4 (`UNKNOWN`) if no object has it
-abbrev pub IsFreeCall : RunState → ℕ → ℤ → RunState → Type 0
-IsFreeCall old id code new = ((code ≡ pos 0) × FreesNamed old id new × IsNamed old.heap.profile new) ⊎ ((code ≡ pos 4) × NamesNone old id × (new ≡ old))
+abbrev pub IsImagesFreeCall : RunState → ℕ → ℤ → RunState → Type 0
+IsImagesFreeCall old id code new = ((code ≡ pos 0) × FreesNamed old id new × IsNamed old.heap.profile new) ⊎ ((code ≡ pos 4) × NamesNone old id × (new ≡ old))
 
 -- the number of the object that an id names; one that no object has if no object has the id
 abbrev pub number_by : Option ℕ → ℕ
@@ -50,7 +50,7 @@ number_by (Some h) = h
 number_by None = none
 
 -- a write of `bytes` into the object of the id, from its byte `from` on
-pub record IsWriteCall (old : RunState) (id from : ℕ) (bytes : List ℕ) (code : ℤ) (new : RunState) : Type 0 where
+pub record IsImagesWriteCall (old : RunState) (id from : ℕ) (bytes : List ℕ) (code : ℤ) (new : RunState) : Type 0 where
   pub answer : Result (Unit {0}) AccessFault
   pub by_code : code ≡ access_code answer
   pub step : IsWriteStep old.heap (record { number = number_by (get old.session.ids id); from = from }) bytes answer new.heap
@@ -58,15 +58,15 @@ pub record IsWriteCall (old : RunState) (id from : ℕ) (bytes : List ℕ) (code
   pub named : IsNamed old.heap.profile new
 
 -- a read of the object of the id, from its byte `from` on, into the caller's buffer; the heap is unchanged
-pub record IsReadCall (old : RunState) (id from : ℕ) (before : List ℕ) (code : ℤ) (after : List ℕ) (new : RunState) : Type 0 where
+pub record IsImagesReadCall (old : RunState) (id from : ℕ) (before : List ℕ) (code : ℤ) (after : List ℕ) (new : RunState) : Type 0 where
   pub answer : Result (Unit {0}) AccessFault
   pub by_code : code ≡ access_code answer
   pub read : IsReadAnswer old.heap (record { number = number_by (get old.session.ids id); from = from }) before answer after
   pub kept : new ≡ old
 
 -- a call for the length of the object of the id; 4 (`UNKNOWN`) if no object has it
-abbrev pub IsLengthCall : RunState → ℕ → ℕ → ℤ → ℕ → RunState → Type 0
-IsLengthCall old id before code after new = IsLengthOf (bytes_of old id) before code after × (new ≡ old)
+abbrev pub IsImagesLengthCall : RunState → ℕ → ℕ → ℤ → ℕ → RunState → Type 0
+IsImagesLengthCall old id before code after new = IsLengthOf (bytes_of old id) before code after × (new ≡ old)
   where
     IsLengthOf : Option (List ℕ) → ℕ → ℤ → ℕ → Type 0
     IsLengthOf (Some v) before code after = (code ≡ pos 0) × (after ≡ length v)

@@ -9,10 +9,10 @@ use Rattle.c_base.specs.Needed.{AreNeeded}
 use Rattle.c_base.specs.declared.answers.NphNeeded.{NphNeeded}
 
 -- what opening a heap with the settings p asks for: the heap, the table of 65,536 ids, and the block of the open heap
-abbrev pub IsHeldBytes : Profile → BytesNeeded → Type 0
-IsHeldBytes p needed = needed ≡ both (paged_bytes Moving p) (both (one_block (8 * 65536)) (one_block 1512))
+abbrev pub IsImagesHeldBytes : Profile → BytesNeeded → Type 0
+IsImagesHeldBytes p needed = needed ≡ both (paged_bytes Moving p) (both (one_block (8 * 65536)) (one_block 1512))
 
 -- a call for the memory of a heap with these settings: pages, bytes of a page, bound k, and proxies
-abbrev pub IsNeededCall : ℕ → ℕ → ℕ → ℕ → ℤ → NphNeeded → NphNeeded → Type 0
-IsNeededCall pages page_bytes k proxies code before after =
-    AreNeeded (setting_fault pages page_bytes k proxies) (IsHeldBytes (profile_from pages page_bytes k proxies)) code before after
+abbrev pub IsImagesNeededCall : ℕ → ℕ → ℕ → ℕ → ℤ → NphNeeded → NphNeeded → Type 0
+IsImagesNeededCall pages page_bytes k proxies code before after =
+    AreNeeded (setting_fault pages page_bytes k proxies) (IsImagesHeldBytes (profile_from pages page_bytes k proxies)) code before after

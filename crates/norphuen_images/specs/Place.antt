@@ -10,16 +10,16 @@ use Rattle.norphuen_images.specs.contracts.images.NphHeap.{the_row}
 use Rattle.norphuen_images.specs.declared.images.NphHeap.{NphHeap}
 
 -- the `ClosableHeap` that the struct is, and the struct that a `ClosableHeap` is
-abbrev pub inner_of : NphHeap → ClosableHeap RunState
-inner_of n = record { place = record { at = n.place.at; held = n.place.held }; last = n.last; is_open = n.is_open; shown = n.shown }
+abbrev pub images_inner_of : NphHeap → ClosableHeap RunState
+images_inner_of n = record { place = record { at = n.place.at; held = n.place.held }; last = n.last; is_open = n.is_open; shown = n.shown }
 
-abbrev pub outer_of : ClosableHeap RunState → NphHeap
-outer_of h = record { place = record { at = h.place.at; held = h.place.held }; last = h.last; is_open = h.is_open; shown = h.shown }
+abbrev pub images_outer_of : ClosableHeap RunState → NphHeap
+images_outer_of h = record { place = record { at = h.place.at; held = h.place.held }; last = h.last; is_open = h.is_open; shown = h.shown }
 
 -- the heap of the struct: closed or open
-abbrev pub held_in : NphHeap → CallerHeap RunState
-held_in n = base.held_in (inner_of n)
+abbrev pub images_heap_in : NphHeap → CallerHeap RunState
+images_heap_in n = base.caller_heap (images_inner_of n)
 
 -- s is the borrow of the struct, r that of the `ClosableHeap` in the same memory: when r ends, the struct is what r leaves
-abbrev pub LendsInner : MutBor NphHeap → MutBor (ClosableHeap RunState) → Fml
-LendsInner s r = Lends the_row (heap_row open_heap) s r outer_of
+abbrev pub LendsImagesInner : MutBor NphHeap → MutBor (ClosableHeap RunState) → Fml
+LendsImagesInner s r = Lends the_row (heap_row open_heap) s r images_outer_of

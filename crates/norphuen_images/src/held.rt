@@ -4,7 +4,7 @@ ghost use Rattle.std.specs.Prelude.{◌≡◌, ◌≤◌, IfErr, IfOk, length};
 ghost use Rattle.heap_image.specs.Heaps.{heap_image};
 ghost use Rattle.std.specs.FinMap as map;
 ghost use Rattle.norphuen_images.specs.CallerImages.{images_opening};
-ghost use Rattle.norphuen_images.specs.Calls.{HoldsImage, IsFreeCall, IsImageBytesCall, IsLengthCall, IsLoadFault, IsMakeCall, IsReadCall, IsSaveCall, IsWriteCall, number_by};
+ghost use Rattle.norphuen_images.specs.Calls.{HoldsImage, IsImageBytesCall, IsImagesFreeCall, IsImagesLengthCall, IsImagesReadCall, IsImagesWriteCall, IsLoadFault, IsMakeCall, IsSaveCall, number_by};
 
 use crate::slices::{SliceSink, SliceSource};
 use c_base::{DONE, LIVE, NONE, Openable, RANGE, UNKNOWN, of_access, of_refusal};
@@ -168,7 +168,7 @@ impl HeldImages {
 
     /// `HeldImages`: frees the object that C names by the id. Returns `DONE`, or `UNKNOWN` if no object has the id.
     pub fn free(&mut self, id: u32) -> i32
-        ensures { IsFreeCall self.old id result self.new }
+        ensures { IsImagesFreeCall self.old id result self.new }
     {
         if id >= IDS || self.names.handle(id as u16).is_none() {
             return UNKNOWN;
@@ -182,7 +182,7 @@ impl HeldImages {
     /// For C, writes the bytes into the object of the id, from its byte `at` on. Returns `DONE`; `UNKNOWN` if no object
     /// has the id, or `RANGE` if the bytes pass the object's end.
     pub fn write(&mut self, id: u32, at: u32, bytes: &[u8]) -> i32
-        ensures { IsWriteCall self.old id at bytes.now result self.new }
+        ensures { IsImagesWriteCall self.old id at bytes.now result self.new }
     {
         let number = self.number(id);
         let mut meter = Meter::for_library(self.memory);
@@ -195,7 +195,7 @@ impl HeldImages {
     /// For C, fills `out` with the bytes of the object of the id, from its byte `at` on. Returns `DONE`; `UNKNOWN` if
     /// no object has the id, or `RANGE` if the bytes pass the object's end, and then `out` is unchanged.
     pub fn read(&mut self, id: u32, at: u32, out: &mut [u8]) -> i32
-        ensures { IsReadCall self.old id at out.old result out.new self.new }
+        ensures { IsImagesReadCall self.old id at out.old result out.new self.new }
     {
         let number = self.number(id);
         let mut meter = Meter::for_library(self.memory);
@@ -208,7 +208,7 @@ impl HeldImages {
     /// For C, writes the length in bytes of the object of the id into `bytes`. Returns `DONE`, or `UNKNOWN` if no
     /// object has the id; then `bytes` is unchanged.
     pub fn length(&mut self, id: u32, bytes: &mut u32) -> i32
-        ensures { IsLengthCall self.old id bytes.old result bytes.new self.new }
+        ensures { IsImagesLengthCall self.old id bytes.old result bytes.new self.new }
     {
         let number = self.number(id);
         let mut meter = Meter::for_library(self.memory);

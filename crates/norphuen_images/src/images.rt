@@ -42,12 +42,12 @@ pub struct NphHeap {
 
 impl NphHeap {
     ghost use Rattle.norphuen_images.specs.CallerImages.{IsLoadCall};
-    ghost use Rattle.norphuen_images.specs.Place.{LendsInner, held_in, inner_of};
+    ghost use Rattle.norphuen_images.specs.Place.{LendsImagesInner, images_heap_in, images_inner_of};
 
     /// Borrows the `ClosableHeap` that this heap with ids is in memory.
     pub fn inner(&mut self) -> &mut ClosableHeap<HeldImages>
-        ensures* writes_back { sem 𝓛 (LendsInner self.entry result) }
-        ensures value { result.now ≡ inner_of self.old }
+        ensures* writes_back { sem 𝓛 (LendsImagesInner self.entry result) }
+        ensures value { result.now ≡ images_inner_of self.old }
     {
         unsafe { &mut *(self as *mut NphHeap as *mut ClosableHeap<HeldImages>) }
     }
@@ -57,7 +57,7 @@ impl NphHeap {
     /// if the bytes are no image, or `MEMORY`. After `IMAGE`, and only then, `offset` is where the bytes break a rule
     /// of images.
     pub fn load(&mut self, memory: Memory, bytes: &[u8], k: u32, offset: &mut u64) -> i32
-        ensures { IsLoadCall (held_in self.old) bytes.now k offset.old result offset.new (held_in self.new) }
+        ensures { IsLoadCall (images_heap_in self.old) bytes.now k offset.old result offset.new (images_heap_in self.new) }
     {
         let heap = self.inner();
         if heap.is_open() {

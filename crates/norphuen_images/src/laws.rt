@@ -8,7 +8,7 @@ ghost use Rattle.heap_image.specs.Heaps.{live_objects};
 ghost use Rattle.id_table.specs.ById.{bytes_of};
 ghost use Rattle.id_table.specs.Sessions.{RunState};
 ghost use Rattle.page_model.specs.Bytes.{written};
-ghost use Rattle.norphuen_images.specs.Calls.{IsFreeCall, IsMakeCall, IsReadCall, IsSaveCall, IsWriteCall, Saved, image_in};
+ghost use Rattle.norphuen_images.specs.Calls.{IsImagesFreeCall, IsImagesReadCall, IsImagesWriteCall, IsMakeCall, IsSaveCall, Saved, image_in};
 ghost use Rattle.norphuen_images.specs.CallerImages.{IsLoadCall, IsLoadedAgain};
 ghost use Rattle.norphuen_images.specs.State.{IsNamed};
 
@@ -18,11 +18,11 @@ use heap_image::{an_image_is_read_back, equal_objects_have_one_image, live_objec
 pub fn the_calls_change_the_objects_by_id()
     ensures make { (p : Profile) (old new : RunState) (id bytes : ℕ) → IsNamed p old → IsMakeCall old id bytes (pos 0) new
         → live_objects new ≡ insert (live_objects old) id (replicate bytes 0) }
-    ensures free { (p : Profile) (old new : RunState) (id : ℕ) → IsNamed p old → IsFreeCall old id (pos 0) new
+    ensures free { (p : Profile) (old new : RunState) (id : ℕ) → IsNamed p old → IsImagesFreeCall old id (pos 0) new
         → live_objects new ≡ remove (live_objects old) id }
-    ensures write { (p : Profile) (old new : RunState) (id from : ℕ) (bytes : List ℕ) → IsNamed p old → IsWriteCall old id from bytes (pos 0) new
+    ensures write { (p : Profile) (old new : RunState) (id from : ℕ) (bytes : List ℕ) → IsNamed p old → IsImagesWriteCall old id from bytes (pos 0) new
         → (v : List ℕ) × (get (live_objects old) id ≡ Some v) × (live_objects new ≡ insert (live_objects old) id (written v from bytes)) }
-    ensures read { (p : Profile) (old new : RunState) (id from : ℕ) (before after : List ℕ) → IsNamed p old → IsReadCall old id from before (pos 0) after new
+    ensures read { (p : Profile) (old new : RunState) (id from : ℕ) (before after : List ℕ) → IsNamed p old → IsImagesReadCall old id from before (pos 0) after new
         → (v : List ℕ) × (get (live_objects old) id ≡ Some v) × (after ≡ take (length before) (drop from v)) }
 {}
 

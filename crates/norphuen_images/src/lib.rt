@@ -8,10 +8,10 @@
 ghost use Rattle.std.specs.Prelude.{◌≡◌};
 ghost use Rattle.c_base.specs.AtPlace.{IsCallOnOpen};
 ghost use Rattle.c_base.specs.Version.{version};
-ghost use Rattle.norphuen_images.specs.CallerImages.{IsLoadCall, IsOpenCall, closed_by};
-ghost use Rattle.norphuen_images.specs.Calls.{IsFreeCall, IsImageBytesCall, IsLengthCall, IsMakeCall, IsReadCall, IsSaveCall, IsWriteCall};
-ghost use Rattle.norphuen_images.specs.Needed.{IsNeededCall};
-ghost use Rattle.norphuen_images.specs.Place.{held_in};
+ghost use Rattle.norphuen_images.specs.CallerImages.{IsImagesOpenCall, IsLoadCall, images_closed_by};
+ghost use Rattle.norphuen_images.specs.Calls.{IsImageBytesCall, IsImagesFreeCall, IsImagesLengthCall, IsImagesReadCall, IsImagesWriteCall, IsMakeCall, IsSaveCall};
+ghost use Rattle.norphuen_images.specs.Needed.{IsImagesNeededCall};
+ghost use Rattle.norphuen_images.specs.Place.{images_heap_in};
 
 mod held;
 mod images;
@@ -35,7 +35,7 @@ pub extern "C" fn nph_images_open(
     k: u32,
     proxies: u32,
 ) -> i32
-    ensures { IsOpenCall (held_in heap.old) pages page_bytes k proxies result (held_in heap.new) }
+    ensures { IsImagesOpenCall (images_heap_in heap.old) pages page_bytes k proxies result (images_heap_in heap.new) }
 {
     heap.inner().open(memory, pages, page_bytes, k, proxies)
 }
@@ -50,7 +50,7 @@ pub extern "C" fn nph_images_bytes_needed(
     proxies: u32,
     needed: &mut NphNeeded,
 ) -> i32
-    ensures { IsNeededCall pages page_bytes k proxies result needed.old needed.new }
+    ensures { IsImagesNeededCall pages page_bytes k proxies result needed.old needed.new }
 {
     ClosableHeap::<HeldImages>::bytes_needed(pages, page_bytes, k, proxies, needed)
 }
@@ -64,7 +64,7 @@ pub extern "C" fn nph_images_load(
     k: u32,
     offset: &mut u64,
 ) -> i32
-    ensures { IsLoadCall (held_in heap.old) bytes.now k offset.old result offset.new (held_in heap.new) }
+    ensures { IsLoadCall (images_heap_in heap.old) bytes.now k offset.old result offset.new (images_heap_in heap.new) }
 {
     heap.load(memory, bytes, k, offset)
 }
@@ -72,7 +72,7 @@ pub extern "C" fn nph_images_load(
 /// Closes the heap and frees its memory; does nothing if it is closed (`ClosableHeap::close`).
 #[unsafe(no_mangle)]
 pub extern "C" fn nph_images_close(heap: &mut NphHeap, memory: Memory)
-    ensures { held_in heap.new ≡ closed_by (held_in heap.old) }
+    ensures { images_heap_in heap.new ≡ images_closed_by (images_heap_in heap.old) }
 {
     heap.inner().close(memory);
 }
@@ -80,7 +80,7 @@ pub extern "C" fn nph_images_close(heap: &mut NphHeap, memory: Memory)
 /// Makes an object of `bytes` zeros under the id (`HeldImages::make`).
 #[unsafe(no_mangle)]
 pub extern "C" fn nph_images_make(heap: &mut NphHeap, id: u32, bytes: u32) -> i32
-    ensures { IsCallOnOpen (held_in heap.old) result (held_in heap.new) (Unit {0}) (λ h h2. IsMakeCall h id bytes result h2) }
+    ensures { IsCallOnOpen (images_heap_in heap.old) result (images_heap_in heap.new) (Unit {0}) (λ h h2. IsMakeCall h id bytes result h2) }
 {
     let heap = heap.inner();
     if heap.is_open() {
@@ -93,7 +93,7 @@ pub extern "C" fn nph_images_make(heap: &mut NphHeap, id: u32, bytes: u32) -> i3
 /// Frees the object of the id (`HeldImages::free`).
 #[unsafe(no_mangle)]
 pub extern "C" fn nph_images_free(heap: &mut NphHeap, id: u32) -> i32
-    ensures { IsCallOnOpen (held_in heap.old) result (held_in heap.new) (Unit {0}) (λ h h2. IsFreeCall h id result h2) }
+    ensures { IsCallOnOpen (images_heap_in heap.old) result (images_heap_in heap.new) (Unit {0}) (λ h h2. IsImagesFreeCall h id result h2) }
 {
     let heap = heap.inner();
     if heap.is_open() {
@@ -106,7 +106,7 @@ pub extern "C" fn nph_images_free(heap: &mut NphHeap, id: u32) -> i32
 /// Writes `bytes` into the object of the id, from its byte `at` on (`HeldImages::write`).
 #[unsafe(no_mangle)]
 pub extern "C" fn nph_images_write(heap: &mut NphHeap, id: u32, at: u32, bytes: &[u8]) -> i32
-    ensures { IsCallOnOpen (held_in heap.old) result (held_in heap.new) (Unit {0}) (λ h h2. IsWriteCall h id at bytes.now result h2) }
+    ensures { IsCallOnOpen (images_heap_in heap.old) result (images_heap_in heap.new) (Unit {0}) (λ h h2. IsImagesWriteCall h id at bytes.now result h2) }
 {
     let heap = heap.inner();
     if heap.is_open() {
@@ -119,8 +119,8 @@ pub extern "C" fn nph_images_write(heap: &mut NphHeap, id: u32, at: u32, bytes: 
 /// Fills `out` with bytes of the object of the id, from its byte `at` on (`HeldImages::read`).
 #[unsafe(no_mangle)]
 pub extern "C" fn nph_images_read(heap: &mut NphHeap, id: u32, at: u32, out: &mut [u8]) -> i32
-    ensures { IsCallOnOpen (held_in heap.old) result (held_in heap.new) (out.new ≡ out.old)
-        (λ h h2. IsReadCall h id at out.old result out.new h2) }
+    ensures { IsCallOnOpen (images_heap_in heap.old) result (images_heap_in heap.new) (out.new ≡ out.old)
+        (λ h h2. IsImagesReadCall h id at out.old result out.new h2) }
 {
     let heap = heap.inner();
     if heap.is_open() {
@@ -133,8 +133,8 @@ pub extern "C" fn nph_images_read(heap: &mut NphHeap, id: u32, at: u32, out: &mu
 /// Writes the length in bytes of the object of the id into `bytes` (`HeldImages::length`).
 #[unsafe(no_mangle)]
 pub extern "C" fn nph_images_length(heap: &mut NphHeap, id: u32, bytes: &mut u32) -> i32
-    ensures { IsCallOnOpen (held_in heap.old) result (held_in heap.new) (bytes.new ≡ bytes.old)
-        (λ h h2. IsLengthCall h id bytes.old result bytes.new h2) }
+    ensures { IsCallOnOpen (images_heap_in heap.old) result (images_heap_in heap.new) (bytes.new ≡ bytes.old)
+        (λ h h2. IsImagesLengthCall h id bytes.old result bytes.new h2) }
 {
     let heap = heap.inner();
     if heap.is_open() {
@@ -147,7 +147,7 @@ pub extern "C" fn nph_images_length(heap: &mut NphHeap, id: u32, bytes: &mut u32
 /// Writes the bytes of the heap's image into `bytes` (`HeldImages::image_bytes`).
 #[unsafe(no_mangle)]
 pub extern "C" fn nph_images_image_bytes(heap: &mut NphHeap, bytes: &mut u64) -> i32
-    ensures { IsCallOnOpen (held_in heap.old) result (held_in heap.new) (bytes.new ≡ bytes.old)
+    ensures { IsCallOnOpen (images_heap_in heap.old) result (images_heap_in heap.new) (bytes.new ≡ bytes.old)
         (λ h h2. IsImageBytesCall h result bytes.new h2) }
 {
     let heap = heap.inner();
@@ -161,7 +161,7 @@ pub extern "C" fn nph_images_image_bytes(heap: &mut NphHeap, bytes: &mut u64) ->
 /// Writes the heap's image to the start of `out`, and its length into `written` (`HeldImages::save`).
 #[unsafe(no_mangle)]
 pub extern "C" fn nph_images_save(heap: &mut NphHeap, out: &mut [u8], written: &mut u64) -> i32
-    ensures { IsCallOnOpen (held_in heap.old) result (held_in heap.new) ((out.new ≡ out.old) × (written.new ≡ written.old))
+    ensures { IsCallOnOpen (images_heap_in heap.old) result (images_heap_in heap.new) ((out.new ≡ out.old) × (written.new ≡ written.old))
         (λ h h2. IsSaveCall h (record { out = out.old; written = written.old }) result (record { out = out.new; written = written.new }) h2) }
 {
     let heap = heap.inner();

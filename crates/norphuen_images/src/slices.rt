@@ -1,6 +1,6 @@
 //! A source that reads a slice of bytes, and a sink that fills one.
 ghost use Rattle.std.specs.Prelude.{◌≡◌};
-ghost use Rattle.norphuen_images.specs.Slices.{sink_seen, source_seen};
+ghost use Rattle.norphuen_images.specs.Slices.{slice_sink_seen, slice_source_seen};
 
 use cf_base::Failed;
 use cf_io::{Sink, Source};
@@ -15,7 +15,7 @@ pub(crate) struct SliceSource<'a> {
 }
 
 impl Source for SliceSource<'_> {
-    ghost state = { source_seen };
+    ghost state = { slice_source_seen };
 
     /// Copies the bytes left in C's slice to the start of `buf`, or the first of them if not all fit, and returns how
     /// many it copied.
@@ -41,7 +41,7 @@ pub(crate) struct SliceSink<'a> {
 }
 
 impl Sink for SliceSink<'_> {
-    ghost state = { sink_seen };
+    ghost state = { slice_sink_seen };
 
     /// Copies the bytes into C's slice behind those written, or the first of them if not all fit, and returns how many
     /// it copied.

@@ -7,16 +7,16 @@ use Rattle.large_objects.specs.LargeSteps.{IsLargeFree, StaysKept}
 use Rattle.step_ledger.specs.Counting.{RoseAtMost}
 use Rattle.c_base.specs.Codes.{free_code}
 use Rattle.c_base.specs.Handles.{number_in, raised_by}
-use Rattle.norphuen_large.specs.Calls.{IsFreeCall}
-use Rattle.norphuen_large.specs.HeldState.{HeldState}
+use Rattle.norphuen_large.specs.Calls.{IsLargeFreeCall}
+use Rattle.norphuen_large.specs.HeldState.{LargeHeldState}
 
 -- `old` is seen as `mid`; `begun` is the count of the meter when the heap's own free began, `count` when it ended
-pub freed : (old mid : HeldState) (handle number begun count : ℕ) (r : Result (Unit {0}) NotLive) (new : HeldState) → mid ≡ old → number ≡ number_in mid.handles handle
+pub freed : (old mid : LargeHeldState) (handle number begun count : ℕ) (r : Result (Unit {0}) NotLive) (new : LargeHeldState) → mid ≡ old → number ≡ number_in mid.handles handle
     → IsLargeFree mid.heap number r new.heap → StaysKept mid.heap new.heap → begun ≡ 0 → new.steps ≡ count
     → RoseAtMost (first_count begun) count (large_free_steps moving_costs mid.heap number) → new.handles ≡ raised_by mid.handles handle r
-    → IsFreeCall old handle (free_code r) new
+    → IsLargeFreeCall old handle (free_code r) new
 freed old mid handle number begun count r new same is step kept zero counted bound raises =
-    subst (λ (h : HeldState). IsFreeCall h handle (free_code r) new) same (record {
+    subst (λ (h : LargeHeldState). IsLargeFreeCall h handle (free_code r) new) same (record {
       answer = r;
       by_code = refl;
       step = subst (λ (n : ℕ). IsLargeFree mid.heap n r new.heap) is step;

@@ -23,9 +23,9 @@ use Rattle.c_base.specs.Codes.{access_code, free_code, malloc_code}
 use Rattle.c_base.specs.Handles.{none, number_in, raised_by}
 use Rattle.c_base.specs.Shown.{malloc_number}
 use Rattle.c_base.proofs.CallerLemmas.{names_new, no_number}
-use Rattle.norphuen_large.specs.Calls.{IsMallocCall, IsReadCall, IsWriteCall, place_in}
-use Rattle.norphuen_large.specs.HandleRules.{IsNewHandle, KeepsHandles}
-use Rattle.norphuen_large.specs.HeldState.{HeldState}
+use Rattle.norphuen_large.specs.Calls.{IsLargeMallocCall, IsLargeReadCall, IsLargeWriteCall, position_in}
+use Rattle.norphuen_large.specs.HandleRules.{IsNewLargeHandle, KeepsLargeHandles}
+use Rattle.norphuen_large.specs.HeldState.{LargeHeldState}
 
 -- ---- the numbers of objects
 
@@ -41,8 +41,8 @@ number_small s n v k found = elim (cases_lt (part_bytes_in s) (length v)) [
 
 -- ---- the handle of a malloc is new
 
-pub is_new : (old new : HeldState) (bytes before after : ℕ) → IsMallocCall old bytes before (pos 0) after new → KeepsHandles old → (r : Result Handle Refusal)
-    → malloc_code r ≡ pos 0 → after ≡ malloc_number old.handles before r → IsLargeMalloc old.heap bytes r new.heap → IsNewHandle old bytes after new
+pub is_new : (old new : LargeHeldState) (bytes before after : ℕ) → IsLargeMallocCall old bytes before (pos 0) after new → KeepsLargeHandles old → (r : Result Handle Refusal)
+    → malloc_code r ≡ pos 0 → after ≡ malloc_number old.handles before r → IsLargeMalloc old.heap bytes r new.heap → IsNewLargeHandle old bytes after new
 is_new old new bytes before after c k (Ok h) code is step =
     let there : get new.heap.objects h.0 ≡ Some (replicate bytes 0) = ap (λ (o : Objects). get o h.0) step.given ∙ get_inserted old.heap.objects h.0 _ in
     let small = number_small new.heap h.0 (replicate bytes 0) c.kept.parts there in
@@ -55,22 +55,22 @@ is_new old new bytes before after c k (Err Space) code is step = absurd (let e :
 
 -- ---- a handle that names no object is refused
 
-no_object : {A : Type 0} (old : HeldState) {n : ℕ} {v : List ℕ} → KeepsHandles old → n ≡ none → get old.heap.objects n ≡ Some v → A
+no_object : {A : Type 0} (old : LargeHeldState) {n : ℕ} {v : List ℕ} → KeepsLargeHandles old → n ≡ none → get old.heap.objects n ≡ Some v → A
 no_object {A} old {n} {v} k is found = no_number k is (number_small old.heap n v k.rules found)
 
-pub free_refused : (old new : HeldState) (handle : ℕ) (code : ℤ) (r : Result (Unit {0}) NotLive) → KeepsHandles old → number_in old.handles handle ≡ none
+pub free_refused : (old new : LargeHeldState) (handle : ℕ) (code : ℤ) (r : Result (Unit {0}) NotLive) → KeepsLargeHandles old → number_in old.handles handle ≡ none
     → code ≡ free_code r → IsLargeFree old.heap (number_in old.handles handle) r new.heap → new.handles ≡ raised_by old.handles handle r
     → (code ≡ pos 4) × (new.heap ≡ old.heap) × (new.handles ≡ old.handles)
 free_refused old new handle code (Ok u) k is by_code step raises = no_object old k is step.found
 free_refused old new handle code (Err e) k is by_code step raises = (by_code, step.1, raises)
 
-pub write_refused : (old new : HeldState) (place : Position) (bytes : List ℕ) (code : ℤ) (r : Result (Unit {0}) AccessFault) → KeepsHandles old
+pub write_refused : (old new : LargeHeldState) (place : Position) (bytes : List ℕ) (code : ℤ) (r : Result (Unit {0}) AccessFault) → KeepsLargeHandles old
     → place.number ≡ none → code ≡ access_code r → IsLargeWrite old.heap place bytes r new.heap → (code ≡ pos 4) × (new.heap ≡ old.heap)
 write_refused old new place bytes code (Ok u) k is by_code step = no_object old k is step.found
 write_refused old new place bytes code (Err Unknown) k is by_code step = (by_code, step.1)
 write_refused old new place bytes code (Err Range) k is by_code step = no_object old k is step.0.found
 
-pub read_refused : (old : HeldState) (place : Position) (before after : List ℕ) (code : ℤ) (r : Result (Unit {0}) AccessFault) → KeepsHandles old
+pub read_refused : (old : LargeHeldState) (place : Position) (before after : List ℕ) (code : ℤ) (r : Result (Unit {0}) AccessFault) → KeepsLargeHandles old
     → place.number ≡ none → code ≡ access_code r → IsLargeRead old.heap place before r after → (code ≡ pos 4) × (after ≡ before)
 read_refused old place before after code (Ok u) k is by_code step = no_object old k is step.found
 read_refused old place before after code (Err Unknown) k is by_code step = (by_code, step.1)
@@ -95,17 +95,17 @@ module _ (old new : LargeState) (p : Position) (bytes : List ℕ) (w : WritesLar
       let past = read.0.past in let within = w.within in
       omega (arith, long, past, within, many))
 
-pub written_is_read : (old mid new : HeldState) (handle from : ℕ) (bytes before after : List ℕ) (code : ℤ) → IsWriteCall old handle from bytes (pos 0) mid
-    → IsReadCall mid handle from before code after new → length before ≡ length bytes → (code ≡ pos 0) × (after ≡ bytes)
+pub written_is_read : (old mid new : LargeHeldState) (handle from : ℕ) (bytes before after : List ℕ) (code : ℤ) → IsLargeWriteCall old handle from bytes (pos 0) mid
+    → IsLargeReadCall mid handle from before code after new → length before ≡ length bytes → (code ≡ pos 0) × (after ≡ bytes)
 written_is_read old mid new handle from bytes before after code w r many = by_answer w.answer w.by_code w.step
   where
-    place : place_in mid handle from ≡ place_in old handle from
+    place : position_in mid handle from ≡ position_in old handle from
     place = ap (λ (hs : List ℕ). record { number = number_in hs handle; from = from }) w.same
 
-    by_answer : (a : Result (Unit {0}) AccessFault) → pos 0 ≡ access_code a → IsLargeWrite old.heap (place_in old handle from) bytes a mid.heap
+    by_answer : (a : Result (Unit {0}) AccessFault) → pos 0 ≡ access_code a → IsLargeWrite old.heap (position_in old handle from) bytes a mid.heap
         → (code ≡ pos 0) × (after ≡ bytes)
     by_answer (Ok u) by_code step =
-        same_read old.heap mid.heap (place_in old handle from) bytes step before after code r.answer many r.by_code
+        same_read old.heap mid.heap (position_in old handle from) bytes step before after code r.answer many r.by_code
         (subst (λ (p : Position). IsLargeRead mid.heap p before r.answer after) place r.read)
     by_answer (Err Unknown) by_code step = absurd (let z : pos 0 ≡ pos 4 = by_code in cc)
     by_answer (Err Range) by_code step = absurd (let z : pos 0 ≡ pos 5 = by_code in cc)

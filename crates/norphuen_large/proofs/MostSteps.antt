@@ -24,7 +24,7 @@ use Rattle.large_objects.specs.Large.{LargeState}
 use Rattle.large_objects.specs.LargeCosts.{large_access_steps, large_free_steps, moving_costs, object_access_steps, object_free_steps, parts_access_steps, parts_touched, slots_with}
 use Rattle.large_objects.specs.LargeSteps.{part_bytes_in}
 use Rattle.large_objects.proofs.MovingCosts.{access_is, few_share, free_is, malloc_is}
-use Rattle.norphuen_large.specs.Most.{HasPagesOf, IsMostAccess, IsMostFree, IsMostMalloc, part_of, slot_cap}
+use Rattle.norphuen_large.specs.Most.{HasPagesOf, IsMostLargeAccess, IsMostLargeFree, IsMostLargeMalloc, part_of, slot_cap}
 
 -- the first of these sizes that is at least m; 0 if there is none
 abbrev chosen : ℕ → List ℕ → ℕ
@@ -125,13 +125,13 @@ module _ (page_bytes n w : ℕ) (words : 64 ≤ page_bytes / 8 → page_bytes / 
 
   -- it fits a page
   module _ (short : n ≤ part_of w) where
-    pub malloc_short : IsMostMalloc page_bytes n 17
+    pub malloc_short : IsMostLargeMalloc page_bytes n 17
     malloc_short s (Err e) has = omega arith
     malloc_short s (Ok h) has =
         let u = part_bytes_are s has in
         rw (le_yes n (part_bytes_in s) (omega (arith, u, short))) (one_malloc (slots_with (paging_in s.inner) n))
 
-    pub free_short : (top : ℕ) → top ≡ slot_cap w n → IsMostFree page_bytes n (20 + top)
+    pub free_short : (top : ℕ) → top ≡ slot_cap w n → IsMostLargeFree page_bytes n (20 + top)
     free_short top top_is s h v has found many =
         let u = part_bytes_are s has in
         let is = freed s h v found many in
@@ -148,7 +148,7 @@ module _ (page_bytes n w : ℕ) (words : 64 ≤ page_bytes / 8 → page_bytes / 
     counted : (s : LargeState) → HasPagesOf page_bytes s → part_count (part_bytes_in s) n ≡ count
     counted s has = ap (λ (u : ℕ). part_count u n) (part_bytes_are s has) ∙ sym is
 
-    pub malloc_long : IsMostMalloc page_bytes n (19 + 18 * count)
+    pub malloc_long : IsMostLargeMalloc page_bytes n (19 + 18 * count)
     malloc_long s (Err e) has = omega arith
     malloc_long s (Ok h) has =
         let steps = malloc_is (paging_in s.inner) (part_bytes_in s) n (past s has) in
@@ -156,7 +156,7 @@ module _ (page_bytes n w : ℕ) (words : 64 ≤ page_bytes / 8 → page_bytes / 
         let q = counted s has in
         omega (arith, steps, few, q)
 
-    pub free_long : (top : ℕ) → top ≡ slot_cap w (4 * count) → IsMostFree page_bytes n (24 + (19 + w) * count + top)
+    pub free_long : (top : ℕ) → top ≡ slot_cap w (4 * count) → IsMostLargeFree page_bytes n (24 + (19 + w) * count + top)
     free_long top top_is s h v has found many =
         let p : Paging = paging_in s.inner in
         let u : ℕ = part_bytes_in s in
@@ -198,7 +198,7 @@ access_none u n at = elim (cases_lt u n) [
 
 -- what is true of the steps of each access that is done is true of all
 accessed : (page_bytes at count most : ℕ) → ((s : LargeState) (n : ℕ) → HasPagesOf page_bytes s → object_access_steps moving_costs (part_bytes_in s) n at count ≤ most)
-    → IsMostAccess page_bytes at count most
+    → IsMostLargeAccess page_bytes at count most
 accessed page_bytes at count most each s p (Err e) has is = omega arith
 accessed page_bytes at count most each s p (Ok u) has is = by_object (get s.objects p.number) refl
   where
@@ -206,11 +206,11 @@ accessed page_bytes at count most each s p (Ok u) has is = by_object (get s.obje
     by_object (Some v) e = rw (e, is, large_access_steps) (each s (length v) has)
     by_object None e = rw (e, large_access_steps) (omega arith)
 
-pub none_most : (page_bytes at : ℕ) → IsMostAccess page_bytes at 0 2
+pub none_most : (page_bytes at : ℕ) → IsMostLargeAccess page_bytes at 0 2
 none_most page_bytes at = accessed page_bytes at 0 2 (λ s n has. access_none (part_bytes_in s) n at)
 
 pub access_most : (page_bytes at count w : ℕ) → (64 ≤ page_bytes / 8 → page_bytes / 8 ≤ 16384 → w ≡ page_bytes / 8) → 64 ≤ w → 0 < count
-    → IsMostAccess page_bytes at count (5 * ((at + count - 1) / (8 * (w - 1)) + 1 - at / (8 * (w - 1))) + (at % 8 + count + 7) / 8)
+    → IsMostLargeAccess page_bytes at count (5 * ((at + count - 1) / (8 * (w - 1)) + 1 - at / (8 * (w - 1))) + (at % 8 + count + 7) / 8)
 access_most page_bytes at count w words least more = accessed page_bytes at count _ (λ s n has.
     subst (λ (k : ℕ). object_access_steps moving_costs (part_of k) n at count ≤ 5 * ((at + count - 1) / (8 * (w - 1)) + 1 - at / (8 * (w - 1))) + (at % 8 + count + 7) / 8)
     (sym (words_are page_bytes w s has words)) (access_few (w - 1) n at count (omega (arith, least)) more))

@@ -5,19 +5,19 @@ use Rattle.c_base.specs.AtPlace.{IsOpenBy}
 use Rattle.c_base.specs.CallerHeap.{CallerHeap, closed_with}
 use Rattle.c_base.specs.Handles.{largest}
 use Rattle.c_base.specs.Opening.{Opening}
-use Rattle.norphuen_large.specs.Calls.{IsFreshHeap}
-use Rattle.norphuen_large.specs.HeldState.{HeldState}
-use Rattle.norphuen_large.specs.Needed.{IsHeldBytes}
+use Rattle.norphuen_large.specs.Calls.{IsFreshLargeHeap}
+use Rattle.norphuen_large.specs.HeldState.{LargeHeldState}
+use Rattle.norphuen_large.specs.Needed.{IsLargeHeldBytes}
 
 -- how a heap is opened, with the bound 1 alone; what it needs; and its largest handle
-abbrev pub held_opening : Opening HeldState
-held_opening = record { takes = λ k. k ≡ 1; is_fresh = IsFreshHeap; needs = IsHeldBytes; last = λ h. largest h.handles }
+abbrev pub held_opening : Opening LargeHeldState
+held_opening = record { takes = λ k. k ≡ 1; is_fresh = IsFreshLargeHeap; needs = IsLargeHeldBytes; last = λ h. largest h.handles }
 
 -- the heap after it is closed: the handles of the next one will be larger than all that its numbers have
-abbrev pub closed_by : CallerHeap HeldState → CallerHeap HeldState
-closed_by = closed_with held_opening.last
+abbrev pub large_closed_by : CallerHeap LargeHeldState → CallerHeap LargeHeldState
+large_closed_by = closed_with held_opening.last
 
 -- an open with these settings: pages, bytes of a page, and proxies
-abbrev pub IsOpenCall : CallerHeap HeldState → ℕ → ℕ → ℕ → ℤ → CallerHeap HeldState → Type 0
-IsOpenCall old pages page_bytes proxies code new =
-    IsOpenBy (setting_fault pages page_bytes 1 proxies) (IsFreshHeap (profile_from pages page_bytes 1 proxies)) old code new
+abbrev pub IsLargeOpenCall : CallerHeap LargeHeldState → ℕ → ℕ → ℕ → ℤ → CallerHeap LargeHeldState → Type 0
+IsLargeOpenCall old pages page_bytes proxies code new =
+    IsOpenBy (setting_fault pages page_bytes 1 proxies) (IsFreshLargeHeap (profile_from pages page_bytes 1 proxies)) old code new

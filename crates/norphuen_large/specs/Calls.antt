@@ -20,10 +20,10 @@ use Rattle.c_base.specs.Handles.{number_in, raised_by}
 use Rattle.c_base.specs.Shown.{figures_shown, found_code, found_number, malloc_number, totals_shown}
 use Rattle.c_base.specs.declared.answers.NphClass.{NphClass}
 use Rattle.c_base.specs.declared.answers.NphHeapTotals.{NphHeapTotals}
-use Rattle.norphuen_large.specs.HeldState.{HeldState}
+use Rattle.norphuen_large.specs.HeldState.{LargeHeldState}
 
 -- `new` is a heap that was just opened with the settings p: no object is live, all words are 0, its count is 0, and its handles are larger than `last`
-pub record IsFreshHeap (p : Profile) (last : ℕ) (new : HeldState) : Type 0 where
+pub record IsFreshLargeHeap (p : Profile) (last : ℕ) (new : LargeHeldState) : Type 0 where
   pub open_now : new.heap.is_open ≡ true
   pub none : new.heap.objects ≡ empty
   pub words : IsOpeningWords Moving p new.heap.inner.words
@@ -34,7 +34,7 @@ pub record IsFreshHeap (p : Profile) (last : ℕ) (new : HeldState) : Type 0 whe
   pub handles : AreFirstHandles p.proxies last new.handles
 
 -- a malloc of `bytes` bytes
-pub record IsMallocCall (old : HeldState) (bytes before : ℕ) (code : ℤ) (after : ℕ) (new : HeldState) : Type 0 where
+pub record IsLargeMallocCall (old : LargeHeldState) (bytes before : ℕ) (code : ℤ) (after : ℕ) (new : LargeHeldState) : Type 0 where
   pub answer : Result Handle Refusal
   pub by_code : code ≡ malloc_code answer
   pub by_number : after ≡ malloc_number old.handles before answer
@@ -44,7 +44,7 @@ pub record IsMallocCall (old : HeldState) (bytes before : ℕ) (code : ℤ) (aft
   pub same : new.handles ≡ old.handles
 
 -- a free of the object that `handle` names, which is given up if the free succeeds
-pub record IsFreeCall (old : HeldState) (handle : ℕ) (code : ℤ) (new : HeldState) : Type 0 where
+pub record IsLargeFreeCall (old : LargeHeldState) (handle : ℕ) (code : ℤ) (new : LargeHeldState) : Type 0 where
   pub answer : Result (Unit {0}) NotLive
   pub by_code : code ≡ free_code answer
   pub step : IsLargeFree old.heap (number_in old.handles handle) answer new.heap
@@ -53,45 +53,45 @@ pub record IsFreeCall (old : HeldState) (handle : ℕ) (code : ℤ) (new : HeldS
   pub raises : new.handles ≡ raised_by old.handles handle answer
 
 -- byte `from` of the object that `handle` names
-abbrev pub place_in : HeldState → ℕ → ℕ → Position
-place_in h handle from = record { number = number_in h.handles handle; from = from }
+abbrev pub position_in : LargeHeldState → ℕ → ℕ → Position
+position_in h handle from = record { number = number_in h.handles handle; from = from }
 
 -- a write of `bytes` into the object that `handle` names, from its byte `from` on
-pub record IsWriteCall (old : HeldState) (handle from : ℕ) (bytes : List ℕ) (code : ℤ) (new : HeldState) : Type 0 where
+pub record IsLargeWriteCall (old : LargeHeldState) (handle from : ℕ) (bytes : List ℕ) (code : ℤ) (new : LargeHeldState) : Type 0 where
   pub answer : Result (Unit {0}) AccessFault
   pub by_code : code ≡ access_code answer
-  pub step : IsLargeWrite old.heap (place_in old handle from) bytes answer new.heap
+  pub step : IsLargeWrite old.heap (position_in old handle from) bytes answer new.heap
   pub kept : StaysKept old.heap new.heap
-  pub exact : new.steps ≡ large_access_steps moving_costs old.heap (place_in old handle from) (length bytes) answer
+  pub exact : new.steps ≡ large_access_steps moving_costs old.heap (position_in old handle from) (length bytes) answer
   pub same : new.handles ≡ old.handles
 
 -- a read of the object that `handle` names, from its byte `from` on, into the caller's buffer; the heap is unchanged
-pub record IsReadCall (old : HeldState) (handle from : ℕ) (before : List ℕ) (code : ℤ) (after : List ℕ) (new : HeldState) : Type 0 where
+pub record IsLargeReadCall (old : LargeHeldState) (handle from : ℕ) (before : List ℕ) (code : ℤ) (after : List ℕ) (new : LargeHeldState) : Type 0 where
   pub answer : Result (Unit {0}) AccessFault
   pub by_code : code ≡ access_code answer
-  pub read : IsLargeRead old.heap (place_in old handle from) before answer after
-  pub exact : new.steps ≡ large_access_steps moving_costs old.heap (place_in old handle from) (length before) answer
+  pub read : IsLargeRead old.heap (position_in old handle from) before answer after
+  pub exact : new.steps ≡ large_access_steps moving_costs old.heap (position_in old handle from) (length before) answer
   pub kept : new.heap ≡ old.heap
   pub same : new.handles ≡ old.handles
 
 -- the length of the object with this number; none if it is not live
-abbrev pub length_in : LargeState → ℕ → Option ℕ
-length_in s number = option_map length (get s.objects number)
+abbrev pub large_length_in : LargeState → ℕ → Option ℕ
+large_length_in s number = option_map length (get s.objects number)
 
 -- a call for the length of the object that `handle` names; it changes nothing
-pub record IsLengthCall (old : HeldState) (handle before : ℕ) (code : ℤ) (after : ℕ) (new : HeldState) : Type 0 where
-  pub by_code : code ≡ found_code (length_in old.heap (number_in old.handles handle))
-  pub by_length : after ≡ found_number (length_in old.heap (number_in old.handles handle)) before
+pub record IsLargeLengthCall (old : LargeHeldState) (handle before : ℕ) (code : ℤ) (after : ℕ) (new : LargeHeldState) : Type 0 where
+  pub by_code : code ≡ found_code (large_length_in old.heap (number_in old.handles handle))
+  pub by_length : after ≡ found_number (large_length_in old.heap (number_in old.handles handle)) before
   pub kept : new ≡ old
 
 -- a call for the figures of a class of the moving heap below; it changes nothing
-pub record IsFiguresCall (old : HeldState) (class : ℕ) (before : NphClass) (code : ℤ) (after : NphClass) (new : HeldState) : Type 0 where
+pub record IsLargeFiguresCall (old : LargeHeldState) (class : ℕ) (before : NphClass) (code : ℤ) (after : NphClass) (new : LargeHeldState) : Type 0 where
   pub by_code : code ≡ found_code (figures_in old.heap.inner class)
   pub by_figures : after ≡ figures_shown (figures_in old.heap.inner class) before
   pub kept : new ≡ old
 
 -- a call for the figures of the whole moving heap below; it takes no step, and the heap is unchanged
-pub record IsTotalsCall (old : HeldState) (code : ℤ) (after : NphHeapTotals) (new : HeldState) : Type 0 where
+pub record IsLargeTotalsCall (old : LargeHeldState) (code : ℤ) (after : NphHeapTotals) (new : LargeHeldState) : Type 0 where
   pub by_code : code ≡ pos 0
   pub by_totals : after ≡ totals_shown (totals_in old.heap.inner.kind old.heap.inner)
   pub exact : new.steps ≡ 0
@@ -99,7 +99,7 @@ pub record IsTotalsCall (old : HeldState) (code : ℤ) (after : NphHeapTotals) (
   pub same : new.handles ≡ old.handles
 
 -- a call of `last_steps`: it returns the steps of the last call that counts them, and changes nothing
-pub record IsStepsCall (old : HeldState) (code : ℤ) (after : ℕ) (new : HeldState) : Type 0 where
+pub record IsLargeStepsCall (old : LargeHeldState) (code : ℤ) (after : ℕ) (new : LargeHeldState) : Type 0 where
   pub by_code : code ≡ pos 0
   pub by_steps : after ≡ old.steps
   pub kept : new ≡ old

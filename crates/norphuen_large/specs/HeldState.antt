@@ -4,12 +4,12 @@ use Rattle.std.specs.Coded.{Coded, code_by, coded×, coded_list, coded_ℕ}
 use Rattle.large_objects.specs.Large.{LargeState, large_code}
 
 -- the state of the heap; the steps of the last call that counts them; and the handle of each number
-pub record HeldState : Type 0 where
+pub record LargeHeldState : Type 0 where
   pub heap : LargeState
   pub steps : ℕ
   pub handles : List ℕ
 
 -- the state as pairs, which the trait `Model` needs
-abbrev pub held_code : Coded HeldState
-held_code = code_by (LargeState × (ℕ × List ℕ)) (coded× large_code (coded× coded_ℕ (coded_list coded_ℕ))) (λ h. (h.heap, (h.steps, h.handles)))
+abbrev pub large_held_code : Coded LargeHeldState
+large_held_code = code_by (LargeState × (ℕ × List ℕ)) (coded× large_code (coded× coded_ℕ (coded_list coded_ℕ))) (λ h. (h.heap, (h.steps, h.handles)))
     (λ q. record { heap = q.0; steps = q.1.0; handles = q.1.1 }) (λ _. refl)

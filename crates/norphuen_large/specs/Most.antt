@@ -17,18 +17,18 @@ pub record HasPagesOf (page_bytes : ℕ) (s : LargeState) : Type 0 where
   pub words : s.inner.profile.page_words ≡ page_bytes / 8
 
 -- a malloc of `bytes` bytes takes at most `most` steps
-abbrev pub IsMostMalloc : ℕ → ℕ → ℕ → Type 0
-IsMostMalloc page_bytes bytes most =
+abbrev pub IsMostLargeMalloc : ℕ → ℕ → ℕ → Type 0
+IsMostLargeMalloc page_bytes bytes most =
     (s : LargeState) (answer : Result Handle Refusal) → HasPagesOf page_bytes s → large_malloc_steps moving_costs s bytes answer ≤ most
 
 -- a free of an object of `bytes` bytes
-abbrev pub IsMostFree : ℕ → ℕ → ℕ → Type 0
-IsMostFree page_bytes bytes most =
+abbrev pub IsMostLargeFree : ℕ → ℕ → ℕ → Type 0
+IsMostLargeFree page_bytes bytes most =
     (s : LargeState) (h : ℕ) (v : List ℕ) → HasPagesOf page_bytes s → get s.objects h ≡ Some v → length v ≡ bytes → large_free_steps moving_costs s h ≤ most
 
 -- a read or a write of `count` bytes from byte `at` on
-abbrev pub IsMostAccess : ℕ → ℕ → ℕ → ℕ → Type 0
-IsMostAccess page_bytes at count most =
+abbrev pub IsMostLargeAccess : ℕ → ℕ → ℕ → ℕ → Type 0
+IsMostLargeAccess page_bytes at count most =
     (s : LargeState) (p : Position) (answer : Result (Unit {0}) AccessFault) → HasPagesOf page_bytes s → p.from ≡ at
     → large_access_steps moving_costs s p count answer ≤ most
 

@@ -32,11 +32,11 @@ pub struct Held {
 impl Model for Held {
     ghost use Rattle.std.specs.Prelude.{IsTrue};
     ghost use Rattle.large_objects.specs.LargeCosts.{AreInnerCosts, moving_costs};
-    ghost use Rattle.norphuen_large.specs.HeldState.{HeldState, held_code};
+    ghost use Rattle.norphuen_large.specs.HeldState.{LargeHeldState, large_held_code};
 
-    ghost Value = { HeldState };
+    ghost Value = { LargeHeldState };
 
-    ghost coded = { held_code };
+    ghost coded = { large_held_code };
 
     ghost view = { λ h. record { heap = h.heap; steps = h.steps; handles = h.handles } };
 
@@ -75,12 +75,12 @@ impl Openable for Held {
 }
 
 impl Held {
-    ghost use Rattle.norphuen_large.specs.Calls.{IsFiguresCall, IsFreeCall, IsLengthCall, IsMallocCall, IsReadCall, IsStepsCall, IsTotalsCall, IsWriteCall};
+    ghost use Rattle.norphuen_large.specs.Calls.{IsLargeFiguresCall, IsLargeFreeCall, IsLargeLengthCall, IsLargeMallocCall, IsLargeReadCall, IsLargeStepsCall, IsLargeTotalsCall, IsLargeWriteCall};
 
     /// For C, makes an object of `bytes` zeros, long or short, and writes its handle into `handle`. Returns `DONE`, or
     /// the code of the refusal: `SIZE`, `PROXY` or `SPACE`. After a refusal `handle` is unchanged.
     pub fn malloc(&mut self, bytes: u32, handle: &mut u32) -> i32
-        ensures { IsMallocCall self.old bytes handle.old result handle.new self.new }
+        ensures { IsLargeMallocCall self.old bytes handle.old result handle.new self.new }
     {
         let mut meter = Meter::for_library(self.memory);
         let answer = self.heap.malloc(bytes, &mut meter);
@@ -97,7 +97,7 @@ impl Held {
     /// Frees C's object, long or short. Returns `DONE`, or `UNKNOWN` if the handle isn't live, and then no object
     /// changes.
     pub fn free(&mut self, handle: u32) -> i32
-        ensures { IsFreeCall self.old handle result self.new }
+        ensures { IsLargeFreeCall self.old handle result self.new }
     {
         let number = self.handles.number_in(handle);
         let mut meter = Meter::for_library(self.memory);
@@ -115,7 +115,7 @@ impl Held {
     /// Writes the bytes into C's object, long or short, from its byte `at` on. Returns `DONE`; `UNKNOWN` if the handle
     /// isn't live, or `RANGE` if the bytes pass the object's end, and then no object changes.
     pub fn write(&mut self, handle: u32, at: u32, bytes: &[u8]) -> i32
-        ensures { IsWriteCall self.old handle at bytes.now result self.new }
+        ensures { IsLargeWriteCall self.old handle at bytes.now result self.new }
     {
         let number = self.handles.number_in(handle);
         let mut meter = Meter::for_library(self.memory);
@@ -130,7 +130,7 @@ impl Held {
     /// Fills `out` with the bytes of C's object, long or short, from its byte `at` on. Returns `DONE`; `UNKNOWN` if the
     /// handle isn't live, or `RANGE` if the bytes pass the object's end, and then `out` is unchanged.
     pub fn read(&mut self, handle: u32, at: u32, out: &mut [u8]) -> i32
-        ensures { IsReadCall self.old handle at out.old result out.new self.new }
+        ensures { IsLargeReadCall self.old handle at out.old result out.new self.new }
     {
         let number = self.handles.number_in(handle);
         let mut meter = Meter::for_library(self.memory);
@@ -145,7 +145,7 @@ impl Held {
     /// For C, writes the object's length in bytes, also if long, into `bytes`. Returns `DONE`, or `UNKNOWN` if the
     /// handle isn't live; then `bytes` is unchanged.
     pub fn length(&mut self, handle: u32, bytes: &mut u32) -> i32
-        ensures { IsLengthCall self.old handle bytes.old result bytes.new self.new }
+        ensures { IsLargeLengthCall self.old handle bytes.old result bytes.new self.new }
     {
         match self.heap.length_of(Handle(self.handles.number_in(handle))) {
             Some(n) => {
@@ -159,7 +159,7 @@ impl Held {
     /// Writes C's figures of a class, numbered from 0, into `figures`; each part and each spine counts as an object.
     /// Returns `DONE`, or `UNKNOWN` if there is no such class; then `figures` is unchanged.
     pub fn figures(&mut self, class: u32, figures: &mut NphClass) -> i32
-        ensures { IsFiguresCall self.old class figures.old result figures.new self.new }
+        ensures { IsLargeFiguresCall self.old class figures.old result figures.new self.new }
     {
         // For its contract: an open heap keeps its rules.
         let _ = self.heap.is_open();
@@ -175,7 +175,7 @@ impl Held {
     /// Writes C's figures of the whole heap into `totals`; each part and each spine counts as an object. Always returns
     /// `DONE`.
     pub fn totals(&mut self, totals: &mut NphHeapTotals) -> i32
-        ensures { IsTotalsCall self.old result totals.new self.new }
+        ensures { IsLargeTotalsCall self.old result totals.new self.new }
     {
         // For its contract: an open heap keeps its rules.
         let _ = self.heap.is_open();
@@ -189,7 +189,7 @@ impl Held {
     /// For C, writes the steps of the last call on long objects into `steps`; 0 if there was none. Always returns
     /// `DONE`.
     pub fn last_steps(&mut self, steps: &mut u64) -> i32
-        ensures { IsStepsCall self.old result steps.new self.new }
+        ensures { IsLargeStepsCall self.old result steps.new self.new }
     {
         *steps = self.steps;
         DONE

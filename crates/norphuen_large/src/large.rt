@@ -3,7 +3,7 @@ ghost use Rattle.std.specs.Prelude.{◌≡◌, Option, is_some};
 ghost use Rattle.std.specs.Borrow.{sem};
 ghost use Rattle.std.specs.Coded.{coded_option};
 ghost use Rattle.c_base.specs.HeapBlock.{place_owns};
-ghost use Rattle.norphuen_large.specs.HeldState.{HeldState, held_code};
+ghost use Rattle.norphuen_large.specs.HeldState.{LargeHeldState, large_held_code};
 ghost use Rattle.norphuen_large.specs.contracts.held.Held.{the_row as open_heap};
 
 use crate::held::Held;
@@ -18,7 +18,7 @@ const _: () = prove!(size_of::<NphHeap>() == 16);
 #[derive(Drop)]
 pub struct Place {
     at: *mut Sealed,
-    pub(crate) ghost held: { Option HeldState } by { coded_option held_code },
+    pub(crate) ghost held: { Option LargeHeldState } by { coded_option large_held_code },
 }
 
 impl Model for Place {
@@ -38,12 +38,12 @@ pub struct NphHeap {
 }
 
 impl NphHeap {
-    ghost use Rattle.norphuen_large.specs.Place.{LendsInner, inner_of};
+    ghost use Rattle.norphuen_large.specs.Place.{LendsLargeInner, large_inner_of};
 
     /// Borrows the `ClosableHeap` that this heap of long objects is in memory.
     pub fn inner(&mut self) -> &mut ClosableHeap<Held>
-        ensures* writes_back { sem 𝓛 (LendsInner self.entry result) }
-        ensures value { result.now ≡ inner_of self.old }
+        ensures* writes_back { sem 𝓛 (LendsLargeInner self.entry result) }
+        ensures value { result.now ≡ large_inner_of self.old }
     {
         unsafe { &mut *(self as *mut NphHeap as *mut ClosableHeap<Held>) }
     }

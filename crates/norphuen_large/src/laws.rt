@@ -3,44 +3,44 @@
 ghost use Rattle.std.specs.Prelude.{◌≡◌, ℕ, ℤ, List, length, pos};
 ghost use Rattle.cf_base.specs.Settings.{Profile};
 ghost use Rattle.c_base.specs.Handles.{none, number_in};
-ghost use Rattle.norphuen_large.specs.Calls.{IsFreeCall, IsFreshHeap, IsLengthCall, IsMallocCall, IsReadCall, IsWriteCall};
-ghost use Rattle.norphuen_large.specs.HandleRules.{IsNewHandle, KeepsHandles};
-ghost use Rattle.norphuen_large.specs.HeldState.{HeldState};
+ghost use Rattle.norphuen_large.specs.Calls.{IsFreshLargeHeap, IsLargeFreeCall, IsLargeLengthCall, IsLargeMallocCall, IsLargeReadCall, IsLargeWriteCall};
+ghost use Rattle.norphuen_large.specs.HandleRules.{IsNewLargeHandle, KeepsLargeHandles};
+ghost use Rattle.norphuen_large.specs.HeldState.{LargeHeldState};
 
 /// An opened heap of long objects keeps the rules of the handles, and each call keeps them.
 pub fn every_call_keeps_the_handles()
-    ensures opened { (p : Profile) (last : ℕ) (new : HeldState) → IsFreshHeap p last new → KeepsHandles new }
-    ensures malloc { (old new : HeldState) (bytes before after : ℕ) (code : ℤ) → IsMallocCall old bytes before code after new
-        → KeepsHandles old → KeepsHandles new }
-    ensures free { (old new : HeldState) (handle : ℕ) (code : ℤ) → IsFreeCall old handle code new → KeepsHandles old → KeepsHandles new }
-    ensures write { (old new : HeldState) (handle from : ℕ) (bytes : List ℕ) (code : ℤ) → IsWriteCall old handle from bytes code new
-        → KeepsHandles old → KeepsHandles new }
-    ensures others { (old new : HeldState) → new.heap ≡ old.heap → new.handles ≡ old.handles → KeepsHandles old → KeepsHandles new }
+    ensures opened { (p : Profile) (last : ℕ) (new : LargeHeldState) → IsFreshLargeHeap p last new → KeepsLargeHandles new }
+    ensures malloc { (old new : LargeHeldState) (bytes before after : ℕ) (code : ℤ) → IsLargeMallocCall old bytes before code after new
+        → KeepsLargeHandles old → KeepsLargeHandles new }
+    ensures free { (old new : LargeHeldState) (handle : ℕ) (code : ℤ) → IsLargeFreeCall old handle code new → KeepsLargeHandles old → KeepsLargeHandles new }
+    ensures write { (old new : LargeHeldState) (handle from : ℕ) (bytes : List ℕ) (code : ℤ) → IsLargeWriteCall old handle from bytes code new
+        → KeepsLargeHandles old → KeepsLargeHandles new }
+    ensures others { (old new : LargeHeldState) → new.heap ≡ old.heap → new.handles ≡ old.handles → KeepsLargeHandles old → KeepsLargeHandles new }
 {}
 
 /// On long objects, the handle of a malloc that returns 0 named no object before, and names the new one, whose bytes
 /// are zero.
 pub fn a_malloc_gives_a_new_handle()
-    ensures { (old new : HeldState) (bytes before after : ℕ) → IsMallocCall old bytes before (pos 0) after new → KeepsHandles old
-        → IsNewHandle old bytes after new }
+    ensures { (old new : LargeHeldState) (bytes before after : ℕ) → IsLargeMallocCall old bytes before (pos 0) after new → KeepsLargeHandles old
+        → IsNewLargeHandle old bytes after new }
 {}
 
 /// On long objects, a call on a handle that names no object returns 4 (`UNKNOWN`) and changes neither the heap nor what
 /// the caller has.
 pub fn a_stale_handle_is_refused()
-    ensures free { (old new : HeldState) (handle : ℕ) (code : ℤ) → IsFreeCall old handle code new → KeepsHandles old
+    ensures free { (old new : LargeHeldState) (handle : ℕ) (code : ℤ) → IsLargeFreeCall old handle code new → KeepsLargeHandles old
         → number_in old.handles handle ≡ none → (code ≡ pos 4) × (new.heap ≡ old.heap) × (new.handles ≡ old.handles) }
-    ensures write { (old new : HeldState) (handle from : ℕ) (bytes : List ℕ) (code : ℤ) → IsWriteCall old handle from bytes code new
-        → KeepsHandles old → number_in old.handles handle ≡ none → (code ≡ pos 4) × (new.heap ≡ old.heap) }
-    ensures read { (old new : HeldState) (handle from : ℕ) (before after : List ℕ) (code : ℤ) → IsReadCall old handle from before code after new
-        → KeepsHandles old → number_in old.handles handle ≡ none → (code ≡ pos 4) × (after ≡ before) }
-    ensures length { (old new : HeldState) (handle before after : ℕ) (code : ℤ) → IsLengthCall old handle before code after new
-        → KeepsHandles old → number_in old.handles handle ≡ none → (code ≡ pos 4) × (after ≡ before) }
+    ensures write { (old new : LargeHeldState) (handle from : ℕ) (bytes : List ℕ) (code : ℤ) → IsLargeWriteCall old handle from bytes code new
+        → KeepsLargeHandles old → number_in old.handles handle ≡ none → (code ≡ pos 4) × (new.heap ≡ old.heap) }
+    ensures read { (old new : LargeHeldState) (handle from : ℕ) (before after : List ℕ) (code : ℤ) → IsLargeReadCall old handle from before code after new
+        → KeepsLargeHandles old → number_in old.handles handle ≡ none → (code ≡ pos 4) × (after ≡ before) }
+    ensures length { (old new : LargeHeldState) (handle before after : ℕ) (code : ℤ) → IsLargeLengthCall old handle before code after new
+        → KeepsLargeHandles old → number_in old.handles handle ≡ none → (code ≡ pos 4) × (after ≡ before) }
 {}
 
 /// On long objects, after a write that returns 0, a read of as many bytes from the same byte of the object returns 0
 /// and gives the bytes written.
 pub fn a_read_gives_what_was_written()
-    ensures { (old mid new : HeldState) (handle from : ℕ) (bytes before after : List ℕ) (code : ℤ) → IsWriteCall old handle from bytes (pos 0) mid
-        → IsReadCall mid handle from before code after new → length before ≡ length bytes → (code ≡ pos 0) × (after ≡ bytes) }
+    ensures { (old mid new : LargeHeldState) (handle from : ℕ) (bytes before after : List ℕ) (code : ℤ) → IsLargeWriteCall old handle from bytes (pos 0) mid
+        → IsLargeReadCall mid handle from before code after new → length before ≡ length bytes → (code ≡ pos 0) × (after ≡ bytes) }
 {}

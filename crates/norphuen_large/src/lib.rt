@@ -7,11 +7,11 @@
 ghost use Rattle.std.specs.Prelude.{◌≡◌};
 ghost use Rattle.c_base.specs.AtPlace.{IsCallOnOpen};
 ghost use Rattle.c_base.specs.Version.{version};
-ghost use Rattle.norphuen_large.specs.CallerHeap.{IsOpenCall, closed_by};
-ghost use Rattle.norphuen_large.specs.Calls.{IsFiguresCall, IsFreeCall, IsLengthCall, IsMallocCall, IsReadCall, IsStepsCall, IsTotalsCall, IsWriteCall};
-ghost use Rattle.norphuen_large.specs.Most.{IsMostAccess, IsMostFree, IsMostMalloc};
-ghost use Rattle.norphuen_large.specs.Needed.{IsNeededCall};
-ghost use Rattle.norphuen_large.specs.Place.{held_in};
+ghost use Rattle.norphuen_large.specs.CallerHeap.{IsLargeOpenCall, large_closed_by};
+ghost use Rattle.norphuen_large.specs.Calls.{IsLargeFiguresCall, IsLargeFreeCall, IsLargeLengthCall, IsLargeMallocCall, IsLargeReadCall, IsLargeStepsCall, IsLargeTotalsCall, IsLargeWriteCall};
+ghost use Rattle.norphuen_large.specs.Most.{IsMostLargeAccess, IsMostLargeFree, IsMostLargeMalloc};
+ghost use Rattle.norphuen_large.specs.Needed.{IsLargeNeededCall};
+ghost use Rattle.norphuen_large.specs.Place.{large_heap_in};
 
 mod held;
 mod large;
@@ -34,7 +34,7 @@ pub extern "C" fn nph_large_open(
     page_bytes: u32,
     proxies: u32,
 ) -> i32
-    ensures { IsOpenCall (held_in heap.old) pages page_bytes proxies result (held_in heap.new) }
+    ensures { IsLargeOpenCall (large_heap_in heap.old) pages page_bytes proxies result (large_heap_in heap.new) }
 {
     heap.inner().open(memory, pages, page_bytes, 1, proxies)
 }
@@ -48,7 +48,7 @@ pub extern "C" fn nph_large_bytes_needed(
     proxies: u32,
     needed: &mut NphNeeded,
 ) -> i32
-    ensures { IsNeededCall pages page_bytes proxies result needed.old needed.new }
+    ensures { IsLargeNeededCall pages page_bytes proxies result needed.old needed.new }
 {
     ClosableHeap::<Held>::bytes_needed(pages, page_bytes, 1, proxies, needed)
 }
@@ -56,7 +56,7 @@ pub extern "C" fn nph_large_bytes_needed(
 /// Closes the heap and frees its memory; does nothing if it is closed (`ClosableHeap::close`).
 #[unsafe(no_mangle)]
 pub extern "C" fn nph_large_close(heap: &mut NphHeap, memory: Memory)
-    ensures { held_in heap.new ≡ closed_by (held_in heap.old) }
+    ensures { large_heap_in heap.new ≡ large_closed_by (large_heap_in heap.old) }
 {
     heap.inner().close(memory);
 }
@@ -64,8 +64,8 @@ pub extern "C" fn nph_large_close(heap: &mut NphHeap, memory: Memory)
 /// Makes an object of `bytes` zeros and writes its handle into `handle` (`Held::malloc`).
 #[unsafe(no_mangle)]
 pub extern "C" fn nph_large_malloc(heap: &mut NphHeap, bytes: u32, handle: &mut u32) -> i32
-    ensures { IsCallOnOpen (held_in heap.old) result (held_in heap.new) (handle.new ≡ handle.old)
-        (λ h h2. IsMallocCall h bytes handle.old result handle.new h2) }
+    ensures { IsCallOnOpen (large_heap_in heap.old) result (large_heap_in heap.new) (handle.new ≡ handle.old)
+        (λ h h2. IsLargeMallocCall h bytes handle.old result handle.new h2) }
 {
     let heap = heap.inner();
     if heap.is_open() {
@@ -78,7 +78,7 @@ pub extern "C" fn nph_large_malloc(heap: &mut NphHeap, bytes: u32, handle: &mut 
 /// Frees an object (`Held::free`).
 #[unsafe(no_mangle)]
 pub extern "C" fn nph_large_free(heap: &mut NphHeap, handle: u32) -> i32
-    ensures { IsCallOnOpen (held_in heap.old) result (held_in heap.new) (Unit {0}) (λ h h2. IsFreeCall h handle result h2) }
+    ensures { IsCallOnOpen (large_heap_in heap.old) result (large_heap_in heap.new) (Unit {0}) (λ h h2. IsLargeFreeCall h handle result h2) }
 {
     let heap = heap.inner();
     if heap.is_open() {
@@ -91,8 +91,8 @@ pub extern "C" fn nph_large_free(heap: &mut NphHeap, handle: u32) -> i32
 /// Writes `bytes` into an object, from its byte `at` on (`Held::write`).
 #[unsafe(no_mangle)]
 pub extern "C" fn nph_large_write(heap: &mut NphHeap, handle: u32, at: u32, bytes: &[u8]) -> i32
-    ensures { IsCallOnOpen (held_in heap.old) result (held_in heap.new) (Unit {0})
-        (λ h h2. IsWriteCall h handle at bytes.now result h2) }
+    ensures { IsCallOnOpen (large_heap_in heap.old) result (large_heap_in heap.new) (Unit {0})
+        (λ h h2. IsLargeWriteCall h handle at bytes.now result h2) }
 {
     let heap = heap.inner();
     if heap.is_open() {
@@ -105,8 +105,8 @@ pub extern "C" fn nph_large_write(heap: &mut NphHeap, handle: u32, at: u32, byte
 /// Fills `out` with bytes of an object, from its byte `at` on (`Held::read`).
 #[unsafe(no_mangle)]
 pub extern "C" fn nph_large_read(heap: &mut NphHeap, handle: u32, at: u32, out: &mut [u8]) -> i32
-    ensures { IsCallOnOpen (held_in heap.old) result (held_in heap.new) (out.new ≡ out.old)
-        (λ h h2. IsReadCall h handle at out.old result out.new h2) }
+    ensures { IsCallOnOpen (large_heap_in heap.old) result (large_heap_in heap.new) (out.new ≡ out.old)
+        (λ h h2. IsLargeReadCall h handle at out.old result out.new h2) }
 {
     let heap = heap.inner();
     if heap.is_open() {
@@ -119,8 +119,8 @@ pub extern "C" fn nph_large_read(heap: &mut NphHeap, handle: u32, at: u32, out: 
 /// Writes the length in bytes of an object into `bytes` (`Held::length`).
 #[unsafe(no_mangle)]
 pub extern "C" fn nph_large_length(heap: &mut NphHeap, handle: u32, bytes: &mut u32) -> i32
-    ensures { IsCallOnOpen (held_in heap.old) result (held_in heap.new) (bytes.new ≡ bytes.old)
-        (λ h h2. IsLengthCall h handle bytes.old result bytes.new h2) }
+    ensures { IsCallOnOpen (large_heap_in heap.old) result (large_heap_in heap.new) (bytes.new ≡ bytes.old)
+        (λ h h2. IsLargeLengthCall h handle bytes.old result bytes.new h2) }
 {
     let heap = heap.inner();
     if heap.is_open() {
@@ -133,8 +133,8 @@ pub extern "C" fn nph_large_length(heap: &mut NphHeap, handle: u32, bytes: &mut 
 /// Writes the figures of a size class, numbered from 0, into `figures` (`Held::figures`).
 #[unsafe(no_mangle)]
 pub extern "C" fn nph_large_figures(heap: &mut NphHeap, class: u32, figures: &mut NphClass) -> i32
-    ensures { IsCallOnOpen (held_in heap.old) result (held_in heap.new) (figures.new ≡ figures.old)
-        (λ h h2. IsFiguresCall h class figures.old result figures.new h2) }
+    ensures { IsCallOnOpen (large_heap_in heap.old) result (large_heap_in heap.new) (figures.new ≡ figures.old)
+        (λ h h2. IsLargeFiguresCall h class figures.old result figures.new h2) }
 {
     let heap = heap.inner();
     if heap.is_open() {
@@ -147,8 +147,8 @@ pub extern "C" fn nph_large_figures(heap: &mut NphHeap, class: u32, figures: &mu
 /// Writes the figures of the whole heap into `totals` (`Held::totals`).
 #[unsafe(no_mangle)]
 pub extern "C" fn nph_large_totals(heap: &mut NphHeap, totals: &mut NphHeapTotals) -> i32
-    ensures { IsCallOnOpen (held_in heap.old) result (held_in heap.new) (totals.new ≡ totals.old)
-        (λ h h2. IsTotalsCall h result totals.new h2) }
+    ensures { IsCallOnOpen (large_heap_in heap.old) result (large_heap_in heap.new) (totals.new ≡ totals.old)
+        (λ h h2. IsLargeTotalsCall h result totals.new h2) }
 {
     let heap = heap.inner();
     if heap.is_open() {
@@ -161,8 +161,8 @@ pub extern "C" fn nph_large_totals(heap: &mut NphHeap, totals: &mut NphHeapTotal
 /// Writes the steps of the last call that counts them into `steps` (`Held::last_steps`).
 #[unsafe(no_mangle)]
 pub extern "C" fn nph_large_last_steps(heap: &mut NphHeap, steps: &mut u64) -> i32
-    ensures { IsCallOnOpen (held_in heap.old) result (held_in heap.new) (steps.new ≡ steps.old)
-        (λ h h2. IsStepsCall h result steps.new h2) }
+    ensures { IsCallOnOpen (large_heap_in heap.old) result (large_heap_in heap.new) (steps.new ≡ steps.old)
+        (λ h h2. IsLargeStepsCall h result steps.new h2) }
 {
     let heap = heap.inner();
     if heap.is_open() {
@@ -176,7 +176,7 @@ pub extern "C" fn nph_large_last_steps(heap: &mut NphHeap, steps: &mut u64) -> i
 /// take no heap. For a size that no page has they mean nothing.
 #[unsafe(no_mangle)]
 pub extern "C" fn nph_large_most_malloc(page_bytes: u32, bytes: u32) -> u64
-    ensures { IsMostMalloc page_bytes bytes result }
+    ensures { IsMostLargeMalloc page_bytes bytes result }
 {
     let words = most::page_words(page_bytes);
     if bytes <= 8 * (words - 1) {
@@ -188,7 +188,7 @@ pub extern "C" fn nph_large_most_malloc(page_bytes: u32, bytes: u32) -> u64
 /// Returns the most steps of a free of an object of `bytes` bytes.
 #[unsafe(no_mangle)]
 pub extern "C" fn nph_large_most_free(page_bytes: u32, bytes: u32) -> u64
-    ensures { IsMostFree page_bytes bytes result }
+    ensures { IsMostLargeFree page_bytes bytes result }
 {
     let words = most::page_words(page_bytes);
     if bytes <= 8 * (words - 1) {
@@ -202,7 +202,7 @@ pub extern "C" fn nph_large_most_free(page_bytes: u32, bytes: u32) -> u64
 /// Returns the most steps of a read or a write of `count` bytes from byte `at` on.
 #[unsafe(no_mangle)]
 pub extern "C" fn nph_large_most_access(page_bytes: u32, at: u32, count: u32) -> u64
-    ensures { IsMostAccess page_bytes at count result }
+    ensures { IsMostLargeAccess page_bytes at count result }
 {
     if count == 0 {
         return 2;

@@ -17,7 +17,7 @@ ghost use Rattle.held_heap.specs.Walk.{IsNextCall};
 ghost use Rattle.held_heap.specs.Needed.{IsNeededCall};
 ghost use Rattle.held_heap.specs.Slots.{IsClassCall, IsSlotWordsCall};
 ghost use Rattle.held_heap.specs.PagesNeeded.{IsPagesCall};
-ghost use Rattle.held_heap.specs.NonMovingPlace.{held_in};
+ghost use Rattle.held_heap.specs.NonMovingPlace.{heap_in};
 ghost use Rattle.held_heap.specs.NonMoving.{bounds};
 ghost use Rattle.c_base.specs.Version.{version};
 
@@ -41,7 +41,7 @@ pub extern "C" fn nph_nm_open(
     k: u32,
     proxies: u32,
 ) -> i32
-    ensures { IsOpenCall NonMoving (held_in heap.old) pages page_bytes k proxies result (held_in heap.new) }
+    ensures { IsOpenCall NonMoving (heap_in heap.old) pages page_bytes k proxies result (heap_in heap.new) }
 {
     heap.open(memory, pages, page_bytes, k, proxies)
 }
@@ -80,7 +80,7 @@ pub extern "C" fn nph_nm_pages_needed(
 /// Closes the heap and frees its memory; does nothing if it is closed (`NphHeap::close`).
 #[unsafe(no_mangle)]
 pub extern "C" fn nph_nm_close(heap: &mut NphHeap, memory: Memory)
-    ensures { held_in heap.new ≡ closed_by (held_in heap.old) }
+    ensures { heap_in heap.new ≡ closed_by (heap_in heap.old) }
 {
     heap.close(memory);
 }
@@ -88,7 +88,7 @@ pub extern "C" fn nph_nm_close(heap: &mut NphHeap, memory: Memory)
 /// Makes an object of `bytes` zeros and writes its handle into `handle` (`Held::malloc`).
 #[unsafe(no_mangle)]
 pub extern "C" fn nph_nm_malloc(heap: &mut NphHeap, bytes: u32, handle: &mut u32) -> i32
-    ensures { IsCallOnOpen (held_in heap.old) result (held_in heap.new) (handle.new ≡ handle.old)
+    ensures { IsCallOnOpen (heap_in heap.old) result (heap_in heap.new) (handle.new ≡ handle.old)
         (λ h h2. IsMallocCall bounds h bytes handle.old result handle.new h2) }
 {
     if heap.is_open() {
@@ -102,7 +102,7 @@ pub extern "C" fn nph_nm_malloc(heap: &mut NphHeap, bytes: u32, handle: &mut u32
 /// (`Held::free`).
 #[unsafe(no_mangle)]
 pub extern "C" fn nph_nm_free(heap: &mut NphHeap, handle: u32, freed: &mut NphFreed) -> i32
-    ensures { IsCallOnOpen (held_in heap.old) result (held_in heap.new) (freed.new ≡ freed.old)
+    ensures { IsCallOnOpen (heap_in heap.old) result (heap_in heap.new) (freed.new ≡ freed.old)
         (λ h h2. IsFreeCall bounds h handle freed.old result freed.new h2) }
 {
     if heap.is_open() {
@@ -121,7 +121,7 @@ pub extern "C" fn nph_nm_resize(
     bytes: u32,
     resized: &mut NphResized,
 ) -> i32
-    ensures { IsCallOnOpen (held_in heap.old) result (held_in heap.new) (resized.new ≡ resized.old)
+    ensures { IsCallOnOpen (heap_in heap.old) result (heap_in heap.new) (resized.new ≡ resized.old)
         (λ h h2. IsResizeCall bounds h handle bytes resized.old result resized.new h2) }
 {
     if heap.is_open() {
@@ -134,7 +134,7 @@ pub extern "C" fn nph_nm_resize(
 /// Writes `bytes` into an object, from its byte `at` on (`Held::write`).
 #[unsafe(no_mangle)]
 pub extern "C" fn nph_nm_write(heap: &mut NphHeap, handle: u32, at: u32, bytes: &[u8]) -> i32
-    ensures { IsCallOnOpen (held_in heap.old) result (held_in heap.new) (Unit {0})
+    ensures { IsCallOnOpen (heap_in heap.old) result (heap_in heap.new) (Unit {0})
         (λ h h2. IsWriteCall bounds h handle at bytes.now result h2) }
 {
     if heap.is_open() {
@@ -147,7 +147,7 @@ pub extern "C" fn nph_nm_write(heap: &mut NphHeap, handle: u32, at: u32, bytes: 
 /// Fills `out` with bytes of an object, from its byte `at` on (`Held::read`).
 #[unsafe(no_mangle)]
 pub extern "C" fn nph_nm_read(heap: &mut NphHeap, handle: u32, at: u32, out: &mut [u8]) -> i32
-    ensures { IsCallOnOpen (held_in heap.old) result (held_in heap.new) (out.new ≡ out.old)
+    ensures { IsCallOnOpen (heap_in heap.old) result (heap_in heap.new) (out.new ≡ out.old)
         (λ h h2. IsReadCall bounds h handle at out.old result out.new h2) }
 {
     if heap.is_open() {
@@ -160,7 +160,7 @@ pub extern "C" fn nph_nm_read(heap: &mut NphHeap, handle: u32, at: u32, out: &mu
 /// Writes the object's length in bytes into `bytes` (`Held::length`).
 #[unsafe(no_mangle)]
 pub extern "C" fn nph_nm_length(heap: &mut NphHeap, handle: u32, bytes: &mut u32) -> i32
-    ensures { IsCallOnOpen (held_in heap.old) result (held_in heap.new) (bytes.new ≡ bytes.old)
+    ensures { IsCallOnOpen (heap_in heap.old) result (heap_in heap.new) (bytes.new ≡ bytes.old)
         (λ h h2. IsLengthCall NonMoving h handle bytes.old result bytes.new h2) }
 {
     if heap.is_open() {
@@ -173,7 +173,7 @@ pub extern "C" fn nph_nm_length(heap: &mut NphHeap, handle: u32, bytes: &mut u32
 /// Returns the code that a malloc of `bytes` bytes would return now (`Held::has_room`).
 #[unsafe(no_mangle)]
 pub extern "C" fn nph_nm_has_room(heap: &mut NphHeap, bytes: u32) -> i32
-    ensures { IsCallOnOpen (held_in heap.old) result (held_in heap.new) (Unit {0})
+    ensures { IsCallOnOpen (heap_in heap.old) result (heap_in heap.new) (Unit {0})
         (λ h h2. IsRoomCall bounds h bytes result h2) }
 {
     if heap.is_open() {
@@ -186,7 +186,7 @@ pub extern "C" fn nph_nm_has_room(heap: &mut NphHeap, bytes: u32) -> i32
 /// Writes the words of an object's slot into `words`, as a free of it would (`Held::slot_words`).
 #[unsafe(no_mangle)]
 pub extern "C" fn nph_nm_slot_words(heap: &mut NphHeap, handle: u32, words: &mut u32) -> i32
-    ensures { IsCallOnOpen (held_in heap.old) result (held_in heap.new) (words.new ≡ words.old)
+    ensures { IsCallOnOpen (heap_in heap.old) result (heap_in heap.new) (words.new ≡ words.old)
         (λ h h2. IsSlotWordsCall NonMoving h handle words.old result words.new h2) }
 {
     if heap.is_open() {
@@ -199,7 +199,7 @@ pub extern "C" fn nph_nm_slot_words(heap: &mut NphHeap, handle: u32, words: &mut
 /// Writes the size class of an object of `bytes` bytes, numbered from 0, into `class` (`Held::class_of`).
 #[unsafe(no_mangle)]
 pub extern "C" fn nph_nm_class_of(heap: &mut NphHeap, bytes: u32, class: &mut u32) -> i32
-    ensures { IsCallOnOpen (held_in heap.old) result (held_in heap.new) (class.new ≡ class.old)
+    ensures { IsCallOnOpen (heap_in heap.old) result (heap_in heap.new) (class.new ≡ class.old)
         (λ h h2. IsClassCall h bytes class.old result class.new h2) }
 {
     if heap.is_open() {
@@ -212,7 +212,7 @@ pub extern "C" fn nph_nm_class_of(heap: &mut NphHeap, bytes: u32, class: &mut u3
 /// Writes the figures of a size class, numbered from 0, into `figures` (`Held::figures`).
 #[unsafe(no_mangle)]
 pub extern "C" fn nph_nm_figures(heap: &mut NphHeap, class: u32, figures: &mut NphClass) -> i32
-    ensures { IsCallOnOpen (held_in heap.old) result (held_in heap.new) (figures.new ≡ figures.old)
+    ensures { IsCallOnOpen (heap_in heap.old) result (heap_in heap.new) (figures.new ≡ figures.old)
         (λ h h2. IsFiguresCall h class figures.old result figures.new h2) }
 {
     if heap.is_open() {
@@ -225,7 +225,7 @@ pub extern "C" fn nph_nm_figures(heap: &mut NphHeap, class: u32, figures: &mut N
 /// Writes the figures of the whole heap into `totals` (`Held::totals`).
 #[unsafe(no_mangle)]
 pub extern "C" fn nph_nm_totals(heap: &mut NphHeap, totals: &mut NphHeapTotals) -> i32
-    ensures { IsCallOnOpen (held_in heap.old) result (held_in heap.new) (totals.new ≡ totals.old)
+    ensures { IsCallOnOpen (heap_in heap.old) result (heap_in heap.new) (totals.new ≡ totals.old)
         (λ h h2. IsTotalsCall bounds h result totals.new h2) }
 {
     if heap.is_open() {
@@ -239,7 +239,7 @@ pub extern "C" fn nph_nm_totals(heap: &mut NphHeap, totals: &mut NphHeapTotals) 
 /// `NONE` (`Held::next`). It takes a step for each number that it looks at.
 #[unsafe(no_mangle)]
 pub extern "C" fn nph_nm_next(heap: &mut NphHeap, handle: u32, next: &mut u32) -> i32
-    ensures { IsCallOnOpen (held_in heap.old) result (held_in heap.new) (next.new ≡ next.old)
+    ensures { IsCallOnOpen (heap_in heap.old) result (heap_in heap.new) (next.new ≡ next.old)
         (λ h h2. IsNextCall h handle next.old result next.new h2) }
 {
     if heap.is_open() {
@@ -252,7 +252,7 @@ pub extern "C" fn nph_nm_next(heap: &mut NphHeap, handle: u32, next: &mut u32) -
 /// Writes what the heap counted since it was opened into `counts` (`Held::counts`). It counts no steps.
 #[unsafe(no_mangle)]
 pub extern "C" fn nph_nm_counts(heap: &mut NphHeap, counts: &mut NphCounted) -> i32
-    ensures { IsCallOnOpen (held_in heap.old) result (held_in heap.new) (counts.new ≡ counts.old)
+    ensures { IsCallOnOpen (heap_in heap.old) result (heap_in heap.new) (counts.new ≡ counts.old)
         (λ h h2. IsCountsCall h result counts.new h2) }
 {
     if heap.is_open() {
@@ -266,7 +266,7 @@ pub extern "C" fn nph_nm_counts(heap: &mut NphHeap, counts: &mut NphCounted) -> 
 /// (`Held::set_bound`). It counts no steps.
 #[unsafe(no_mangle)]
 pub extern "C" fn nph_nm_set_bound(heap: &mut NphHeap, slot_words: u32, k: u32) -> i32
-    ensures { IsCallOnOpen (held_in heap.old) result (held_in heap.new) (Unit {0})
+    ensures { IsCallOnOpen (heap_in heap.old) result (heap_in heap.new) (Unit {0})
         (λ h h2. IsBoundCall h slot_words k result h2) }
 {
     if heap.is_open() {
@@ -279,7 +279,7 @@ pub extern "C" fn nph_nm_set_bound(heap: &mut NphHeap, slot_words: u32, k: u32) 
 /// Writes the steps of the last call that counts them into `steps` (`Held::last_steps`).
 #[unsafe(no_mangle)]
 pub extern "C" fn nph_nm_last_steps(heap: &mut NphHeap, steps: &mut u64) -> i32
-    ensures { IsCallOnOpen (held_in heap.old) result (held_in heap.new) (steps.new ≡ steps.old)
+    ensures { IsCallOnOpen (heap_in heap.old) result (heap_in heap.new) (steps.new ≡ steps.old)
         (λ h h2. IsStepsCall h result steps.new h2) }
 {
     if heap.is_open() {

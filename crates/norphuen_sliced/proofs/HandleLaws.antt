@@ -21,15 +21,15 @@ use Rattle.c_base.specs.Codes.{access_code}
 use Rattle.c_base.specs.Handles.{none, raised_by}
 use Rattle.c_base.specs.Shown.{malloc_number}
 use Rattle.c_base.proofs.CallerLemmas.{new_handle, no_number, none_there}
-use Rattle.norphuen_sliced.specs.Codes.{free_code, malloc_code}
-use Rattle.norphuen_sliced.specs.HandleRules.{IsNewHandle, KeepsHandles}
-use Rattle.norphuen_sliced.specs.HeldState.{HeldState}
+use Rattle.norphuen_sliced.specs.Codes.{slice_free_code, slice_malloc_code}
+use Rattle.norphuen_sliced.specs.HandleRules.{IsNewSlicedHandle, KeepsSlicedHandles}
+use Rattle.norphuen_sliced.specs.HeldState.{SlicedHeldState}
 
 -- ---- the handle of a malloc is new
 
-pub is_new : (old new : HeldState) (bytes before after : ℕ) (r : Result Handle SliceRefusal) → KeepsHandles old → malloc_code r ≡ pos 0
+pub is_new : (old new : SlicedHeldState) (bytes before after : ℕ) (r : Result Handle SliceRefusal) → KeepsSlicedHandles old → slice_malloc_code r ≡ pos 0
     → after ≡ malloc_number old.handles before r → Happens (plan_in old.heap) (working_in old.heap) (Malloc bytes r) (working_in new.heap)
-    → new.handles ≡ old.handles → IsNewHandle old after new
+    → new.handles ≡ old.handles → IsNewSlicedHandle old after new
 is_new old new bytes before after (Ok h) k code is step same = new_handle h.0 after k step.gives.in_range step.gives.unused is same
 is_new old new bytes before after (Err refusal.Size) k code is step same = absurd (let e : pos 1 ≡ pos 0 = code in cc)
 is_new old new bytes before after (Err refusal.Proxy) k code is step same = absurd (let e : pos 2 ≡ pos 0 = code in cc)
@@ -38,21 +38,21 @@ is_new old new bytes before after (Err refusal.Busy) k code is step same = absur
 
 -- ---- a handle that names no object is refused
 
-pub nothing : (old : HeldState) {number : ℕ} → KeepsHandles old → number ≡ none → get old.heap.held number ≡ None
+pub nothing : (old : SlicedHeldState) {number : ℕ} → KeepsSlicedHandles old → number ≡ none → get old.heap.held number ≡ None
 nothing old {number} k is = none_there old.heap.held k is k.rules.consistent.kept.numbers
 
-no_object : (old : HeldState) (number : ℕ) (v : List ℕ) → KeepsHandles old → number ≡ none → get (objects old.heap.held) number ≡ Some v → ⊥
+no_object : (old : SlicedHeldState) (number : ℕ) (v : List ℕ) → KeepsSlicedHandles old → number ≡ none → get (objects old.heap.held) number ≡ Some v → ⊥
 no_object old number v k is found =
     let e : None ≡ Some v = sym (get-map_values (λ (x : Placed). x.bytes) old.heap.held number ∙ ap (option_map (λ (x : Placed). x.bytes)) (nothing old k is)) ∙ found in cc
 
-pub free_refused : (old new : HeldState) (code : ℤ) (r : Result (Unit {0}) SliceFault) (handle number : ℕ) → KeepsHandles old → number ≡ none → code ≡ free_code r
+pub free_refused : (old new : SlicedHeldState) (code : ℤ) (r : Result (Unit {0}) SliceFault) (handle number : ℕ) → KeepsSlicedHandles old → number ≡ none → code ≡ slice_free_code r
     → Happens (plan_in old.heap) (working_in old.heap) (Free number (fault_in r)) (working_in new.heap) → new.handles ≡ raised_by old.handles handle r
     → (code ≡ pos 4) × (working_in new.heap ≡ working_in old.heap) × (new.handles ≡ old.handles)
 free_refused old new code (Ok u) handle number k is by_code step raises = no_number k is (k.rules.consistent.kept.numbers _ step.removes.freed step.removes.found)
 free_refused old new code (Err fault.Unknown) handle number k is by_code step raises = (by_code, step.1, raises)
 free_refused old new code (Err fault.Busy) handle number k is by_code step raises = no_number k is (k.rules.consistent.kept.numbers _ step.0.object step.0.found)
 
-pub write_refused : (old new : HeldState) (position : Position) (bytes : List ℕ) (code : ℤ) (r : Result (Unit {0}) AccessFault) → KeepsHandles old
+pub write_refused : (old new : SlicedHeldState) (position : Position) (bytes : List ℕ) (code : ℤ) (r : Result (Unit {0}) AccessFault) → KeepsSlicedHandles old
     → position.number ≡ none → code ≡ access_code r
     → Happens (plan_in old.heap) (working_in old.heap) (Write position bytes (access_fault r)) (working_in new.heap)
     → (code ≡ pos 4) × (working_in new.heap ≡ working_in old.heap)
@@ -60,7 +60,7 @@ write_refused old new position bytes code (Ok u) k is by_code step = no_number k
 write_refused old new position bytes code (Err access.Unknown) k is by_code step = (by_code, step.1)
 write_refused old new position bytes code (Err access.Range) k is by_code step = absurd (no_object old position.number step.0.0 k is step.0.1)
 
-pub read_refused : (old : HeldState) (position : Position) (before after : List ℕ) (code : ℤ) (r : Result (Unit {0}) AccessFault) → KeepsHandles old
+pub read_refused : (old : SlicedHeldState) (position : Position) (before after : List ℕ) (code : ℤ) (r : Result (Unit {0}) AccessFault) → KeepsSlicedHandles old
     → position.number ≡ none → code ≡ access_code r → (IsErr r → after ≡ before)
     → Happens (plan_in old.heap) (working_in old.heap) (Read position (length before) (bytes_or_fault r after)) (working_in old.heap)
     → (code ≡ pos 4) × (after ≡ before)
@@ -70,7 +70,7 @@ read_refused old position before after code (Err access.Range) k is by_code same
 
 -- ---- a read gives the bytes of the object
 
-pub read_bytes : (old : HeldState) (position : Position) (before after : List ℕ) (r : Result (Unit {0}) AccessFault) → KeepsHandles old → access_code r ≡ pos 0
+pub read_bytes : (old : SlicedHeldState) (position : Position) (before after : List ℕ) (r : Result (Unit {0}) AccessFault) → KeepsSlicedHandles old → access_code r ≡ pos 0
     → Happens (plan_in old.heap) (working_in old.heap) (Read position (length before) (bytes_or_fault r after)) (working_in old.heap)
     → (x : Placed) × (get old.heap.held position.number ≡ Some x) × (length after ≡ length before) × (position.from + length before ≤ length x.bytes)
     × ((k : ℕ) → k < length before → slice_index after k ≡ slice_index x.bytes (position.from + k))

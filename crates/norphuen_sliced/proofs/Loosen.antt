@@ -1,4 +1,4 @@
--- In memory a `Held` is its fields, a `LooseHeld`, whose heap is valid and shows the state of the `Held` (`Fits`). Who owns the one may own the other, at the same place.
+-- In memory a `Held` is its fields, a `LooseHeld`, whose heap is valid and shows the state of the `Held` (`FitsSliced`). Who owns the one may own the other, at the same place.
 use Rattle.std.proofs.Common.{◌≡◌, ℕ, List, [], ◌∷◌, refl, sym, ap, ◌∙◌, subst}
 use Rattle.std.specs.Prelude.{IsTrue}
 use seplogic.Ra.Ura.{Ura}
@@ -12,31 +12,31 @@ use denote.Memory.{cell_at, mem, part_of}
 use denote.Steps.{nothing}
 use denote.Struct.Struct.{within}
 use denote.Struct.Declared.{shape, fields}
-use Rattle.sliced_heap.specs.Shown.{IsValidIn, SlicedState, shown}
+use Rattle.sliced_heap.specs.Shown.{IsValidSlicedIn, SlicedState, sliced_shown}
 use Rattle.sliced_heap.specs.contracts.heap.SlicedHeap.TheInside as inside_heap
 use Rattle.sliced_heap.specs.declared.heap.SlicedHeap.TheInside as heap_fields
 use Rattle.norphuen_sliced.specs.contracts.held.Held.TheInside as inside_held
 use Rattle.norphuen_sliced.specs.declared.held.Held.TheInside as held_fields
 use Rattle.norphuen_sliced.specs.contracts.loose.LooseHeld as loose
 use Rattle.norphuen_sliced.specs.declared.loose.LooseHeld.{LooseHeld}
-use Rattle.norphuen_sliced.specs.HeldState.{HeldState}
-use Rattle.c_base.specs.Lending.{IsOf}
-use Rattle.norphuen_sliced.specs.Loose.{Fits, lending, state_of}
-use Rattle.norphuen_sliced.specs.Sliced.{open_heap as T}
+use Rattle.norphuen_sliced.specs.HeldState.{SlicedHeldState}
+use Rattle.c_base.specs.Lending.{IsLooseOf}
+use Rattle.norphuen_sliced.specs.Loose.{FitsSliced, sliced_lending, sliced_loose_state}
+use Rattle.norphuen_sliced.specs.Sliced.{open_sliced as T}
 
 -- the type of the fields
 abbrev pub S : RattleType
 S = loose.the_row
 
 -- the fields of a `Held` that shows the state x, and those of a heap that shows the state s
-abbrev HeldOf : HeldState → Type 0
-HeldOf x = (i : held_fields.Inside) × ((◌≡◌ {A = HeldState} (record { heap = i.heap; steps = i.steps; handles = i.handles }) x) × IsTrue i.heap.is_open)
+abbrev HeldOf : SlicedHeldState → Type 0
+HeldOf x = (i : held_fields.Inside) × ((◌≡◌ {A = SlicedHeldState} (record { heap = i.heap; steps = i.steps; handles = i.handles }) x) × IsTrue i.heap.is_open)
 
 abbrev HeapOf : SlicedState → Type 0
-HeapOf s = (j : heap_fields.Inside) × ((shown j.inner ≡ s) × IsValidIn j.inner)
+HeapOf s = (j : heap_fields.Inside) × ((sliced_shown j.inner ≡ s) × IsValidSlicedIn j.inner)
 
 module _ {M : Type 1} {𝓤 : Ura M} {𝓛 : Logic 𝓤} {K : Type 0} {Γ : List (Item 𝓤)} {G : Goal 𝓤 𝓛.H} where
-  pub loosen : K → (x : HeldState) (b o : ℕ) → ((a : LooseHeld) → IsOf lending a x → Seq K 𝓛 (‵ ((mem S).own_at a b o) ∷ Γ) G)
+  pub loosen : K → (x : SlicedHeldState) (b o : ℕ) → ((a : LooseHeld) → IsLooseOf sliced_lending a x → Seq K 𝓛 (‵ ((mem S).own_at a b o) ∷ Γ) G)
       → Seq K 𝓛 (‵ ((mem T).own_at x b o) ∷ Γ) G
   unfolding part_of
   loosen t x b o k =
@@ -54,10 +54,10 @@ module _ {M : Type 1} {𝓤 : Ura M} {𝓛 : Logic 𝓤} {K : Type 0} {Γ : List
         shown = ap (λ (s : SlicedState). record { heap = s; steps = i.0.steps; handles = i.0.handles }) j.1.0 ∙ i.1.0;
       }))))))
 
-  pub tighten : K → (a : LooseHeld) (b o : ℕ) → Fits a → Step K 𝓛 (‵ ((mem T).own_at (state_of a) b o) ∷ Γ) G (‵ ((mem S).own_at a b o) ∷ Γ) G
+  pub tighten : K → (a : LooseHeld) (b o : ℕ) → FitsSliced a → Step K 𝓛 (‵ ((mem T).own_at (sliced_loose_state a) b o) ∷ Γ) G (‵ ((mem S).own_at a b o) ∷ Γ) G
   unfolding part_of
   tighten t a b o fit = step (λ s.
-      let inner : SlicedState = shown a.heap.inner in let x = state_of a in
+      let inner : SlicedState = sliced_shown a.heap.inner in let x = sliced_loose_state a in
       let i : held_fields.Inside = record { heap = inner; steps = a.steps; memory = a.memory; handles = a.handles } in
       let held_type = inside_held.the_type in
       fpick t (λ vs. fsplit t $ move t (1 ∷ []) $ fpick t (λ vss. fsplit t $ feq_l t (λ whole. fsplit t $

@@ -1,8 +1,8 @@
 -- What a caller in C has for a sliced heap.
 use Rattle.c_base.specs.CallerHeap.{CallerHeap, closed_with}
 use Rattle.c_base.specs.Handles.{largest}
-use Rattle.norphuen_sliced.specs.HeldState.{HeldState}
+use Rattle.norphuen_sliced.specs.HeldState.{SlicedHeldState}
 
 -- the heap after it is closed: the handles of the next one will be larger than all that its numbers have
-abbrev pub closed_by : CallerHeap HeldState → CallerHeap HeldState
-closed_by = closed_with (λ h. largest h.handles)
+abbrev pub sliced_closed_by : CallerHeap SlicedHeldState → CallerHeap SlicedHeldState
+sliced_closed_by = closed_with (λ h. largest h.handles)

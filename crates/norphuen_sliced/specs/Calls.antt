@@ -14,11 +14,11 @@ use Rattle.slice_model.specs.Runs.{Event, Happens, Free, Malloc, Read, Step, Wri
 use Rattle.slice_model.specs.State.{Idle, left_of}
 use Rattle.slice_model.specs.declared.answers.SliceFault.{SliceFault}
 use Rattle.slice_model.specs.declared.answers.SliceRefusal.{SliceRefusal}
-use Rattle.sliced_heap.specs.Access.{access_fault, bytes_or_fault, length_in, place_in}
-use Rattle.sliced_heap.specs.Costs.{access_steps, free_cost, length_steps, malloc_cost, slice_cost}
-use Rattle.sliced_heap.specs.Figures.{figures_in, slot_words_in, slot_words_steps, totals_in}
+use Rattle.sliced_heap.specs.Access.{access_fault, bytes_or_fault, place_in, sliced_length_in}
+use Rattle.sliced_heap.specs.Costs.{slice_cost, sliced_access_steps, sliced_free_cost, sliced_length_steps, sliced_malloc_cost}
+use Rattle.sliced_heap.specs.Figures.{sliced_figures_in, sliced_totals_in, sliced_words_steps, slot_words_in}
 use Rattle.sliced_heap.specs.Room.{IsRoomAnswer, mover}
-use Rattle.sliced_heap.specs.Shown.{KeepsRules, SlicedState, StaysOpen, plan_in, working_in}
+use Rattle.sliced_heap.specs.Shown.{KeepsSlicedRules, SlicedState, StaysSlicedOpen, plan_in, working_in}
 use Rattle.sliced_heap.specs.Steps.{fault_in}
 use Rattle.step_ledger.specs.Counting.{RoseAtMost, RoseBy}
 use Rattle.c_base.specs.Codes.{access_code}
@@ -27,16 +27,16 @@ use Rattle.c_base.specs.Handles.{handle_of, none, number_in, raised_by}
 use Rattle.c_base.specs.Shown.{class_code, figures_shown, found_code, found_number, malloc_number, totals_shown}
 use Rattle.c_base.specs.declared.answers.NphClass.{NphClass}
 use Rattle.c_base.specs.declared.answers.NphHeapTotals.{NphHeapTotals}
-use Rattle.norphuen_sliced.specs.Codes.{free_code, malloc_code}
-use Rattle.norphuen_sliced.specs.HeldState.{HeldState}
+use Rattle.norphuen_sliced.specs.Codes.{slice_free_code, slice_malloc_code}
+use Rattle.norphuen_sliced.specs.HeldState.{SlicedHeldState}
 use Rattle.norphuen_sliced.specs.Most.{most_access, most_free, most_malloc, most_step}
 
 -- the call with its result (`event`) happens, in the order of the heap, which keeps its rules, its settings and its quantum
-pub record IsCall (old : SlicedState) (event : Event) (new : SlicedState) : Type 0 where
+pub record IsSlicedCall (old : SlicedState) (event : Event) (new : SlicedState) : Type 0 where
   pub step : Happens (plan_in old) (working_in old) event (working_in new)
   pub ordered : HappensInOrder (plan_in old) (working_in old) event (working_in new) old.order new.order
-  pub same : StaysOpen old new
-  pub rules : KeepsRules new
+  pub same : StaysSlicedOpen old new
+  pub rules : KeepsSlicedRules new
 
 -- the state of a heap that was just opened with the settings p and this quantum: no object, no job, and all words 0; bound 1, whatever p has
 abbrev pub opened_with : Profile → ℕ → SlicedState
@@ -51,41 +51,41 @@ opened_with p quantum = record {
 }
 
 -- a heap that was just opened with the settings p and this quantum; its count is 0, and its handles are larger than `last`
-pub record IsFreshHeap (p : Profile) (quantum last : ℕ) (new : HeldState) : Type 0 where
+pub record IsFreshSlicedHeap (p : Profile) (quantum last : ℕ) (new : SlicedHeldState) : Type 0 where
   pub heap : new.heap ≡ opened_with p quantum
-  pub rules : KeepsRules new.heap
+  pub rules : KeepsSlicedRules new.heap
   pub steps : new.steps ≡ 0
   pub handles : AreFirstHandles p.proxies last new.handles
 
 -- a malloc of `bytes` bytes
-pub record IsMallocCall (old : HeldState) (bytes before : ℕ) (code : ℤ) (after : ℕ) (new : HeldState) : Type 0 where
+pub record IsSlicedMallocCall (old : SlicedHeldState) (bytes before : ℕ) (code : ℤ) (after : ℕ) (new : SlicedHeldState) : Type 0 where
   pub answer : Result Handle SliceRefusal
-  pub by_code : code ≡ malloc_code answer
+  pub by_code : code ≡ slice_malloc_code answer
   pub by_number : after ≡ malloc_number old.handles before answer
-  pub call : IsCall old.heap (Malloc bytes answer) new.heap
-  pub exact : RoseBy 0 new.steps (malloc_cost (plan_in old.heap) (working_in old.heap).state old.heap.order bytes answer)
+  pub call : IsSlicedCall old.heap (Malloc bytes answer) new.heap
+  pub exact : RoseBy 0 new.steps (sliced_malloc_cost (plan_in old.heap) (working_in old.heap).state old.heap.order bytes answer)
   pub bound : RoseAtMost 0 new.steps most_malloc
   pub same : new.handles ≡ old.handles
 
 -- a free of the object that `handle` names, with the first slice of its job; the handle is given up if the free succeeds
-pub record IsFreeCall (old : HeldState) (handle : ℕ) (code : ℤ) (new : HeldState) : Type 0 where
+pub record IsSlicedFreeCall (old : SlicedHeldState) (handle : ℕ) (code : ℤ) (new : SlicedHeldState) : Type 0 where
   pub answer : Result (Unit {0}) SliceFault
-  pub by_code : code ≡ free_code answer
-  pub call : IsCall old.heap (Free (number_in old.handles handle) (fault_in answer)) new.heap
-  pub exact : RoseBy 0 new.steps (free_cost (plan_in old.heap) (working_in old.heap).state old.heap.order (number_in old.handles handle) (fault_in answer))
+  pub by_code : code ≡ slice_free_code answer
+  pub call : IsSlicedCall old.heap (Free (number_in old.handles handle) (fault_in answer)) new.heap
+  pub exact : RoseBy 0 new.steps (sliced_free_cost (plan_in old.heap) (working_in old.heap).state old.heap.order (number_in old.handles handle) (fault_in answer))
   pub bound : RoseAtMost 0 new.steps (most_free old.heap.quantum)
   pub raises : new.handles ≡ raised_by old.handles handle answer
 
 -- one slice of the pending job
-pub record IsStepCall (old : HeldState) (code : ℤ) (new : HeldState) : Type 0 where
+pub record IsStepCall (old : SlicedHeldState) (code : ℤ) (new : SlicedHeldState) : Type 0 where
   pub by_code : code ≡ pos 0
-  pub call : IsCall old.heap Step new.heap
+  pub call : IsSlicedCall old.heap Step new.heap
   pub exact : RoseBy 0 new.steps (slice_cost (plan_in old.heap) (working_in old.heap).state)
   pub bound : RoseAtMost 0 new.steps (most_step old.heap.quantum)
   pub same : new.handles ≡ old.handles
 
 -- a call for the words that the pending job has yet to clear or move; it changes nothing
-pub record IsLeftCall (old : HeldState) (code : ℤ) (after : ℕ) (new : HeldState) : Type 0 where
+pub record IsLeftCall (old : SlicedHeldState) (code : ℤ) (after : ℕ) (new : SlicedHeldState) : Type 0 where
   pub by_code : code ≡ pos 0
   pub by_words : after ≡ left_of (plan_in old.heap) (working_in old.heap).state
   pub kept : new ≡ old
@@ -96,59 +96,59 @@ handle_shown handles (Some n) = handle_of handles n
 handle_shown handles None = none
 
 -- a call for the object that the pending job moves; it changes nothing
-pub record IsMovingCall (old : HeldState) (code : ℤ) (after : ℕ) (new : HeldState) : Type 0 where
+pub record IsMovingCall (old : SlicedHeldState) (code : ℤ) (after : ℕ) (new : SlicedHeldState) : Type 0 where
   pub by_code : code ≡ pos 0
   pub by_handle : after ≡ handle_shown old.handles (mover old.heap.job)
   pub kept : new ≡ old
 
 -- a write of `bytes` into the object that `handle` names, from its byte `from` on
-pub record IsWriteCall (old : HeldState) (handle from : ℕ) (bytes : List ℕ) (code : ℤ) (new : HeldState) : Type 0 where
+pub record IsSlicedWriteCall (old : SlicedHeldState) (handle from : ℕ) (bytes : List ℕ) (code : ℤ) (new : SlicedHeldState) : Type 0 where
   pub answer : Result (Unit {0}) AccessFault
   pub by_code : code ≡ access_code answer
-  pub call : IsCall old.heap (Write (record { number = number_in old.handles handle; from = from }) bytes (access_fault answer)) new.heap
-  pub exact : RoseBy 0 new.steps (access_steps answer from (length bytes))
+  pub call : IsSlicedCall old.heap (Write (record { number = number_in old.handles handle; from = from }) bytes (access_fault answer)) new.heap
+  pub exact : RoseBy 0 new.steps (sliced_access_steps answer from (length bytes))
   pub bound : RoseAtMost 0 new.steps (most_access from (length bytes))
   pub same : new.handles ≡ old.handles
 
 -- a read of the object that `handle` names, from its byte `from` on, into the caller's buffer; the heap is unchanged
-pub record IsReadCall (old : HeldState) (handle from : ℕ) (before : List ℕ) (code : ℤ) (after : List ℕ) (new : HeldState) : Type 0 where
+pub record IsSlicedReadCall (old : SlicedHeldState) (handle from : ℕ) (before : List ℕ) (code : ℤ) (after : List ℕ) (new : SlicedHeldState) : Type 0 where
   pub answer : Result (Unit {0}) AccessFault
   pub by_code : code ≡ access_code answer
   pub read : Happens (plan_in old.heap) (working_in old.heap)
       (Read (record { number = number_in old.handles handle; from = from }) (length before) (bytes_or_fault answer after)) (working_in old.heap)
   pub refused : IsErr answer → after ≡ before
   pub kept : new.heap ≡ old.heap
-  pub exact : RoseBy 0 new.steps (access_steps answer from (length before))
+  pub exact : RoseBy 0 new.steps (sliced_access_steps answer from (length before))
   pub bound : RoseAtMost 0 new.steps (most_access from (length before))
   pub same : new.handles ≡ old.handles
 
 -- a call for the length of the object that `handle` names; the heap is unchanged
-pub record IsLengthCall (old : HeldState) (handle before : ℕ) (code : ℤ) (after : ℕ) (new : HeldState) : Type 0 where
-  pub by_code : code ≡ found_code (length_in old.heap.held (number_in old.handles handle))
-  pub by_length : after ≡ found_number (length_in old.heap.held (number_in old.handles handle)) before
+pub record IsSlicedLengthCall (old : SlicedHeldState) (handle before : ℕ) (code : ℤ) (after : ℕ) (new : SlicedHeldState) : Type 0 where
+  pub by_code : code ≡ found_code (sliced_length_in old.heap.held (number_in old.handles handle))
+  pub by_length : after ≡ found_number (sliced_length_in old.heap.held (number_in old.handles handle)) before
   pub kept : new.heap ≡ old.heap
   pub same : new.handles ≡ old.handles
-  pub exact : RoseBy 0 new.steps (length_steps (length_in old.heap.held (number_in old.handles handle)))
+  pub exact : RoseBy 0 new.steps (sliced_length_steps (sliced_length_in old.heap.held (number_in old.handles handle)))
 
 -- a call of `has_room`: it returns the code that a malloc of `bytes` bytes would return now; the heap is unchanged
-pub record IsRoomCall (old : HeldState) (bytes : ℕ) (code : ℤ) (new : HeldState) : Type 0 where
+pub record IsSlicedRoomCall (old : SlicedHeldState) (bytes : ℕ) (code : ℤ) (new : SlicedHeldState) : Type 0 where
   pub answer : Result (Unit {0}) SliceRefusal
-  pub by_code : code ≡ malloc_code answer
+  pub by_code : code ≡ slice_malloc_code answer
   pub room : IsRoomAnswer (plan_in old.heap) (working_in old.heap).state bytes answer
   pub kept : new.heap ≡ old.heap
   pub same : new.handles ≡ old.handles
   pub exact : RoseBy 0 new.steps 1
 
 -- a call for the words of the slot of the object that `handle` names; the heap is unchanged
-pub record IsSlotWordsCall (old : HeldState) (handle before : ℕ) (code : ℤ) (after : ℕ) (new : HeldState) : Type 0 where
+pub record IsSlicedSlotWordsCall (old : SlicedHeldState) (handle before : ℕ) (code : ℤ) (after : ℕ) (new : SlicedHeldState) : Type 0 where
   pub by_code : code ≡ found_code (slot_words_in (plan_in old.heap) old.heap.held (number_in old.handles handle))
   pub by_words : after ≡ found_number (slot_words_in (plan_in old.heap) old.heap.held (number_in old.handles handle)) before
   pub kept : new.heap ≡ old.heap
   pub same : new.handles ≡ old.handles
-  pub exact : RoseBy 0 new.steps (slot_words_steps (slot_words_in (plan_in old.heap) old.heap.held (number_in old.handles handle)))
+  pub exact : RoseBy 0 new.steps (sliced_words_steps (slot_words_in (plan_in old.heap) old.heap.held (number_in old.handles handle)))
 
 -- a call for the address of the object that `handle` names, in words from the start of the region; the heap is unchanged
-pub record IsPlaceCall (old : HeldState) (handle before : ℕ) (code : ℤ) (after : ℕ) (new : HeldState) : Type 0 where
+pub record IsSlicedPlaceCall (old : SlicedHeldState) (handle before : ℕ) (code : ℤ) (after : ℕ) (new : SlicedHeldState) : Type 0 where
   pub by_code : code ≡ found_code (place_in old.heap.held (number_in old.handles handle))
   pub by_place : after ≡ found_number (place_in old.heap.held (number_in old.handles handle)) before
   pub kept : new.heap ≡ old.heap
@@ -156,7 +156,7 @@ pub record IsPlaceCall (old : HeldState) (handle before : ℕ) (code : ℤ) (aft
   pub exact : RoseBy 0 new.steps 1
 
 -- a call for the class of an object of `bytes` bytes; the heap is unchanged
-pub record IsClassCall (old : HeldState) (bytes before : ℕ) (code : ℤ) (after : ℕ) (new : HeldState) : Type 0 where
+pub record IsSlicedClassCall (old : SlicedHeldState) (bytes before : ℕ) (code : ℤ) (after : ℕ) (new : SlicedHeldState) : Type 0 where
   pub by_code : code ≡ class_code (class_of (plan_in old.heap).paging.sizes bytes)
   pub by_class : after ≡ found_number (class_of (plan_in old.heap).paging.sizes bytes) before
   pub kept : new.heap ≡ old.heap
@@ -164,19 +164,19 @@ pub record IsClassCall (old : HeldState) (bytes before : ℕ) (code : ℤ) (afte
   pub exact : RoseBy 0 new.steps 1
 
 -- a call for the figures of a class; it changes nothing
-pub record IsFiguresCall (old : HeldState) (class : ℕ) (before : NphClass) (code : ℤ) (after : NphClass) (new : HeldState) : Type 0 where
-  pub by_code : code ≡ found_code (figures_in (plan_in old.heap) (working_in old.heap).state class)
-  pub by_figures : after ≡ figures_shown (figures_in (plan_in old.heap) (working_in old.heap).state class) before
+pub record IsSlicedFiguresCall (old : SlicedHeldState) (class : ℕ) (before : NphClass) (code : ℤ) (after : NphClass) (new : SlicedHeldState) : Type 0 where
+  pub by_code : code ≡ found_code (sliced_figures_in (plan_in old.heap) (working_in old.heap).state class)
+  pub by_figures : after ≡ figures_shown (sliced_figures_in (plan_in old.heap) (working_in old.heap).state class) before
   pub kept : new ≡ old
 
 -- a call for the figures of the whole heap; it changes nothing
-pub record IsTotalsCall (old : HeldState) (code : ℤ) (after : NphHeapTotals) (new : HeldState) : Type 0 where
+pub record IsSlicedTotalsCall (old : SlicedHeldState) (code : ℤ) (after : NphHeapTotals) (new : SlicedHeldState) : Type 0 where
   pub by_code : code ≡ pos 0
-  pub by_totals : after ≡ totals_shown (totals_in (plan_in old.heap) (working_in old.heap).state)
+  pub by_totals : after ≡ totals_shown (sliced_totals_in (plan_in old.heap) (working_in old.heap).state)
   pub kept : new ≡ old
 
 -- a call of `last_steps`: it returns the steps of the last call that counts them, and changes nothing
-pub record IsStepsCall (old : HeldState) (code : ℤ) (after : ℕ) (new : HeldState) : Type 0 where
+pub record IsSlicedStepsCall (old : SlicedHeldState) (code : ℤ) (after : ℕ) (new : SlicedHeldState) : Type 0 where
   pub by_code : code ≡ pos 0
   pub by_steps : after ≡ old.steps
   pub kept : new ≡ old

@@ -4,12 +4,12 @@ use Rattle.std.specs.Coded.{Coded, code_by, coded×, coded_list, coded_ℕ}
 use Rattle.sliced_heap.specs.Shown.{SlicedState, sliced_code}
 
 -- the state of the heap; the steps of the last call that counts them; and the handle of each number
-pub record HeldState : Type 0 where
+pub record SlicedHeldState : Type 0 where
   pub heap : SlicedState
   pub steps : ℕ
   pub handles : List ℕ
 
 -- the state as pairs, which the trait `Model` needs
-abbrev pub held_code : Coded HeldState
-held_code = code_by (SlicedState × (ℕ × List ℕ)) (coded× sliced_code (coded× coded_ℕ (coded_list coded_ℕ))) (λ h. (h.heap, (h.steps, h.handles)))
+abbrev pub sliced_held_code : Coded SlicedHeldState
+sliced_held_code = code_by (SlicedState × (ℕ × List ℕ)) (coded× sliced_code (coded× coded_ℕ (coded_list coded_ℕ))) (λ h. (h.heap, (h.steps, h.handles)))
     (λ q. record { heap = q.0; steps = q.1.0; handles = q.1.1 }) (λ _. refl)

@@ -8,18 +8,18 @@ use Rattle.c_base.specs.Needed.{AreNeeded, IsOfHandles}
 use Rattle.c_base.specs.declared.answers.NphNeeded.{NphNeeded}
 
 -- the bytes of the block of an open heap (`Held`)
-abbrev pub held_size : ℕ
-held_size = 944
+abbrev pub sliced_held_size : ℕ
+sliced_held_size = 944
 
 -- the heap, the handles of `count` numbers, and the block of the open heap
-abbrev pub held_bytes : Profile → ℕ → BytesNeeded
-held_bytes p count = both (sliced_bytes p) (both (one_block (4 * count)) (one_block held_size))
+abbrev pub sliced_held_bytes : Profile → ℕ → BytesNeeded
+sliced_held_bytes p count = both (sliced_bytes p) (both (one_block (4 * count)) (one_block sliced_held_size))
 
 -- what opening a heap with the settings p asks for
-abbrev pub IsHeldBytes : Profile → BytesNeeded → Type 0
-IsHeldBytes p = IsOfHandles p.proxies (held_bytes p)
+abbrev pub IsSlicedHeldBytes : Profile → BytesNeeded → Type 0
+IsSlicedHeldBytes p = IsOfHandles p.proxies (sliced_held_bytes p)
 
 -- a call for the memory of a heap with these settings: pages, bytes of a page, and proxies
-abbrev pub IsNeededCall : ℕ → ℕ → ℕ → ℤ → NphNeeded → NphNeeded → Type 0
-IsNeededCall pages page_bytes proxies code before after =
-    AreNeeded (setting_fault pages page_bytes 1 proxies) (IsHeldBytes (profile_from pages page_bytes 1 proxies)) code before after
+abbrev pub IsSlicedNeededCall : ℕ → ℕ → ℕ → ℤ → NphNeeded → NphNeeded → Type 0
+IsSlicedNeededCall pages page_bytes proxies code before after =
+    AreNeeded (setting_fault pages page_bytes 1 proxies) (IsSlicedHeldBytes (profile_from pages page_bytes 1 proxies)) code before after

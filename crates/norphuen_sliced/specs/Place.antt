@@ -4,16 +4,16 @@ use Rattle.c_base.specs.CallerHeap.{CallerHeap}
 use Rattle.c_base.specs.Place as base
 use Rattle.c_base.specs.contracts.heap.LendableHeap.{the_row as heap_row}
 use Rattle.c_base.specs.declared.heap.LendableHeap.{LendableHeap}
-use Rattle.norphuen_sliced.specs.HeldState.{HeldState}
-use Rattle.norphuen_sliced.specs.Sliced.{loose_heap, open_heap}
+use Rattle.norphuen_sliced.specs.HeldState.{SlicedHeldState}
+use Rattle.norphuen_sliced.specs.Sliced.{loose_sliced, open_sliced}
 use Rattle.norphuen_sliced.specs.contracts.loose.HeldLendableLooseHeld.TheImpl.{ghosts}
 use Rattle.norphuen_sliced.specs.contracts.sliced.NphHeap.{the_row}
 use Rattle.norphuen_sliced.specs.declared.loose.LooseHeld.{LooseHeld}
 use Rattle.norphuen_sliced.specs.declared.sliced.NphHeap.{NphHeap}
 
 -- the `LendableHeap` that the struct is
-abbrev pub inner_of : NphHeap → LendableHeap HeldState LooseHeld
-inner_of n = record {
+abbrev pub sliced_inner_of : NphHeap → LendableHeap SlicedHeldState LooseHeld
+sliced_inner_of n = record {
   place = record { at = n.place.at; held = n.place.held };
   loan = record { of = record {}; heap = n.loan.heap; block = n.loan.block; words = n.loan.words };
   last = n.last;
@@ -25,8 +25,8 @@ inner_of n = record {
 }
 
 -- the struct that a `LendableHeap` is
-abbrev pub outer_of : LendableHeap HeldState LooseHeld → NphHeap
-outer_of h = record {
+abbrev pub sliced_outer_of : LendableHeap SlicedHeldState LooseHeld → NphHeap
+sliced_outer_of h = record {
   place = record { at = h.place.at; held = h.place.held };
   loan = record { of = record {}; heap = h.loan.heap; block = h.loan.block; words = h.loan.words };
   last = h.last;
@@ -38,9 +38,9 @@ outer_of h = record {
 }
 
 -- the heap of the struct: closed, open or lent
-abbrev pub held_in : NphHeap → CallerHeap HeldState
-held_in n = base.held_in (inner_of n)
+abbrev pub sliced_heap_in : NphHeap → CallerHeap SlicedHeldState
+sliced_heap_in n = base.caller_heap (sliced_inner_of n)
 
 -- s is the borrow of the struct, r that of the `LendableHeap` in the same memory: when r ends, the struct is what r leaves
-abbrev pub LendsInner : MutBor NphHeap → MutBor (LendableHeap HeldState LooseHeld) → Fml
-LendsInner s r = Lends the_row (heap_row open_heap loose_heap ghosts) s r outer_of
+abbrev pub LendsSlicedInner : MutBor NphHeap → MutBor (LendableHeap SlicedHeldState LooseHeld) → Fml
+LendsSlicedInner s r = Lends the_row (heap_row open_sliced loose_sliced ghosts) s r sliced_outer_of

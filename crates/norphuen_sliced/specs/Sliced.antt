@@ -4,9 +4,9 @@ use Rattle.norphuen_sliced.specs.contracts.held.Held as held
 use Rattle.norphuen_sliced.specs.contracts.loose.LooseHeld as loose
 
 -- an open sliced heap, `Held`
-abbrev pub open_heap : RattleType
-open_heap = held.the_row
+abbrev pub open_sliced : RattleType
+open_sliced = held.the_row
 
 -- its fields, `LooseHeld`
-abbrev pub loose_heap : RattleType
-loose_heap = loose.the_row
+abbrev pub loose_sliced : RattleType
+loose_sliced = loose.the_row

@@ -3,7 +3,7 @@
 ghost use Rattle.std.specs.Prelude.{◌≡◌, ◌≤◌, IfSome, is_some};
 ghost use Rattle.cf_base.specs.Settings.{profile_of};
 ghost use Rattle.slice_model.specs.State.{job_slot};
-ghost use Rattle.norphuen_sliced.specs.Codes.{fault_code, refusal_code};
+ghost use Rattle.norphuen_sliced.specs.Codes.{slice_fault_code, slice_refusal_code};
 
 use c_base::{
     BUSY, DONE, Handles, NphClass, NphHeapTotals, PROXY, SIZE, SPACE, UNKNOWN, of_access,
@@ -29,11 +29,11 @@ pub struct Held {
 
 impl Model for Held {
     ghost use Rattle.std.specs.Prelude.{IsTrue};
-    ghost use Rattle.norphuen_sliced.specs.HeldState.{HeldState, held_code};
+    ghost use Rattle.norphuen_sliced.specs.HeldState.{SlicedHeldState, sliced_held_code};
 
-    ghost Value = { HeldState };
+    ghost Value = { SlicedHeldState };
 
-    ghost coded = { held_code };
+    ghost coded = { sliced_held_code };
 
     ghost view = { λ h. record { heap = h.heap; steps = h.steps; handles = h.handles } };
 
@@ -42,14 +42,14 @@ impl Model for Held {
 
 impl Held {
     ghost use Rattle.c_base.specs.Handles.{largest};
-    ghost use Rattle.norphuen_sliced.specs.Calls.{IsClassCall, IsFiguresCall, IsFreeCall, IsFreshHeap, IsLeftCall, IsLengthCall, IsMallocCall, IsMovingCall, IsPlaceCall, IsReadCall, IsRoomCall, IsSlotWordsCall, IsStepCall, IsStepsCall, IsTotalsCall, IsWriteCall};
+    ghost use Rattle.norphuen_sliced.specs.Calls.{IsFreshSlicedHeap, IsLeftCall, IsMovingCall, IsSlicedClassCall, IsSlicedFiguresCall, IsSlicedFreeCall, IsSlicedLengthCall, IsSlicedMallocCall, IsSlicedPlaceCall, IsSlicedReadCall, IsSlicedRoomCall, IsSlicedSlotWordsCall, IsSlicedStepsCall, IsSlicedTotalsCall, IsSlicedWriteCall, IsStepCall};
 
     /// For C, opens a sliced heap without objects, with slices of at most `quantum` words, in a block of its own. Its
     /// handles are larger than `last`. Returns `None` if out of memory.
     pub fn open(memory: Memory, s: &Settings, quantum: u32, last: u32) -> Option<Box<Held>>
         requires least { 1 ≤ quantum }
         requires most { quantum ≤ 16384 }
-        ensures { IfSome result (λ b. IsFreshHeap (profile_of s.now) quantum last b.value) }
+        ensures { IfSome result (λ b. IsFreshSlicedHeap (profile_of s.now) quantum last b.value) }
     {
         let alloc = Global::new(memory);
         let handles = Handles::new(alloc, s.proxies, last)?;
@@ -67,7 +67,7 @@ impl Held {
     /// For C, makes an object of `bytes` zeros in the sliced heap and writes its handle into `handle`. Returns `DONE`,
     /// or the code of the refusal: `SIZE`, `PROXY`, `SPACE` or `BUSY`. After a refusal `handle` is unchanged.
     pub fn malloc(&mut self, bytes: u32, handle: &mut u32) -> i32
-        ensures { IsMallocCall self.old bytes handle.old result handle.new self.new }
+        ensures { IsSlicedMallocCall self.old bytes handle.old result handle.new self.new }
     {
         let mut meter = Meter::for_library(self.memory);
         let answer = self.heap.malloc(bytes, meter.steps());
@@ -84,7 +84,7 @@ impl Held {
     /// For C, frees an object, and does the first slice of the job that this leaves. Returns `DONE`; else, with no
     /// object changed, `UNKNOWN` if the handle isn't live, or `BUSY` if a job is pending.
     pub fn free(&mut self, handle: u32) -> i32
-        ensures { IsFreeCall self.old handle result self.new }
+        ensures { IsSlicedFreeCall self.old handle result self.new }
     {
         let number = self.handles.number_in(handle);
         let mut meter = Meter::for_library(self.memory);
@@ -130,7 +130,7 @@ impl Held {
     /// For C, writes the bytes into an object, from its byte `at` on, also while a job moves it. Returns `DONE`;
     /// `UNKNOWN` if the handle isn't live, or `RANGE` if the bytes pass the object's end, and then no object changes.
     pub fn write(&mut self, handle: u32, at: u32, bytes: &[u8]) -> i32
-        ensures { IsWriteCall self.old handle at bytes.now result self.new }
+        ensures { IsSlicedWriteCall self.old handle at bytes.now result self.new }
     {
         let number = self.handles.number_in(handle);
         let mut meter = Meter::for_library(self.memory);
@@ -145,7 +145,7 @@ impl Held {
     /// For C, fills `out` with the bytes of an object from its byte `at` on, also while a job moves it. Returns `DONE`;
     /// `UNKNOWN` if the handle isn't live, or `RANGE` if the bytes pass the object's end, and then `out` is unchanged.
     pub fn read(&mut self, handle: u32, at: u32, out: &mut [u8]) -> i32
-        ensures { IsReadCall self.old handle at out.old result out.new self.new }
+        ensures { IsSlicedReadCall self.old handle at out.old result out.new self.new }
     {
         let number = self.handles.number_in(handle);
         let mut meter = Meter::for_library(self.memory);
@@ -160,7 +160,7 @@ impl Held {
     /// For C, writes the length in bytes of a sliced heap's object into `bytes`. Returns `DONE`, or `UNKNOWN` if the
     /// handle isn't live; then `bytes` is unchanged.
     pub fn length(&mut self, handle: u32, bytes: &mut u32) -> i32
-        ensures { IsLengthCall self.old handle bytes.old result bytes.new self.new }
+        ensures { IsSlicedLengthCall self.old handle bytes.old result bytes.new self.new }
     {
         let number = self.handles.number_in(handle);
         let mut meter = Meter::for_library(self.memory);
@@ -178,7 +178,7 @@ impl Held {
     /// For C's sliced heap, writes the words of an object's slot into `words`: those that a free of it clears. Returns
     /// `DONE`, or `UNKNOWN` if the handle isn't live; then `words` is unchanged.
     pub fn slot_words(&mut self, handle: u32, words: &mut u32) -> i32
-        ensures { IsSlotWordsCall self.old handle words.old result words.new self.new }
+        ensures { IsSlicedSlotWordsCall self.old handle words.old result words.new self.new }
     {
         let number = self.handles.number_in(handle);
         let mut meter = Meter::for_library(self.memory);
@@ -196,7 +196,7 @@ impl Held {
     /// For C, writes the sliced heap's class of an object of `bytes` bytes, numbered from 0, into `class`. Returns
     /// `DONE`, or `SIZE` if it needs more than a page; then `class` is unchanged.
     pub fn class_of(&mut self, bytes: u32, class: &mut u32) -> i32
-        ensures { IsClassCall self.old bytes class.old result class.new self.new }
+        ensures { IsSlicedClassCall self.old bytes class.old result class.new self.new }
     {
         let mut meter = Meter::for_library(self.memory);
         let answer = self.heap.class_of(bytes, meter.steps());
@@ -213,7 +213,7 @@ impl Held {
     /// For C, writes the figures of a class of the sliced heap, numbered from 0, into `figures`. A pending job's slot
     /// counts as used. Returns `DONE`, or `UNKNOWN` if there is no such class; then `figures` is unchanged.
     pub fn figures(&mut self, class: u32, figures: &mut NphClass) -> i32
-        ensures { IsFiguresCall self.old class figures.old result figures.new self.new }
+        ensures { IsSlicedFiguresCall self.old class figures.old result figures.new self.new }
     {
         match self.heap.figures(class) {
             Some(f) => {
@@ -227,7 +227,7 @@ impl Held {
     /// For C, writes the figures of the whole sliced heap into `totals`. A pending job's slot counts as used and as
     /// taken. Always returns `DONE`.
     pub fn totals(&mut self, totals: &mut NphHeapTotals) -> i32
-        ensures { IsTotalsCall self.old result totals.new self.new }
+        ensures { IsSlicedTotalsCall self.old result totals.new self.new }
     {
         let all = self.heap.totals();
         *totals = NphHeapTotals::of(all);
@@ -236,7 +236,7 @@ impl Held {
 
     /// Returns the code that a sliced heap's malloc of `bytes` bytes would return now; makes no object.
     pub fn has_room(&mut self, bytes: u32) -> i32
-        ensures { IsRoomCall self.old bytes result self.new }
+        ensures { IsSlicedRoomCall self.old bytes result self.new }
     {
         let mut meter = Meter::for_library(self.memory);
         let answer = self.heap.has_room(bytes, meter.steps());
@@ -249,7 +249,7 @@ impl Held {
 
     /// For C, writes the steps of the sliced heap's last call into `steps`; 0 if there was none. Always returns `DONE`.
     pub fn last_steps(&mut self, steps: &mut u64) -> i32
-        ensures { IsStepsCall self.old result steps.new self.new }
+        ensures { IsSlicedStepsCall self.old result steps.new self.new }
     {
         *steps = self.steps;
         DONE
@@ -259,7 +259,7 @@ impl Held {
     /// that moves the object moves it there. Returns `DONE`, or `UNKNOWN` if the handle isn't live; then `place` is
     /// unchanged.
     pub fn place(&mut self, handle: u32, place: &mut u32) -> i32
-        ensures { IsPlaceCall self.old handle place.old result place.new self.new }
+        ensures { IsSlicedPlaceCall self.old handle place.old result place.new self.new }
     {
         let number = self.handles.number_in(handle);
         let mut meter = Meter::for_library(self.memory);
@@ -291,7 +291,7 @@ impl Held {
 
 /// For C, the code of a sliced heap's refused malloc.
 fn of_refusal(cause: SliceRefusal) -> i32
-    ensures { result ≡ refusal_code cause }
+    ensures { result ≡ slice_refusal_code cause }
 {
     match cause {
         SliceRefusal::Size => SIZE,
@@ -303,7 +303,7 @@ fn of_refusal(cause: SliceRefusal) -> i32
 
 /// For C, the code of a sliced heap's refused free.
 fn of_fault(cause: SliceFault) -> i32
-    ensures { result ≡ fault_code cause }
+    ensures { result ≡ slice_fault_code cause }
 {
     match cause {
         SliceFault::Unknown => UNKNOWN,

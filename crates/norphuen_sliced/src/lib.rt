@@ -7,13 +7,13 @@
 
 ghost use Rattle.std.specs.Prelude.{◌≡◌};
 ghost use Rattle.c_base.specs.AtPlace.{IsCallOnOpen, IsReturnCall};
-ghost use Rattle.norphuen_sliced.specs.Place.{held_in};
+ghost use Rattle.norphuen_sliced.specs.Place.{sliced_heap_in};
 ghost use Rattle.c_base.specs.Version.{version};
-ghost use Rattle.norphuen_sliced.specs.AtPlace.{IsLendCall, IsOpenCall};
-ghost use Rattle.norphuen_sliced.specs.CallerHeap.{closed_by};
-ghost use Rattle.norphuen_sliced.specs.Calls.{IsClassCall, IsFiguresCall, IsFreeCall, IsLeftCall, IsLengthCall, IsMallocCall, IsMovingCall, IsPlaceCall, IsReadCall, IsRoomCall, IsSlotWordsCall, IsStepCall, IsStepsCall, IsTotalsCall, IsWriteCall};
+ghost use Rattle.norphuen_sliced.specs.AtPlace.{IsSlicedLendCall, IsSlicedOpenCall};
+ghost use Rattle.norphuen_sliced.specs.CallerHeap.{sliced_closed_by};
+ghost use Rattle.norphuen_sliced.specs.Calls.{IsLeftCall, IsMovingCall, IsSlicedClassCall, IsSlicedFiguresCall, IsSlicedFreeCall, IsSlicedLengthCall, IsSlicedMallocCall, IsSlicedPlaceCall, IsSlicedReadCall, IsSlicedRoomCall, IsSlicedSlotWordsCall, IsSlicedStepsCall, IsSlicedTotalsCall, IsSlicedWriteCall, IsStepCall};
 ghost use Rattle.norphuen_sliced.specs.Most.{most_access, most_free, most_has_room, most_length, most_malloc, most_step};
-ghost use Rattle.norphuen_sliced.specs.Needed.{IsNeededCall};
+ghost use Rattle.norphuen_sliced.specs.Needed.{IsSlicedNeededCall};
 
 mod held;
 pub mod laws;
@@ -50,7 +50,7 @@ pub extern "C" fn nph_sliced_open(
     proxies: u32,
     quantum: u32,
 ) -> i32
-    ensures { IsOpenCall (held_in heap.old) pages page_bytes proxies quantum result (held_in heap.new) }
+    ensures { IsSlicedOpenCall (sliced_heap_in heap.old) pages page_bytes proxies quantum result (sliced_heap_in heap.new) }
 {
     let heap = heap.inner();
     let last = match heap.closed() {
@@ -84,7 +84,7 @@ pub extern "C" fn nph_sliced_bytes_needed(
     proxies: u32,
     needed: &mut NphNeeded,
 ) -> i32
-    ensures { IsNeededCall pages page_bytes proxies result needed.old needed.new }
+    ensures { IsSlicedNeededCall pages page_bytes proxies result needed.old needed.new }
 {
     match Settings::check(pages, page_bytes, 1, proxies) {
         Err(fault) => of_setting(fault),
@@ -98,7 +98,7 @@ pub extern "C" fn nph_sliced_bytes_needed(
 /// Closes the heap and frees its memory; does nothing if it is closed (`LendableHeap::close`).
 #[unsafe(no_mangle)]
 pub extern "C" fn nph_sliced_close(heap: &mut NphHeap, memory: Memory)
-    ensures { held_in heap.new ≡ closed_by (held_in heap.old) }
+    ensures { sliced_heap_in heap.new ≡ sliced_closed_by (sliced_heap_in heap.old) }
 {
     heap.inner().close(memory);
 }
@@ -106,8 +106,8 @@ pub extern "C" fn nph_sliced_close(heap: &mut NphHeap, memory: Memory)
 /// Makes an object of `bytes` zeros and writes its handle into `handle` (`Held::malloc`).
 #[unsafe(no_mangle)]
 pub extern "C" fn nph_sliced_malloc(heap: &mut NphHeap, bytes: u32, handle: &mut u32) -> i32
-    ensures { IsCallOnOpen (held_in heap.old) result (held_in heap.new) (handle.new ≡ handle.old)
-        (λ h h2. IsMallocCall h bytes handle.old result handle.new h2) }
+    ensures { IsCallOnOpen (sliced_heap_in heap.old) result (sliced_heap_in heap.new) (handle.new ≡ handle.old)
+        (λ h h2. IsSlicedMallocCall h bytes handle.old result handle.new h2) }
 {
     let heap = heap.inner();
     if heap.is_open() {
@@ -120,8 +120,8 @@ pub extern "C" fn nph_sliced_malloc(heap: &mut NphHeap, bytes: u32, handle: &mut
 /// Frees an object, and does the first slice of the job that this leaves (`Held::free`).
 #[unsafe(no_mangle)]
 pub extern "C" fn nph_sliced_free(heap: &mut NphHeap, handle: u32) -> i32
-    ensures { IsCallOnOpen (held_in heap.old) result (held_in heap.new) (Unit {0})
-        (λ h h2. IsFreeCall h handle result h2) }
+    ensures { IsCallOnOpen (sliced_heap_in heap.old) result (sliced_heap_in heap.new) (Unit {0})
+        (λ h h2. IsSlicedFreeCall h handle result h2) }
 {
     let heap = heap.inner();
     if heap.is_open() {
@@ -134,7 +134,7 @@ pub extern "C" fn nph_sliced_free(heap: &mut NphHeap, handle: u32) -> i32
 /// Does one slice of the pending job (`Held::step`).
 #[unsafe(no_mangle)]
 pub extern "C" fn nph_sliced_step(heap: &mut NphHeap) -> i32
-    ensures { IsCallOnOpen (held_in heap.old) result (held_in heap.new) (Unit {0})
+    ensures { IsCallOnOpen (sliced_heap_in heap.old) result (sliced_heap_in heap.new) (Unit {0})
         (λ h h2. IsStepCall h result h2) }
 {
     let heap = heap.inner();
@@ -148,7 +148,7 @@ pub extern "C" fn nph_sliced_step(heap: &mut NphHeap) -> i32
 /// Writes into `words` how many words the pending job has yet to do (`Held::left`).
 #[unsafe(no_mangle)]
 pub extern "C" fn nph_sliced_left(heap: &mut NphHeap, words: &mut u32) -> i32
-    ensures { IsCallOnOpen (held_in heap.old) result (held_in heap.new) (words.new ≡ words.old)
+    ensures { IsCallOnOpen (sliced_heap_in heap.old) result (sliced_heap_in heap.new) (words.new ≡ words.old)
         (λ h h2. IsLeftCall h result words.new h2) }
 {
     let heap = heap.inner();
@@ -162,7 +162,7 @@ pub extern "C" fn nph_sliced_left(heap: &mut NphHeap, words: &mut u32) -> i32
 /// Writes into `handle` which object the pending job moves (`Held::moving`).
 #[unsafe(no_mangle)]
 pub extern "C" fn nph_sliced_moving(heap: &mut NphHeap, handle: &mut u32) -> i32
-    ensures { IsCallOnOpen (held_in heap.old) result (held_in heap.new) (handle.new ≡ handle.old)
+    ensures { IsCallOnOpen (sliced_heap_in heap.old) result (sliced_heap_in heap.new) (handle.new ≡ handle.old)
         (λ h h2. IsMovingCall h result handle.new h2) }
 {
     let heap = heap.inner();
@@ -176,8 +176,8 @@ pub extern "C" fn nph_sliced_moving(heap: &mut NphHeap, handle: &mut u32) -> i32
 /// Writes `bytes` into an object, from its byte `at` on (`Held::write`).
 #[unsafe(no_mangle)]
 pub extern "C" fn nph_sliced_write(heap: &mut NphHeap, handle: u32, at: u32, bytes: &[u8]) -> i32
-    ensures { IsCallOnOpen (held_in heap.old) result (held_in heap.new) (Unit {0})
-        (λ h h2. IsWriteCall h handle at bytes.now result h2) }
+    ensures { IsCallOnOpen (sliced_heap_in heap.old) result (sliced_heap_in heap.new) (Unit {0})
+        (λ h h2. IsSlicedWriteCall h handle at bytes.now result h2) }
 {
     let heap = heap.inner();
     if heap.is_open() {
@@ -190,8 +190,8 @@ pub extern "C" fn nph_sliced_write(heap: &mut NphHeap, handle: u32, at: u32, byt
 /// Fills `out` with bytes of an object, from its byte `at` on (`Held::read`).
 #[unsafe(no_mangle)]
 pub extern "C" fn nph_sliced_read(heap: &mut NphHeap, handle: u32, at: u32, out: &mut [u8]) -> i32
-    ensures { IsCallOnOpen (held_in heap.old) result (held_in heap.new) (out.new ≡ out.old)
-        (λ h h2. IsReadCall h handle at out.old result out.new h2) }
+    ensures { IsCallOnOpen (sliced_heap_in heap.old) result (sliced_heap_in heap.new) (out.new ≡ out.old)
+        (λ h h2. IsSlicedReadCall h handle at out.old result out.new h2) }
 {
     let heap = heap.inner();
     if heap.is_open() {
@@ -204,8 +204,8 @@ pub extern "C" fn nph_sliced_read(heap: &mut NphHeap, handle: u32, at: u32, out:
 /// Writes the object's length in bytes into `bytes` (`Held::length`).
 #[unsafe(no_mangle)]
 pub extern "C" fn nph_sliced_length(heap: &mut NphHeap, handle: u32, bytes: &mut u32) -> i32
-    ensures { IsCallOnOpen (held_in heap.old) result (held_in heap.new) (bytes.new ≡ bytes.old)
-        (λ h h2. IsLengthCall h handle bytes.old result bytes.new h2) }
+    ensures { IsCallOnOpen (sliced_heap_in heap.old) result (sliced_heap_in heap.new) (bytes.new ≡ bytes.old)
+        (λ h h2. IsSlicedLengthCall h handle bytes.old result bytes.new h2) }
 {
     let heap = heap.inner();
     if heap.is_open() {
@@ -218,8 +218,8 @@ pub extern "C" fn nph_sliced_length(heap: &mut NphHeap, handle: u32, bytes: &mut
 /// Returns the code that a malloc of `bytes` bytes would return now (`Held::has_room`).
 #[unsafe(no_mangle)]
 pub extern "C" fn nph_sliced_has_room(heap: &mut NphHeap, bytes: u32) -> i32
-    ensures { IsCallOnOpen (held_in heap.old) result (held_in heap.new) (Unit {0})
-        (λ h h2. IsRoomCall h bytes result h2) }
+    ensures { IsCallOnOpen (sliced_heap_in heap.old) result (sliced_heap_in heap.new) (Unit {0})
+        (λ h h2. IsSlicedRoomCall h bytes result h2) }
 {
     let heap = heap.inner();
     if heap.is_open() {
@@ -232,8 +232,8 @@ pub extern "C" fn nph_sliced_has_room(heap: &mut NphHeap, bytes: u32) -> i32
 /// Writes the words of an object's slot into `words`, those that a free of it clears (`Held::slot_words`).
 #[unsafe(no_mangle)]
 pub extern "C" fn nph_sliced_slot_words(heap: &mut NphHeap, handle: u32, words: &mut u32) -> i32
-    ensures { IsCallOnOpen (held_in heap.old) result (held_in heap.new) (words.new ≡ words.old)
-        (λ h h2. IsSlotWordsCall h handle words.old result words.new h2) }
+    ensures { IsCallOnOpen (sliced_heap_in heap.old) result (sliced_heap_in heap.new) (words.new ≡ words.old)
+        (λ h h2. IsSlicedSlotWordsCall h handle words.old result words.new h2) }
 {
     let heap = heap.inner();
     if heap.is_open() {
@@ -246,8 +246,8 @@ pub extern "C" fn nph_sliced_slot_words(heap: &mut NphHeap, handle: u32, words: 
 /// Writes the size class of an object of `bytes` bytes, numbered from 0, into `class` (`Held::class_of`).
 #[unsafe(no_mangle)]
 pub extern "C" fn nph_sliced_class_of(heap: &mut NphHeap, bytes: u32, class: &mut u32) -> i32
-    ensures { IsCallOnOpen (held_in heap.old) result (held_in heap.new) (class.new ≡ class.old)
-        (λ h h2. IsClassCall h bytes class.old result class.new h2) }
+    ensures { IsCallOnOpen (sliced_heap_in heap.old) result (sliced_heap_in heap.new) (class.new ≡ class.old)
+        (λ h h2. IsSlicedClassCall h bytes class.old result class.new h2) }
 {
     let heap = heap.inner();
     if heap.is_open() {
@@ -260,8 +260,8 @@ pub extern "C" fn nph_sliced_class_of(heap: &mut NphHeap, bytes: u32, class: &mu
 /// Writes the figures of a size class, numbered from 0, into `figures` (`Held::figures`).
 #[unsafe(no_mangle)]
 pub extern "C" fn nph_sliced_figures(heap: &mut NphHeap, class: u32, figures: &mut NphClass) -> i32
-    ensures { IsCallOnOpen (held_in heap.old) result (held_in heap.new) (figures.new ≡ figures.old)
-        (λ h h2. IsFiguresCall h class figures.old result figures.new h2) }
+    ensures { IsCallOnOpen (sliced_heap_in heap.old) result (sliced_heap_in heap.new) (figures.new ≡ figures.old)
+        (λ h h2. IsSlicedFiguresCall h class figures.old result figures.new h2) }
 {
     let heap = heap.inner();
     if heap.is_open() {
@@ -274,8 +274,8 @@ pub extern "C" fn nph_sliced_figures(heap: &mut NphHeap, class: u32, figures: &m
 /// Writes the figures of the whole heap into `totals` (`Held::totals`).
 #[unsafe(no_mangle)]
 pub extern "C" fn nph_sliced_totals(heap: &mut NphHeap, totals: &mut NphHeapTotals) -> i32
-    ensures { IsCallOnOpen (held_in heap.old) result (held_in heap.new) (totals.new ≡ totals.old)
-        (λ h h2. IsTotalsCall h result totals.new h2) }
+    ensures { IsCallOnOpen (sliced_heap_in heap.old) result (sliced_heap_in heap.new) (totals.new ≡ totals.old)
+        (λ h h2. IsSlicedTotalsCall h result totals.new h2) }
 {
     let heap = heap.inner();
     if heap.is_open() {
@@ -288,8 +288,8 @@ pub extern "C" fn nph_sliced_totals(heap: &mut NphHeap, totals: &mut NphHeapTota
 /// Writes the steps of the last call into `steps` (`Held::last_steps`).
 #[unsafe(no_mangle)]
 pub extern "C" fn nph_sliced_last_steps(heap: &mut NphHeap, steps: &mut u64) -> i32
-    ensures { IsCallOnOpen (held_in heap.old) result (held_in heap.new) (steps.new ≡ steps.old)
-        (λ h h2. IsStepsCall h result steps.new h2) }
+    ensures { IsCallOnOpen (sliced_heap_in heap.old) result (sliced_heap_in heap.new) (steps.new ≡ steps.old)
+        (λ h h2. IsSlicedStepsCall h result steps.new h2) }
 {
     let heap = heap.inner();
     if heap.is_open() {
@@ -303,8 +303,8 @@ pub extern "C" fn nph_sliced_last_steps(heap: &mut NphHeap, steps: &mut u64) -> 
 /// is the object's header, and its bytes begin at the next word.
 #[unsafe(no_mangle)]
 pub extern "C" fn nph_sliced_place(heap: &mut NphHeap, handle: u32, place: &mut u32) -> i32
-    ensures { IsCallOnOpen (held_in heap.old) result (held_in heap.new) (place.new ≡ place.old)
-        (λ h h2. IsPlaceCall h handle place.old result place.new h2) }
+    ensures { IsCallOnOpen (sliced_heap_in heap.old) result (sliced_heap_in heap.new) (place.new ≡ place.old)
+        (λ h h2. IsSlicedPlaceCall h handle place.old result place.new h2) }
 {
     let heap = heap.inner();
     if heap.is_open() {
@@ -318,7 +318,7 @@ pub extern "C" fn nph_sliced_place(heap: &mut NphHeap, handle: u32, place: &mut 
 /// job is pending. Until `nph_sliced_return` the caller may read the words, and write the bytes of live objects.
 #[unsafe(no_mangle)]
 pub extern "C" fn nph_sliced_lend(heap: &mut NphHeap, words: &mut *mut u64) -> i32
-    ensures { IsLendCall (held_in heap.old) result (held_in heap.new) words.old words.new }
+    ensures { IsSlicedLendCall (sliced_heap_in heap.old) result (sliced_heap_in heap.new) words.old words.new }
 {
     let heap = heap.inner();
     if heap.is_open() {
@@ -332,7 +332,7 @@ pub extern "C" fn nph_sliced_lend(heap: &mut NphHeap, words: &mut *mut u64) -> i
 /// Ends the loan (`LendableHeap::end_loan`).
 #[unsafe(no_mangle)]
 pub extern "C" fn nph_sliced_return(heap: &mut NphHeap) -> i32
-    ensures { IsReturnCall (held_in heap.old) result (held_in heap.new) }
+    ensures { IsReturnCall (sliced_heap_in heap.old) result (sliced_heap_in heap.new) }
 {
     heap.inner().end_loan()
 }

@@ -3,8 +3,8 @@
 ghost use Rattle.std.specs.Prelude.{◌≡◌, IsSome, refl};
 ghost use Rattle.c_base.specs.Lending.{AreOf, IsFit};
 ghost use Rattle.std.specs.Borrow.{sem};
-ghost use Rattle.norphuen_sliced.specs.Loose.{lending as of_held, words_in, words_of};
-ghost use Rattle.norphuen_sliced.specs.LooseLoan.{LendsAllOf, LendsAllIn, LendsAllWords};
+ghost use Rattle.norphuen_sliced.specs.Loose.{sliced_lending as of_held, sliced_loose_words, sliced_words_in};
+ghost use Rattle.norphuen_sliced.specs.LooseLoan.{LendsSlicedOf, LendsSlicedIn, LendsSlicedWords};
 ghost use Rattle.norphuen_sliced.specs.Restored.{restored as same_words};
 
 use crate::held::Held;
@@ -32,7 +32,7 @@ pub struct LooseHeld {
 
 /// For a loan, borrows all words of the sliced heap's region.
 fn all_of(heap: &mut OpenHeap, memory: Memory) -> &mut [u64]
-    ensures* writes_back { sem 𝓛 (LendsAllOf heap.entry result) }
+    ensures* writes_back { sem 𝓛 (LendsSlicedOf heap.entry result) }
     ensures value { result.now ≡ heap.old.region }
 {
     let n = heap.region.len();
@@ -43,8 +43,8 @@ fn all_of(heap: &mut OpenHeap, memory: Memory) -> &mut [u64]
 /// For a loan, borrows all words of the region of a sliced heap that is open.
 fn all_in(inner: &mut Option<OpenHeap>, memory: Memory) -> &mut [u64]
     requires open { IsSome inner.old }
-    ensures* writes_back { sem 𝓛 (LendsAllIn inner.entry result) }
-    ensures value { result.now ≡ words_in inner.old }
+    ensures* writes_back { sem 𝓛 (LendsSlicedIn inner.entry result) }
+    ensures value { result.now ≡ sliced_words_in inner.old }
 {
     match inner {
         Some(heap) => all_of(heap, memory),
@@ -56,8 +56,8 @@ fn all_in(inner: &mut Option<OpenHeap>, memory: Memory) -> &mut [u64]
 /// as they then are.
 fn all_words(held: &mut LooseHeld) -> &mut [u64]
     requires open { IsSome held.old.heap.inner }
-    ensures* writes_back { sem 𝓛 (LendsAllWords held.entry result) }
-    ensures value { result.now ≡ words_of held.old }
+    ensures* writes_back { sem 𝓛 (LendsSlicedWords held.entry result) }
+    ensures value { result.now ≡ sliced_loose_words held.old }
 {
     let memory = held.memory;
     let heap = &mut held.heap;

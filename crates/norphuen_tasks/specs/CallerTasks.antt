@@ -4,20 +4,20 @@ use Rattle.cf_base.specs.Settings.{profile_from, setting_fault}
 use Rattle.c_base.specs.AtPlace.{IsOpenBy}
 use Rattle.c_base.specs.CallerHeap.{CallerHeap, closed_with}
 use Rattle.c_base.specs.Opening.{Opening}
-use Rattle.norphuen_tasks.specs.Calls.{IsFreshHeap}
+use Rattle.norphuen_tasks.specs.Calls.{IsFreshTasksHeap}
 use Rattle.norphuen_tasks.specs.Handles.{largest_of}
-use Rattle.norphuen_tasks.specs.Needed.{IsHeldBytes}
+use Rattle.norphuen_tasks.specs.Needed.{IsTasksHeldBytes}
 use Rattle.norphuen_tasks.specs.TasksState.{TasksState}
 
 -- how a heap is opened, what it needs, and its largest handle
 abbrev pub tasks_opening : Opening TasksState
-tasks_opening = record { takes = λ _. ⊤; is_fresh = IsFreshHeap; needs = IsHeldBytes; last = λ h. largest_of h.handles }
+tasks_opening = record { takes = λ _. ⊤; is_fresh = IsFreshTasksHeap; needs = IsTasksHeldBytes; last = λ h. largest_of h.handles }
 
 -- the heap after it is closed: the handles of the next one will be larger than all that its numbers have
-abbrev pub closed_by : CallerHeap TasksState → CallerHeap TasksState
-closed_by = closed_with tasks_opening.last
+abbrev pub tasks_closed_by : CallerHeap TasksState → CallerHeap TasksState
+tasks_closed_by = closed_with tasks_opening.last
 
 -- an open with these settings: pages, bytes of a page, and proxies of each task
-abbrev pub IsOpenCall : CallerHeap TasksState → ℕ → ℕ → ℕ → ℤ → CallerHeap TasksState → Type 0
-IsOpenCall old pages page_bytes proxies code new =
-    IsOpenBy (setting_fault pages page_bytes 1 proxies) (IsFreshHeap (profile_from pages page_bytes 1 proxies)) old code new
+abbrev pub IsTasksOpenCall : CallerHeap TasksState → ℕ → ℕ → ℕ → ℤ → CallerHeap TasksState → Type 0
+IsTasksOpenCall old pages page_bytes proxies code new =
+    IsOpenBy (setting_fault pages page_bytes 1 proxies) (IsFreshTasksHeap (profile_from pages page_bytes 1 proxies)) old code new

@@ -15,9 +15,9 @@ use Rattle.quota_model.specs.declared.answers.Admission.{Admission}
 use Rattle.quota_model.specs.declared.answers.Admission.TheVariants.{Yes}
 use Rattle.quota_model.specs.declared.answers.Need.{Need}
 use Rattle.quota_model.specs.declared.answers.QuotaFault.{QuotaFault}
-use Rattle.quota_heap.specs.Costs.{access_steps, free_cost, free_steps, length_steps, malloc_cost, most_of_malloc}
+use Rattle.quota_heap.specs.Costs.{most_of_malloc, task_access_steps, task_free_cost, task_free_steps, task_length_steps, task_malloc_cost}
 use Rattle.quota_heap.specs.State.{KeepsTasks, QuotaState, empty_state, objects_by, quota_of}
-use Rattle.quota_heap.specs.Steps.{IsFreeStep, IsMallocStep, IsQuotaStep, IsReadAnswer, IsWriteStep, figures_by, length_by}
+use Rattle.quota_heap.specs.Steps.{IsQuotaStep, IsTaskFreeStep, IsTaskMallocStep, IsTaskReadAnswer, IsTaskWriteStep, figures_by, length_by}
 use Rattle.step_ledger.specs.Counting.{RoseAtMost, RoseBy}
 use Rattle.c_base.specs.Codes.{access_code, free_code, malloc_code}
 use Rattle.c_base.specs.Handles.{number_in}
@@ -31,11 +31,11 @@ use Rattle.norphuen_tasks.specs.declared.answers.NphTask.{NphTask}
 
 -- a call that names a task does `step`; if there is no such task, the code is 4 (`UNKNOWN`), nothing changes, and `kept` holds: that the caller's values are
 -- unchanged
-abbrev pub IsOfTask : ℕ → TasksState → ℤ → TasksState → Type 0 → Type 0 → Type 0
-IsOfTask task old code new kept step = ((task < 16) × step) ⊎ ((16 ≤ task) × (code ≡ pos 4) × (new ≡ old) × kept)
+abbrev pub IsCallOfTask : ℕ → TasksState → ℤ → TasksState → Type 0 → Type 0 → Type 0
+IsCallOfTask task old code new kept step = ((task < 16) × step) ⊎ ((16 ≤ task) × (code ≡ pos 4) × (new ≡ old) × kept)
 
 -- `new` is a heap that was just opened with the settings p: no task has an object, all quotas are 0, its count is 0, and its handles are larger than `last`
-pub record IsFreshHeap (p : Profile) (last : ℕ) (new : TasksState) : Type 0 where
+pub record IsFreshTasksHeap (p : Profile) (last : ℕ) (new : TasksState) : Type 0 where
   pub whole : new.heap ≡ empty_state p
   pub rules : KeepsTasks new.heap
   pub steps : new.steps ≡ 0
@@ -51,65 +51,65 @@ pub record IsQuotaCall (old : TasksState) (task pages : ℕ) (code : ℤ) (new :
   pub same : new.handles ≡ old.handles
 
 -- a malloc of `bytes` bytes for a task
-pub record IsMallocCall (old : TasksState) (task bytes before : ℕ) (code : ℤ) (after : ℕ) (new : TasksState) : Type 0 where
+pub record IsTasksMallocCall (old : TasksState) (task bytes before : ℕ) (code : ℤ) (after : ℕ) (new : TasksState) : Type 0 where
   pub answer : Result Handle Refusal
   pub by_code : code ≡ malloc_code answer
   pub by_number : after ≡ malloc_number (handles_by old.handles task) before answer
-  pub step : IsMallocStep old.heap task bytes answer new.heap
+  pub step : IsTaskMallocStep old.heap task bytes answer new.heap
   pub rules : KeepsTasks new.heap
-  pub exact : RoseBy 0 new.steps (malloc_cost old.heap task bytes answer)
+  pub exact : RoseBy 0 new.steps (task_malloc_cost old.heap task bytes answer)
   pub bound : RoseAtMost 0 new.steps most_of_malloc
   pub same : new.handles ≡ old.handles
 
 -- a free of the object of a task that `handle` names, which is given up if the free succeeds
-pub record IsFreeCall (old : TasksState) (task handle : ℕ) (before : NphFreed) (code : ℤ) (after : NphFreed) (new : TasksState) : Type 0 where
+pub record IsTasksFreeCall (old : TasksState) (task handle : ℕ) (before : NphFreed) (code : ℤ) (after : NphFreed) (new : TasksState) : Type 0 where
   pub answer : Result Freed NotLive
   pub by_code : code ≡ free_code answer
   pub by_freed : after ≡ freed_shown (handles_by new.handles task) before answer
-  pub step : IsFreeStep old.heap task (number_in (handles_by old.handles task) handle) answer new.heap
+  pub step : IsTaskFreeStep old.heap task (number_in (handles_by old.handles task) handle) answer new.heap
   pub rules : KeepsTasks new.heap
-  pub exact : RoseBy 0 new.steps (free_cost old.heap task (number_in (handles_by old.handles task) handle) answer)
-  pub bound : RoseAtMost 0 new.steps (free_steps answer)
+  pub exact : RoseBy 0 new.steps (task_free_cost old.heap task (number_in (handles_by old.handles task) handle) answer)
+  pub bound : RoseAtMost 0 new.steps (task_free_steps answer)
   pub raises : new.handles ≡ raised_of old.handles task handle answer
 
 -- a write of `bytes` into the object of a task that `handle` names, from its byte `from` on
-pub record IsWriteCall (old : TasksState) (task handle from : ℕ) (bytes : List ℕ) (code : ℤ) (new : TasksState) : Type 0 where
+pub record IsTasksWriteCall (old : TasksState) (task handle from : ℕ) (bytes : List ℕ) (code : ℤ) (new : TasksState) : Type 0 where
   pub answer : Result (Unit {0}) AccessFault
   pub by_code : code ≡ access_code answer
-  pub step : IsWriteStep old.heap task (record { number = number_in (handles_by old.handles task) handle; from = from }) bytes answer new.heap
+  pub step : IsTaskWriteStep old.heap task (record { number = number_in (handles_by old.handles task) handle; from = from }) bytes answer new.heap
   pub rules : KeepsTasks new.heap
-  pub exact : RoseBy 0 new.steps (access_steps answer from (length bytes))
+  pub exact : RoseBy 0 new.steps (task_access_steps answer from (length bytes))
   pub same : new.handles ≡ old.handles
 
 -- a read of the object of a task that `handle` names, from its byte `from` on, into the caller's buffer; the heap is unchanged
-pub record IsReadCall (old : TasksState) (task handle from : ℕ) (before : List ℕ) (code : ℤ) (after : List ℕ) (new : TasksState) : Type 0 where
+pub record IsTasksReadCall (old : TasksState) (task handle from : ℕ) (before : List ℕ) (code : ℤ) (after : List ℕ) (new : TasksState) : Type 0 where
   pub answer : Result (Unit {0}) AccessFault
   pub by_code : code ≡ access_code answer
-  pub read : IsReadAnswer old.heap task (record { number = number_in (handles_by old.handles task) handle; from = from }) before answer after
-  pub exact : RoseBy 0 new.steps (access_steps answer from (length before))
+  pub read : IsTaskReadAnswer old.heap task (record { number = number_in (handles_by old.handles task) handle; from = from }) before answer after
+  pub exact : RoseBy 0 new.steps (task_access_steps answer from (length before))
   pub kept : new.heap ≡ old.heap
   pub same : new.handles ≡ old.handles
 
 -- a call for the length of the object of a task that `handle` names; the heap is unchanged
-pub record IsLengthCall (old : TasksState) (task handle before : ℕ) (code : ℤ) (after : ℕ) (new : TasksState) : Type 0 where
+pub record IsTasksLengthCall (old : TasksState) (task handle before : ℕ) (code : ℤ) (after : ℕ) (new : TasksState) : Type 0 where
   pub by_code : code ≡ found_code (length_by old.heap task (number_in (handles_by old.handles task) handle))
   pub by_length : after ≡ found_number (length_by old.heap task (number_in (handles_by old.handles task) handle)) before
-  pub exact : RoseBy 0 new.steps (length_steps (length_by old.heap task (number_in (handles_by old.handles task) handle)))
+  pub exact : RoseBy 0 new.steps (task_length_steps (length_by old.heap task (number_in (handles_by old.handles task) handle)))
   pub kept : new.heap ≡ old.heap
   pub same : new.handles ≡ old.handles
 
 -- the figures of a task: its quota, the pages that its objects need, which are those that it uses, and its live objects
-abbrev pub task_shown : QuotaState → ℕ → NphTask
-task_shown s task = record { quota = quota_of s task; pages = pages_needed (task_paging s.profile) (objects_by s task); live = len (objects_by s task) }
+abbrev pub task_figures_shown : QuotaState → ℕ → NphTask
+task_figures_shown s task = record { quota = quota_of s task; pages = pages_needed (task_paging s.profile) (objects_by s task); live = len (objects_by s task) }
 
 -- a call for the figures of a task; it changes nothing
 pub record IsTaskCall (old : TasksState) (task : ℕ) (code : ℤ) (after : NphTask) (new : TasksState) : Type 0 where
   pub by_code : code ≡ pos 0
-  pub by_task : after ≡ task_shown old.heap task
+  pub by_task : after ≡ task_figures_shown old.heap task
   pub kept : new ≡ old
 
 -- a call for the figures of a class of a task; it changes nothing
-pub record IsFiguresCall (old : TasksState) (task class : ℕ) (before : NphClass) (code : ℤ) (after : NphClass) (new : TasksState) : Type 0 where
+pub record IsTasksFiguresCall (old : TasksState) (task class : ℕ) (before : NphClass) (code : ℤ) (after : NphClass) (new : TasksState) : Type 0 where
   pub by_code : code ≡ found_code (figures_by old.heap task class)
   pub by_figures : after ≡ figures_shown (figures_by old.heap task class) before
   pub kept : new ≡ old
@@ -121,15 +121,15 @@ pub record IsUnassignedCall (old : TasksState) (code : ℤ) (after : ℕ) (new :
   pub kept : new ≡ old
 
 -- a task with this quota
-abbrev pub share_of : QuotaState → ℕ → Share
-share_of s quota = record { profile = s.profile; quota = quota }
+abbrev pub share_with : QuotaState → ℕ → Share
+share_with s quota = record { profile = s.profile; quota = quota }
 
 -- an admission of at most 64 needs
 pub record IsAdmitted (s : QuotaState) (task : ℕ) (needs : List Need) (code : ℤ) : Type 0 where
   pub answer : Admission
   pub by_code : code ≡ admission_code answer
   pub few : length needs ≤ 64
-  pub right : IsAdmission (share_of s (quota_of s task)) needs answer
+  pub right : IsAdmission (share_with s (quota_of s task)) needs answer
 
 -- a call that asks whether the quota of a task is enough for these needs; 17 (`ENTRIES`) if there are more than 64. It changes nothing
 abbrev pub IsAdmitCall : TasksState → ℕ → List Need → ℤ → TasksState → Type 0
@@ -137,8 +137,8 @@ IsAdmitCall old task needs code new = (IsAdmitted old.heap task needs code ⊎ (
 
 -- this is the least quota that is enough for these needs
 pub record IsLeastQuota (s : QuotaState) (needs : List Need) (quota : ℕ) : Type 0 where
-  pub enough : IsAdmission (share_of s quota) needs Yes
-  pub least : (less : ℕ) → less < quota → ¬ IsEnough (share_of s less) needs
+  pub enough : IsAdmission (share_with s quota) needs Yes
+  pub least : (less : ℕ) → less < quota → ¬ IsEnough (share_with s less) needs
 
 -- why there is no least quota: 17 (`ENTRIES`), there are more than 64 needs; 1 (`SIZE`), an object is larger than a page; 14 (`PROXIES`), there are more objects
 -- than a task has proxies

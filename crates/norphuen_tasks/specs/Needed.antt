@@ -9,14 +9,14 @@ use Rattle.quota_heap.specs.Needed.{quota_bytes}
 use Rattle.norphuen_tasks.specs.Handles.{handles_bytes}
 
 -- the heap, the handles of `count` numbers for each task, and the block of the open heap
-abbrev pub held_bytes : Profile → ℕ → BytesNeeded
-held_bytes p count = both (quota_bytes p) (both (handles_bytes count) (one_block 248))
+abbrev pub tasks_held_bytes : Profile → ℕ → BytesNeeded
+tasks_held_bytes p count = both (quota_bytes p) (both (handles_bytes count) (one_block 248))
 
 -- what opening a heap with the settings p asks for
-abbrev pub IsHeldBytes : Profile → BytesNeeded → Type 0
-IsHeldBytes p = IsOfHandles p.proxies (held_bytes p)
+abbrev pub IsTasksHeldBytes : Profile → BytesNeeded → Type 0
+IsTasksHeldBytes p = IsOfHandles p.proxies (tasks_held_bytes p)
 
 -- a call for the memory of a heap with these settings: pages, bytes of a page, and proxies of each task
-abbrev pub IsNeededCall : ℕ → ℕ → ℕ → ℤ → NphNeeded → NphNeeded → Type 0
-IsNeededCall pages page_bytes proxies code before after =
-    AreNeeded (setting_fault pages page_bytes 1 proxies) (IsHeldBytes (profile_from pages page_bytes 1 proxies)) code before after
+abbrev pub IsTasksNeededCall : ℕ → ℕ → ℕ → ℤ → NphNeeded → NphNeeded → Type 0
+IsTasksNeededCall pages page_bytes proxies code before after =
+    AreNeeded (setting_fault pages page_bytes 1 proxies) (IsTasksHeldBytes (profile_from pages page_bytes 1 proxies)) code before after

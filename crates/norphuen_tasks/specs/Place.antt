@@ -10,16 +10,16 @@ use Rattle.norphuen_tasks.specs.contracts.tasks.NphHeap.{the_row}
 use Rattle.norphuen_tasks.specs.declared.tasks.NphHeap.{NphHeap}
 
 -- the `ClosableHeap` that the struct is, and the struct that a `ClosableHeap` is
-abbrev pub inner_of : NphHeap → ClosableHeap TasksState
-inner_of n = record { place = record { at = n.place.at; held = n.place.held }; last = n.last; is_open = n.is_open; shown = n.shown }
+abbrev pub tasks_inner_of : NphHeap → ClosableHeap TasksState
+tasks_inner_of n = record { place = record { at = n.place.at; held = n.place.held }; last = n.last; is_open = n.is_open; shown = n.shown }
 
-abbrev pub outer_of : ClosableHeap TasksState → NphHeap
-outer_of h = record { place = record { at = h.place.at; held = h.place.held }; last = h.last; is_open = h.is_open; shown = h.shown }
+abbrev pub tasks_outer_of : ClosableHeap TasksState → NphHeap
+tasks_outer_of h = record { place = record { at = h.place.at; held = h.place.held }; last = h.last; is_open = h.is_open; shown = h.shown }
 
 -- the heap of the struct: closed or open
-abbrev pub held_in : NphHeap → CallerHeap TasksState
-held_in n = base.held_in (inner_of n)
+abbrev pub tasks_heap_in : NphHeap → CallerHeap TasksState
+tasks_heap_in n = base.caller_heap (tasks_inner_of n)
 
 -- s is the borrow of the struct, r that of the `ClosableHeap` in the same memory: when r ends, the struct is what r leaves
-abbrev pub LendsInner : MutBor NphHeap → MutBor (ClosableHeap TasksState) → Fml
-LendsInner s r = Lends the_row (heap_row open_heap) s r outer_of
+abbrev pub LendsTasksInner : MutBor NphHeap → MutBor (ClosableHeap TasksState) → Fml
+LendsTasksInner s r = Lends the_row (heap_row open_heap) s r tasks_outer_of

@@ -2,7 +2,7 @@
 //! Each call returns a code, and writes its other results through references. A call of a task that there is not returns `UNKNOWN`
 //! and changes nothing.
 ghost use Rattle.std.specs.Prelude.{◌≡◌, Err};
-ghost use Rattle.norphuen_tasks.specs.Calls.{IsAdmitCall, IsFiguresCall, IsFreeCall, IsLeastCall, IsLengthCall, IsMallocCall, IsOfTask, IsQuotaCall, IsReadCall, IsStepsCall, IsTaskCall, IsUnassignedCall, IsWriteCall};
+ghost use Rattle.norphuen_tasks.specs.Calls.{IsAdmitCall, IsCallOfTask, IsLeastCall, IsQuotaCall, IsStepsCall, IsTaskCall, IsTasksFiguresCall, IsTasksFreeCall, IsTasksLengthCall, IsTasksMallocCall, IsTasksReadCall, IsTasksWriteCall, IsUnassignedCall};
 ghost use Rattle.norphuen_tasks.specs.Codes.{admission_code, quota_code};
 ghost use Rattle.norphuen_tasks.specs.CallerTasks.{tasks_opening};
 
@@ -88,7 +88,7 @@ impl HeldTasks {
     /// to more pages than the region has, or `SPACE` if the task uses more than `pages` pages, and then nothing
     /// changes.
     pub fn set_quota(&mut self, task: u32, pages: u32) -> i32
-        ensures { IsOfTask task self.old result self.new (Unit {0}) (IsQuotaCall self.old task pages result self.new) }
+        ensures { IsCallOfTask task self.old result self.new (Unit {0}) (IsQuotaCall self.old task pages result self.new) }
     {
         if task >= TASKS {
             return UNKNOWN;
@@ -102,7 +102,7 @@ impl HeldTasks {
     /// For C, makes an object of `bytes` zeros for a task and writes its handle into `handle`. Returns `DONE`, or the
     /// code of the refusal: `SIZE`, `PROXY` or `SPACE`. After a refusal `handle` is unchanged.
     pub fn malloc(&mut self, task: u32, bytes: u32, handle: &mut u32) -> i32
-        ensures { IsOfTask task self.old result self.new (handle.new ≡ handle.old) (IsMallocCall self.old task bytes handle.old result handle.new self.new) }
+        ensures { IsCallOfTask task self.old result self.new (handle.new ≡ handle.old) (IsTasksMallocCall self.old task bytes handle.old result handle.new self.new) }
     {
         if task >= TASKS {
             return UNKNOWN;
@@ -123,7 +123,7 @@ impl HeldTasks {
     /// this task that moved there, or `NONE`. Returns `DONE`, or `UNKNOWN` if the handle isn't live in this task; then
     /// `freed` is unchanged.
     pub fn free(&mut self, task: u32, handle: u32, freed: &mut NphFreed) -> i32
-        ensures { IsOfTask task self.old result self.new (freed.new ≡ freed.old) (IsFreeCall self.old task handle freed.old result freed.new self.new) }
+        ensures { IsCallOfTask task self.old result self.new (freed.new ≡ freed.old) (IsTasksFreeCall self.old task handle freed.old result freed.new self.new) }
     {
         if task >= TASKS {
             return UNKNOWN;
@@ -148,7 +148,7 @@ impl HeldTasks {
     /// For C, writes the bytes into an object of a task, from its byte `at` on. Returns `DONE`; `UNKNOWN` if the handle
     /// isn't live in this task, or `RANGE` if the bytes pass the object's end, and then no object changes.
     pub fn write(&mut self, task: u32, handle: u32, at: u32, bytes: &[u8]) -> i32
-        ensures { IsOfTask task self.old result self.new (Unit {0}) (IsWriteCall self.old task handle at bytes.now result self.new) }
+        ensures { IsCallOfTask task self.old result self.new (Unit {0}) (IsTasksWriteCall self.old task handle at bytes.now result self.new) }
     {
         if task >= TASKS {
             return UNKNOWN;
@@ -168,7 +168,7 @@ impl HeldTasks {
     /// For C, fills `out` with the bytes of an object of a task from its byte `at` on. Returns `DONE`; `UNKNOWN` if the
     /// handle isn't live in this task, or `RANGE` if the bytes pass the object's end, and then `out` is unchanged.
     pub fn read(&mut self, task: u32, handle: u32, at: u32, out: &mut [u8]) -> i32
-        ensures { IsOfTask task self.old result self.new (out.new ≡ out.old) (IsReadCall self.old task handle at out.old result out.new self.new) }
+        ensures { IsCallOfTask task self.old result self.new (out.new ≡ out.old) (IsTasksReadCall self.old task handle at out.old result out.new self.new) }
     {
         if task >= TASKS {
             return UNKNOWN;
@@ -186,7 +186,7 @@ impl HeldTasks {
     /// For C, writes the length in bytes of an object of a task into `bytes`. Returns `DONE`, or `UNKNOWN` if the
     /// handle isn't live in this task; then `bytes` is unchanged.
     pub fn length(&mut self, task: u32, handle: u32, bytes: &mut u32) -> i32
-        ensures { IsOfTask task self.old result self.new (bytes.new ≡ bytes.old) (IsLengthCall self.old task handle bytes.old result bytes.new self.new) }
+        ensures { IsCallOfTask task self.old result self.new (bytes.new ≡ bytes.old) (IsTasksLengthCall self.old task handle bytes.old result bytes.new self.new) }
     {
         if task >= TASKS {
             return UNKNOWN;
@@ -206,7 +206,7 @@ impl HeldTasks {
 
     /// For C, writes the figures of a task into `figures`. Returns `DONE`.
     pub fn task(&mut self, task: u32, figures: &mut NphTask) -> i32
-        ensures { IsOfTask task self.old result self.new (figures.new ≡ figures.old) (IsTaskCall self.old task result figures.new self.new) }
+        ensures { IsCallOfTask task self.old result self.new (figures.new ≡ figures.old) (IsTaskCall self.old task result figures.new self.new) }
     {
         if task >= TASKS {
             return UNKNOWN;
@@ -222,7 +222,7 @@ impl HeldTasks {
     /// For C, writes the figures of a class of a task, numbered from 0, into `figures`. Returns `DONE`, or `UNKNOWN` if
     /// there is no such class; then `figures` is unchanged.
     pub fn figures(&mut self, task: u32, class: u32, figures: &mut NphClass) -> i32
-        ensures { IsOfTask task self.old result self.new (figures.new ≡ figures.old) (IsFiguresCall self.old task class figures.old result figures.new self.new) }
+        ensures { IsCallOfTask task self.old result self.new (figures.new ≡ figures.old) (IsTasksFiguresCall self.old task class figures.old result figures.new self.new) }
     {
         if task >= TASKS {
             return UNKNOWN;
@@ -249,7 +249,7 @@ impl HeldTasks {
     /// there are more than 64 needs, `SIZE` if an object is larger than a page, `PROXIES` if the needs are more objects
     /// than the task has proxies, or `SPACE`.
     pub fn admit(&mut self, task: u32, needs: &[Need]) -> i32
-        ensures { IsOfTask task self.old result self.new (Unit {0}) (IsAdmitCall self.old task needs.now result self.new) }
+        ensures { IsCallOfTask task self.old result self.new (Unit {0}) (IsAdmitCall self.old task needs.now result self.new) }
     {
         if task >= TASKS {
             return UNKNOWN;

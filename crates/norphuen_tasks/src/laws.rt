@@ -6,39 +6,39 @@ ghost use Rattle.c_base.specs.declared.answers.NphFreed.{NphFreed};
 ghost use Rattle.quota_heap.specs.State.{KeepsTasks, quota_of};
 ghost use Rattle.quota_model.specs.Admission.{IsEnough};
 ghost use Rattle.quota_model.specs.declared.answers.Need.{Need};
-ghost use Rattle.norphuen_tasks.specs.Calls.{IsAdmitCall, IsFreeCall, IsLengthCall, IsMallocCall, IsQuotaCall, IsReadCall, IsWriteCall, share_of};
+ghost use Rattle.norphuen_tasks.specs.Calls.{IsAdmitCall, IsQuotaCall, IsTasksFreeCall, IsTasksLengthCall, IsTasksMallocCall, IsTasksReadCall, IsTasksWriteCall, share_with};
 ghost use Rattle.norphuen_tasks.specs.Handles.{handles_by};
-ghost use Rattle.norphuen_tasks.specs.LeavesAlone.{LeavesAlone};
+ghost use Rattle.norphuen_tasks.specs.LeavesAlone.{LeavesTaskAlone};
 ghost use Rattle.norphuen_tasks.specs.TasksState.{TasksState};
 
 /// A call of a task leaves each other task's objects, with their addresses and bytes, its quota and its handles. On these and the
-/// settings alone depends what a call of that other task does (`IsMallocStep` and the others of `quota_heap`).
+/// settings alone depends what a call of that other task does (`IsTaskMallocStep` and the others of `quota_heap`).
 pub fn a_call_leaves_the_other_tasks_alone()
     ensures quota { (old new : TasksState) (task pages u : ℕ) (code : ℤ) → KeepsTasks old.heap → u ≢ task
-        → IsQuotaCall old task pages code new → LeavesAlone u old new }
+        → IsQuotaCall old task pages code new → LeavesTaskAlone u old new }
     ensures malloc { (old new : TasksState) (task bytes before after u : ℕ) (code : ℤ) → KeepsTasks old.heap → u ≢ task
-        → IsMallocCall old task bytes before code after new → LeavesAlone u old new }
+        → IsTasksMallocCall old task bytes before code after new → LeavesTaskAlone u old new }
     ensures free { (old new : TasksState) (task handle u : ℕ) (before after : NphFreed) (code : ℤ) → KeepsTasks old.heap → u ≢ task
-        → IsFreeCall old task handle before code after new → LeavesAlone u old new }
+        → IsTasksFreeCall old task handle before code after new → LeavesTaskAlone u old new }
     ensures write { (old new : TasksState) (task handle from u : ℕ) (bytes : List ℕ) (code : ℤ) → KeepsTasks old.heap → u ≢ task
-        → IsWriteCall old task handle from bytes code new → LeavesAlone u old new }
+        → IsTasksWriteCall old task handle from bytes code new → LeavesTaskAlone u old new }
 {}
 
 /// If an admission of a task returns 0, its quota is enough: no malloc within the needs is refused for space, whatever the order of
 /// the task's calls.
 pub fn an_admitted_task_has_enough_pages()
     ensures { (old new : TasksState) (task : ℕ) (needs : List Need) → IsAdmitCall old task needs (pos 0) new
-        → IsEnough (share_of old.heap (quota_of old.heap task)) needs }
+        → IsEnough (share_with old.heap (quota_of old.heap task)) needs }
 {}
 
 /// A call on a handle that names no object of the task returns 4 (`UNKNOWN`) and changes neither the heap nor what the caller has.
 pub fn a_stale_handle_is_refused()
-    ensures free { (old new : TasksState) (task handle : ℕ) (before after : NphFreed) (code : ℤ) → IsFreeCall old task handle before code after new
+    ensures free { (old new : TasksState) (task handle : ℕ) (before after : NphFreed) (code : ℤ) → IsTasksFreeCall old task handle before code after new
         → number_in (handles_by old.handles task) handle ≡ none → (code ≡ pos 4) × (after ≡ before) × (new.heap ≡ old.heap) × (new.handles ≡ old.handles) }
-    ensures write { (old new : TasksState) (task handle from : ℕ) (bytes : List ℕ) (code : ℤ) → IsWriteCall old task handle from bytes code new
+    ensures write { (old new : TasksState) (task handle from : ℕ) (bytes : List ℕ) (code : ℤ) → IsTasksWriteCall old task handle from bytes code new
         → number_in (handles_by old.handles task) handle ≡ none → (code ≡ pos 4) × (new.heap ≡ old.heap) }
-    ensures read { (old new : TasksState) (task handle from : ℕ) (before after : List ℕ) (code : ℤ) → IsReadCall old task handle from before code after new
+    ensures read { (old new : TasksState) (task handle from : ℕ) (before after : List ℕ) (code : ℤ) → IsTasksReadCall old task handle from before code after new
         → number_in (handles_by old.handles task) handle ≡ none → (code ≡ pos 4) × (after ≡ before) }
-    ensures length { (old new : TasksState) (task handle before after : ℕ) (code : ℤ) → IsLengthCall old task handle before code after new
+    ensures length { (old new : TasksState) (task handle before after : ℕ) (code : ℤ) → IsTasksLengthCall old task handle before code after new
         → number_in (handles_by old.handles task) handle ≡ none → (code ≡ pos 4) × (after ≡ before) }
 {}

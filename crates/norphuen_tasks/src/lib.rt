@@ -2,16 +2,16 @@
 //! the function of this crate or `c_base` that its comment names, and its contract is that function's. Each export
 //! that takes a heap, but `nph_tasks_close`, returns a code: 0 (`DONE`) if the call is done, else the cause
 //! (`c_base`, file `codes`). Of these each but `nph_tasks_open` returns `CLOSED` and changes nothing while the heap
-//! is closed (`IsCallOnOpen`). A call of a task that there is not returns `UNKNOWN` and changes nothing (`IsOfTask`).
+//! is closed (`IsCallOnOpen`). A call of a task that there is not returns `UNKNOWN` and changes nothing (`IsCallOfTask`).
 #![tactic(auto)]
 
 ghost use Rattle.std.specs.Prelude.{◌≡◌};
 ghost use Rattle.c_base.specs.AtPlace.{IsCallOnOpen};
 ghost use Rattle.c_base.specs.Version.{version};
-ghost use Rattle.norphuen_tasks.specs.CallerTasks.{IsOpenCall, closed_by};
-ghost use Rattle.norphuen_tasks.specs.Calls.{IsAdmitCall, IsFiguresCall, IsFreeCall, IsLeastCall, IsLengthCall, IsMallocCall, IsOfTask, IsQuotaCall, IsReadCall, IsStepsCall, IsTaskCall, IsUnassignedCall, IsWriteCall};
-ghost use Rattle.norphuen_tasks.specs.Needed.{IsNeededCall};
-ghost use Rattle.norphuen_tasks.specs.Place.{held_in};
+ghost use Rattle.norphuen_tasks.specs.CallerTasks.{IsTasksOpenCall, tasks_closed_by};
+ghost use Rattle.norphuen_tasks.specs.Calls.{IsAdmitCall, IsCallOfTask, IsLeastCall, IsQuotaCall, IsStepsCall, IsTaskCall, IsTasksFiguresCall, IsTasksFreeCall, IsTasksLengthCall, IsTasksMallocCall, IsTasksReadCall, IsTasksWriteCall, IsUnassignedCall};
+ghost use Rattle.norphuen_tasks.specs.Needed.{IsTasksNeededCall};
+ghost use Rattle.norphuen_tasks.specs.Place.{tasks_heap_in};
 
 mod answers;
 mod handles;
@@ -37,7 +37,7 @@ pub extern "C" fn nph_tasks_open(
     page_bytes: u32,
     proxies: u32,
 ) -> i32
-    ensures { IsOpenCall (held_in heap.old) pages page_bytes proxies result (held_in heap.new) }
+    ensures { IsTasksOpenCall (tasks_heap_in heap.old) pages page_bytes proxies result (tasks_heap_in heap.new) }
 {
     heap.inner().open(memory, pages, page_bytes, 1, proxies)
 }
@@ -51,7 +51,7 @@ pub extern "C" fn nph_tasks_bytes_needed(
     proxies: u32,
     needed: &mut NphNeeded,
 ) -> i32
-    ensures { IsNeededCall pages page_bytes proxies result needed.old needed.new }
+    ensures { IsTasksNeededCall pages page_bytes proxies result needed.old needed.new }
 {
     ClosableHeap::<HeldTasks>::bytes_needed(pages, page_bytes, 1, proxies, needed)
 }
@@ -59,7 +59,7 @@ pub extern "C" fn nph_tasks_bytes_needed(
 /// Closes the heap and frees its memory; does nothing if it is closed (`ClosableHeap::close`).
 #[unsafe(no_mangle)]
 pub extern "C" fn nph_tasks_close(heap: &mut NphHeap, memory: Memory)
-    ensures { held_in heap.new ≡ closed_by (held_in heap.old) }
+    ensures { tasks_heap_in heap.new ≡ tasks_closed_by (tasks_heap_in heap.old) }
 {
     heap.inner().close(memory);
 }
@@ -67,8 +67,8 @@ pub extern "C" fn nph_tasks_close(heap: &mut NphHeap, memory: Memory)
 /// Sets the quota of a task to `pages` pages (`HeldTasks::set_quota`).
 #[unsafe(no_mangle)]
 pub extern "C" fn nph_tasks_set_quota(heap: &mut NphHeap, task: u32, pages: u32) -> i32
-    ensures { IsCallOnOpen (held_in heap.old) result (held_in heap.new) (Unit {0})
-        (λ h h2. IsOfTask task h result h2 (Unit {0}) (IsQuotaCall h task pages result h2)) }
+    ensures { IsCallOnOpen (tasks_heap_in heap.old) result (tasks_heap_in heap.new) (Unit {0})
+        (λ h h2. IsCallOfTask task h result h2 (Unit {0}) (IsQuotaCall h task pages result h2)) }
 {
     let heap = heap.inner();
     if heap.is_open() {
@@ -86,8 +86,8 @@ pub extern "C" fn nph_tasks_malloc(
     bytes: u32,
     handle: &mut u32,
 ) -> i32
-    ensures { IsCallOnOpen (held_in heap.old) result (held_in heap.new) (handle.new ≡ handle.old)
-        (λ h h2. IsOfTask task h result h2 (handle.new ≡ handle.old) (IsMallocCall h task bytes handle.old result handle.new h2)) }
+    ensures { IsCallOnOpen (tasks_heap_in heap.old) result (tasks_heap_in heap.new) (handle.new ≡ handle.old)
+        (λ h h2. IsCallOfTask task h result h2 (handle.new ≡ handle.old) (IsTasksMallocCall h task bytes handle.old result handle.new h2)) }
 {
     let heap = heap.inner();
     if heap.is_open() {
@@ -106,8 +106,8 @@ pub extern "C" fn nph_tasks_free(
     handle: u32,
     freed: &mut NphFreed,
 ) -> i32
-    ensures { IsCallOnOpen (held_in heap.old) result (held_in heap.new) (freed.new ≡ freed.old)
-        (λ h h2. IsOfTask task h result h2 (freed.new ≡ freed.old) (IsFreeCall h task handle freed.old result freed.new h2)) }
+    ensures { IsCallOnOpen (tasks_heap_in heap.old) result (tasks_heap_in heap.new) (freed.new ≡ freed.old)
+        (λ h h2. IsCallOfTask task h result h2 (freed.new ≡ freed.old) (IsTasksFreeCall h task handle freed.old result freed.new h2)) }
 {
     let heap = heap.inner();
     if heap.is_open() {
@@ -126,8 +126,8 @@ pub extern "C" fn nph_tasks_write(
     at: u32,
     bytes: &[u8],
 ) -> i32
-    ensures { IsCallOnOpen (held_in heap.old) result (held_in heap.new) (Unit {0})
-        (λ h h2. IsOfTask task h result h2 (Unit {0}) (IsWriteCall h task handle at bytes.now result h2)) }
+    ensures { IsCallOnOpen (tasks_heap_in heap.old) result (tasks_heap_in heap.new) (Unit {0})
+        (λ h h2. IsCallOfTask task h result h2 (Unit {0}) (IsTasksWriteCall h task handle at bytes.now result h2)) }
 {
     let heap = heap.inner();
     if heap.is_open() {
@@ -146,8 +146,8 @@ pub extern "C" fn nph_tasks_read(
     at: u32,
     out: &mut [u8],
 ) -> i32
-    ensures { IsCallOnOpen (held_in heap.old) result (held_in heap.new) (out.new ≡ out.old)
-        (λ h h2. IsOfTask task h result h2 (out.new ≡ out.old) (IsReadCall h task handle at out.old result out.new h2)) }
+    ensures { IsCallOnOpen (tasks_heap_in heap.old) result (tasks_heap_in heap.new) (out.new ≡ out.old)
+        (λ h h2. IsCallOfTask task h result h2 (out.new ≡ out.old) (IsTasksReadCall h task handle at out.old result out.new h2)) }
 {
     let heap = heap.inner();
     if heap.is_open() {
@@ -165,8 +165,8 @@ pub extern "C" fn nph_tasks_length(
     handle: u32,
     bytes: &mut u32,
 ) -> i32
-    ensures { IsCallOnOpen (held_in heap.old) result (held_in heap.new) (bytes.new ≡ bytes.old)
-        (λ h h2. IsOfTask task h result h2 (bytes.new ≡ bytes.old) (IsLengthCall h task handle bytes.old result bytes.new h2)) }
+    ensures { IsCallOnOpen (tasks_heap_in heap.old) result (tasks_heap_in heap.new) (bytes.new ≡ bytes.old)
+        (λ h h2. IsCallOfTask task h result h2 (bytes.new ≡ bytes.old) (IsTasksLengthCall h task handle bytes.old result bytes.new h2)) }
 {
     let heap = heap.inner();
     if heap.is_open() {
@@ -179,8 +179,8 @@ pub extern "C" fn nph_tasks_length(
 /// Writes the figures of a task into `figures` (`HeldTasks::task`).
 #[unsafe(no_mangle)]
 pub extern "C" fn nph_tasks_task(heap: &mut NphHeap, task: u32, figures: &mut NphTask) -> i32
-    ensures { IsCallOnOpen (held_in heap.old) result (held_in heap.new) (figures.new ≡ figures.old)
-        (λ h h2. IsOfTask task h result h2 (figures.new ≡ figures.old) (IsTaskCall h task result figures.new h2)) }
+    ensures { IsCallOnOpen (tasks_heap_in heap.old) result (tasks_heap_in heap.new) (figures.new ≡ figures.old)
+        (λ h h2. IsCallOfTask task h result h2 (figures.new ≡ figures.old) (IsTaskCall h task result figures.new h2)) }
 {
     let heap = heap.inner();
     if heap.is_open() {
@@ -198,8 +198,8 @@ pub extern "C" fn nph_tasks_figures(
     class: u32,
     figures: &mut NphClass,
 ) -> i32
-    ensures { IsCallOnOpen (held_in heap.old) result (held_in heap.new) (figures.new ≡ figures.old)
-        (λ h h2. IsOfTask task h result h2 (figures.new ≡ figures.old) (IsFiguresCall h task class figures.old result figures.new h2)) }
+    ensures { IsCallOnOpen (tasks_heap_in heap.old) result (tasks_heap_in heap.new) (figures.new ≡ figures.old)
+        (λ h h2. IsCallOfTask task h result h2 (figures.new ≡ figures.old) (IsTasksFiguresCall h task class figures.old result figures.new h2)) }
 {
     let heap = heap.inner();
     if heap.is_open() {
@@ -212,7 +212,7 @@ pub extern "C" fn nph_tasks_figures(
 /// Writes the number of pages that are in no quota into `pages` (`HeldTasks::unassigned`).
 #[unsafe(no_mangle)]
 pub extern "C" fn nph_tasks_unassigned(heap: &mut NphHeap, pages: &mut u32) -> i32
-    ensures { IsCallOnOpen (held_in heap.old) result (held_in heap.new) (pages.new ≡ pages.old)
+    ensures { IsCallOnOpen (tasks_heap_in heap.old) result (tasks_heap_in heap.new) (pages.new ≡ pages.old)
         (λ h h2. IsUnassignedCall h result pages.new h2) }
 {
     let heap = heap.inner();
@@ -226,8 +226,8 @@ pub extern "C" fn nph_tasks_unassigned(heap: &mut NphHeap, pages: &mut u32) -> i
 /// Tests whether the quota of a task is enough for its `needs`, whatever the order of its calls (`HeldTasks::admit`).
 #[unsafe(no_mangle)]
 pub extern "C" fn nph_tasks_admit(heap: &mut NphHeap, task: u32, needs: &[NphNeed]) -> i32
-    ensures { IsCallOnOpen (held_in heap.old) result (held_in heap.new) (Unit {0})
-        (λ h h2. IsOfTask task h result h2 (Unit {0}) (IsAdmitCall h task needs.now result h2)) }
+    ensures { IsCallOnOpen (tasks_heap_in heap.old) result (tasks_heap_in heap.new) (Unit {0})
+        (λ h h2. IsCallOfTask task h result h2 (Unit {0}) (IsAdmitCall h task needs.now result h2)) }
 {
     let heap = heap.inner();
     if heap.is_open() {
@@ -244,7 +244,7 @@ pub extern "C" fn nph_tasks_least_quota(
     needs: &[NphNeed],
     pages: &mut u32,
 ) -> i32
-    ensures { IsCallOnOpen (held_in heap.old) result (held_in heap.new) (pages.new ≡ pages.old)
+    ensures { IsCallOnOpen (tasks_heap_in heap.old) result (tasks_heap_in heap.new) (pages.new ≡ pages.old)
         (λ h h2. IsLeastCall h needs.now result pages.old pages.new h2) }
 {
     let heap = heap.inner();
@@ -258,7 +258,7 @@ pub extern "C" fn nph_tasks_least_quota(
 /// Writes the steps of the last call that counts them into `steps` (`HeldTasks::last_steps`).
 #[unsafe(no_mangle)]
 pub extern "C" fn nph_tasks_last_steps(heap: &mut NphHeap, steps: &mut u64) -> i32
-    ensures { IsCallOnOpen (held_in heap.old) result (held_in heap.new) (steps.new ≡ steps.old)
+    ensures { IsCallOnOpen (tasks_heap_in heap.old) result (tasks_heap_in heap.new) (steps.new ≡ steps.old)
         (λ h h2. IsStepsCall h result steps.new h2) }
 {
     let heap = heap.inner();

@@ -38,12 +38,12 @@ pub struct NphHeap {
 }
 
 impl NphHeap {
-    ghost use Rattle.norphuen_tasks.specs.Place.{LendsInner, inner_of};
+    ghost use Rattle.norphuen_tasks.specs.Place.{LendsTasksInner, tasks_inner_of};
 
     /// Borrows the `ClosableHeap` that this heap of tasks is in memory.
     pub fn inner(&mut self) -> &mut ClosableHeap<HeldTasks>
-        ensures* writes_back { sem 𝓛 (LendsInner self.entry result) }
-        ensures value { result.now ≡ inner_of self.old }
+        ensures* writes_back { sem 𝓛 (LendsTasksInner self.entry result) }
+        ensures value { result.now ≡ tasks_inner_of self.old }
     {
         unsafe { &mut *(self as *mut NphHeap as *mut ClosableHeap<HeldTasks>) }
     }

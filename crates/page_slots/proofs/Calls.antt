@@ -21,7 +21,7 @@ use Rattle.page_pool.specs.Pool.{Pool, TakesFront, is_in_pool}
 use Rattle.page_slots.specs.Tables.{Tables, AreTables, IsOf, IsPageOf, slots_in, slots_on, used_in}
 use Rattle.page_model.specs.Order.{drop_steps}
 use Rattle.page_slots.specs.Release.{HasUsedSlot, steps_to_vacate}
-use Rattle.page_slots.specs.Take.{steps_to_take}
+use Rattle.page_slots.specs.Take.{take_slot_steps}
 use Rattle.page_slots.proofs.Pages.{placed_in, listed_page, listed_class, of_list}
 use Rattle.page_slots.proofs.TablesAfterTake.{front_listed, pool_front}
 
@@ -142,13 +142,13 @@ module _ (k : ClassTable) (t : Tables) (a : AreTables k t) (c page : ℕ) (front
 
   pub took_open_steps : (slot : ℕ) (map : List Bool) → slice_get (slots_on t page) slot ≡ Some false → map ≡ set (slots_on t page) slot true
       → (old first second new : ℕ) → RoseBy old first 1 → RoseBy first second 3 → RoseBy second new (if nat_eq (used_in map) (length map) then 9 else 1)
-      → RoseBy old new (steps_to_take k t c)
+      → RoseBy old new (take_slot_steps k t c)
   took_open_steps slot map free is old first second new x y z =
       let e = front_is (pages_in t.lists c NotFull) page (sym front) in
       let w : RoseBy second new (if nat_eq (used_in (slots_on t page) + 1) (slots_in k c) then 9 else 1) =
       subst (λ b. RoseBy second new (if b then 9 else 1)) (filled_test slot map free is) z in
       let four = rose_both old first second 1 3 x y in
-      rw (steps_to_take, e) (by_test (nat_eq (used_in (slots_on t page) + 1) (slots_in k c)) four w)
+      rw (take_slot_steps, e) (by_test (nat_eq (used_in (slots_on t page) + 1) (slots_in k c)) four w)
     where
       by_test : (b : Bool) → RoseBy old second 4 → RoseBy second new (if b then 9 else 1) → RoseBy old new (if b then 13 else 5)
       by_test true four w = rose_both old second new 4 9 four w

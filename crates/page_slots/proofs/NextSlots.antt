@@ -24,8 +24,8 @@ use Rattle.page_model.proofs.CallerLemmas.{address_is_slot}
 use Rattle.page_model.specs.Order.{Order, IsLeastFree, IsNextToMove, IsOrderOf, IsPartlyFull, IsTaken, TakesNext, not_full_in, slot_freed, steps_to_take as order_steps, with_not_full}
 use Rattle.page_model.specs.Order.{drop_steps, fill_steps, steps_to_drop as order_drop, steps_to_fill as order_fill}
 use Rattle.page_slots.specs.Tables.{Tables, AreTables, IsOf, IsPageOf, IsUsed, LeavesList, slot_at, slots_on, used_in}
-use Rattle.page_slots.specs.Release.{IsFiller, Vacates, steps_to_drop as table_drop, steps_to_fill as table_fill}
-use Rattle.page_slots.specs.Take.{TakesAt, TakesOnFreePage, TakesOnPartlyFullPage, steps_to_take as table_steps}
+use Rattle.page_slots.specs.Release.{IsFiller, Vacates, drop_slot_steps as table_drop, fill_slot_steps as table_fill}
+use Rattle.page_slots.specs.Take.{TakesAt, TakesOnFreePage, TakesOnPartlyFullPage, take_slot_steps as table_steps}
 use Rattle.page_slots.specs.Occupying.{Occupies, FitPages, FitPagesShared, class_table}
 use Rattle.page_slots.specs.Orders.{partly_full_lists, order_of}
 use Rattle.page_slots.proofs.Pages.{free_page, list_of, listed_page, of_list, one_class, placed_in}

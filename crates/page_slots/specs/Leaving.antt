@@ -13,7 +13,7 @@ use Rattle.proxy_table.specs.Proxies.{AreBelowLimit, Proxies, with_place}
 use Rattle.size_classes.specs.Table.{ClassTable}
 use Rattle.virtual_words.specs.Words.{IsWhole, frames_of, run_steps, slot_steps, words_of}
 use Rattle.page_slots.specs.PageTables.{tables_with}
-use Rattle.page_slots.specs.Release.{FillsFrom, Vacates, steps_to_drop, steps_to_fill}
+use Rattle.page_slots.specs.Release.{FillsFrom, Vacates, drop_slot_steps, fill_slot_steps}
 use Rattle.page_slots.specs.Tables.{AreTables, IsUsed, Tables, page_at, slot_at}
 use Rattle.page_slots.specs.declared.leave.LeftSlot.{LeftSlot}
 use Rattle.page_slots.specs.declared.page_tables.PageTables.{PageTables}
@@ -100,5 +100,5 @@ Leaves old s (Some q) new = LeavesFilled old s q.0 new
 
 -- the exact steps of `leave_slot`, by its result
 abbrev pub leaving_steps : Kind → Parts → LeftSlot → Option Handle → ℕ
-leaving_steps kind w s None = run_steps kind s.place s.words + steps_to_drop w.tables (page_at w.classes s.place)
-leaving_steps kind w s (Some q) = steps_to_fill w.tables s.class + word_steps kind + (slot_steps kind s.words + 1)
+leaving_steps kind w s None = run_steps kind s.place s.words + drop_slot_steps w.tables (page_at w.classes s.place)
+leaving_steps kind w s (Some q) = fill_slot_steps w.tables s.class + word_steps kind + (slot_steps kind s.words + 1)

@@ -58,13 +58,13 @@ pub record MovesObject (slots : List Bool) (not_full bound : ℕ) : Type 0 where
   pub many : not_full ≡ bound
 
 -- the steps of `drop_slot`: freeing a used slot of the page
-abbrev pub steps_to_drop : Tables → ℕ → ℕ
-steps_to_drop t page = drop_steps (used_in (slots_on t page)) (length (slots_on t page))
+abbrev pub drop_slot_steps : Tables → ℕ → ℕ
+drop_slot_steps t page = drop_steps (used_in (slots_on t page)) (length (slots_on t page))
 
 -- the steps of `vacate`: freeing a slot of a page that is in this list and has `used` used slots, without the step that finds the list
 abbrev pub steps_to_vacate : Which → ℕ → ℕ
 steps_to_vacate which used = if nat_eq used 1 then 9 else elim which [ Full ↦ 12 | NotFull ↦ 4 ]
 
 -- the steps of `fill_slot`: finding and freeing the slot of the object that moves into a freed slot of class c
-abbrev pub steps_to_fill : Tables → ℕ → ℕ
-steps_to_fill t c = elim (pages_in t.lists c NotFull) [ [] ↦ 0 | page ∷ rest ↦ fill_steps (used_in (slots_on t page)) ]
+abbrev pub fill_slot_steps : Tables → ℕ → ℕ
+fill_slot_steps t c = elim (pages_in t.lists c NotFull) [ [] ↦ 0 | page ∷ rest ↦ fill_steps (used_in (slots_on t page)) ]

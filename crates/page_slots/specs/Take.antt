@@ -47,8 +47,8 @@ TakesSlot k old c None new = (pages_in old.lists c NotFull ≡ []) × (old.pool.
 TakesSlot k old c (Some a) new = TakesAt k old c a new
 
 -- the steps of `take_slot` for class c: on a partly full page, on a free page, or if there is neither
-abbrev pub steps_to_take : ClassTable → Tables → ℕ → ℕ
-steps_to_take k t c = elim (pages_in t.lists c NotFull) [
+abbrev pub take_slot_steps : ClassTable → Tables → ℕ → ℕ
+take_slot_steps k t c = elim (pages_in t.lists c NotFull) [
   | [] ↦ elim t.pool.free [ [] ↦ 2 | page ∷ rest ↦ new_page_steps ]
   | page ∷ rest ↦ open_steps (used_in (slots_on t page)) (slots_in k c)
 ]

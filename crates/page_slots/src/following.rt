@@ -10,9 +10,9 @@ ghost use Rattle.page_model.specs.Order.{IsNextToMove, IsOrderOf, TakesNext, slo
 ghost use Rattle.page_model.specs.Paging.{IsPaging, Paging, classes};
 ghost use Rattle.page_slots.specs.Occupying.{Occupies, FitPages, FitPagesShared, class_table};
 ghost use Rattle.page_slots.specs.Orders.{order_of};
-ghost use Rattle.page_slots.specs.Release.{IsFiller, Vacates, steps_to_drop, steps_to_fill};
+ghost use Rattle.page_slots.specs.Release.{IsFiller, Vacates, drop_slot_steps, fill_slot_steps};
 ghost use Rattle.page_slots.specs.Tables.{AreTables, IsOf, Tables};
-ghost use Rattle.page_slots.specs.Take.{TakesAt, steps_to_take};
+ghost use Rattle.page_slots.specs.Take.{TakesAt, take_slot_steps};
 ghost use Rattle.class_lists.specs.declared.Which.TheVariants.{NotFull};
 ghost use Rattle.class_lists.specs.PageLists.{pages_in};
 
@@ -48,13 +48,13 @@ pub fn the_filler_is_next_to_move()
 pub fn steps_follow_the_order()
     ensures take { (p : Paging) (m : Held) (old new : Tables) (c a : ℕ) (spare : List ℕ)
         → FitPagesShared p old → Occupies p m old → c < classes p → TakesAt (class_table p) old c a new
-        → steps_to_take (class_table p) old c ≡ Order.steps_to_take p m (order_of (classes p) old spare) c }
+        → take_slot_steps (class_table p) old c ≡ Order.steps_to_take p m (order_of (classes p) old spare) c }
     ensures drop { (p : Paging) (m : Held) (t : Tables) (c page : ℕ)
         → FitPagesShared p t → Occupies p m t → c < classes p → IsOf t c page
-        → steps_to_drop t page ≡ Order.steps_to_drop p m c page }
+        → drop_slot_steps t page ≡ Order.steps_to_drop p m c page }
     ensures fill { (p : Paging) (m : Held) (t : Tables) (c page : ℕ) (spare : List ℕ)
         → FitPagesShared p t → Occupies p m t → c < classes p → slice_get (pages_in t.lists c NotFull) 0 ≡ Some page
-        → steps_to_fill t c ≡ Order.steps_to_fill p m (order_of (classes p) t spare) c }
+        → fill_slot_steps t c ≡ Order.steps_to_fill p m (order_of (classes p) t spare) c }
 {}
 
 /// The order of the tables, with the free numbers below `limit`, is an order of the objects: it

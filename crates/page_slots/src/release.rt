@@ -11,7 +11,7 @@ ghost use Rattle.size_classes.specs.Table.{IsClassTable};
 ghost use Rattle.slot_bitmap.specs.Maps.{on_page};
 ghost use Rattle.page_slots.specs.PageTables.{tables_with};
 ghost use Rattle.page_slots.specs.Tables.{AreTables, IsUsed, KeepsForeign, page_at, slot_at, used_in};
-ghost use Rattle.page_slots.specs.Release.{FillsFrom, HasUsedSlot, IsFiller, MovesObject, MakesPagePartlyFull, Vacates, steps_to_drop, steps_to_fill, steps_to_vacate};
+ghost use Rattle.page_slots.specs.Release.{FillsFrom, HasUsedSlot, IsFiller, MovesObject, MakesPagePartlyFull, Vacates, drop_slot_steps, fill_slot_steps, steps_to_vacate};
 
 use crate::page_tables::PageTables;
 use crate::place::{address_of, slot_of};
@@ -55,7 +55,7 @@ impl PageTables {
         ensures others { KeepsForeign (tables_with self.old lists.old) (tables_with self.new lists.new) }
         ensures classes { self.new.classes ≡ self.old.classes }
         ensures kept { AreTables self.old.classes (tables_with self.new lists.new) }
-        ensures steps { RoseBy steps.old steps.new (steps_to_drop (tables_with self.old lists.old) (page_at self.old.classes at)) }
+        ensures steps { RoseBy steps.old steps.new (drop_slot_steps (tables_with self.old lists.old) (page_at self.old.classes at)) }
         ensures bound { RoseAtMost steps.old steps.new 13 }
     {
         let page = self.classes.page_of(at);
@@ -91,7 +91,7 @@ impl PageTables {
         ensures others { KeepsForeign (tables_with self.old lists.old) (tables_with self.new lists.new) }
         ensures classes { self.new.classes ≡ self.old.classes }
         ensures kept { AreTables self.old.classes (tables_with self.new lists.new) }
-        ensures steps { RoseBy steps.old steps.new (steps_to_fill (tables_with self.old lists.old) c) }
+        ensures steps { RoseBy steps.old steps.new (fill_slot_steps (tables_with self.old lists.old) c) }
         ensures bound { RoseAtMost steps.old steps.new 12 }
     {
         let (page, slot) = self.filling_slot(lists, c, steps);

@@ -7,7 +7,7 @@ ghost use Rattle.class_lists.specs.PageLists.{AreApart, IsUnlisted, pages_in};
 ghost use Rattle.slot_bitmap.specs.Maps.{on_page, with_page};
 ghost use Rattle.page_slots.specs.PageTables.{tables_with};
 ghost use Rattle.page_slots.specs.Tables.{AreTables, JoinsList, KeepsForeign, used_in};
-ghost use Rattle.page_slots.specs.Take.{FillsPage, TakesSlot, steps_to_take};
+ghost use Rattle.page_slots.specs.Take.{FillsPage, TakesSlot, take_slot_steps};
 
 use crate::page_tables::PageTables;
 use crate::place::address_of;
@@ -28,7 +28,7 @@ impl PageTables {
         ensures others { KeepsForeign (tables_with self.old lists.old) (tables_with self.new lists.new) }
         ensures classes { self.new.classes ≡ self.old.classes }
         ensures kept { AreTables self.old.classes (tables_with self.new lists.new) }
-        ensures steps { RoseBy steps.old steps.new (steps_to_take self.old.classes (tables_with self.old lists.old) c) }
+        ensures steps { RoseBy steps.old steps.new (take_slot_steps self.old.classes (tables_with self.old lists.old) c) }
         ensures bound { RoseAtMost steps.old steps.new 13 }
     {
         if lists.len(c, Which::NotFull) == 0 {

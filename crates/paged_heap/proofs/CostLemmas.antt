@@ -15,11 +15,11 @@ use Rattle.page_model.specs.Image.{slot_for}
 use Rattle.page_model.specs.Order as Order
 use Rattle.page_model.specs.Order.{word_steps}
 use Rattle.page_model.specs.Paging.{class_for, classes, page_of}
-use Rattle.page_slots.specs.Release.{steps_to_drop, steps_to_fill}
+use Rattle.page_slots.specs.Release.{drop_slot_steps, fill_slot_steps}
 use Rattle.size_classes.specs.Table.{ClassTable}
 use Rattle.page_slots.specs.Orders.{order_of}
 use Rattle.page_slots.specs.Tables.{Tables, page_at}
-use Rattle.page_slots.specs.Take.{TakesAt, steps_to_take}
+use Rattle.page_slots.specs.Take.{TakesAt, take_slot_steps}
 use Rattle.step_ledger.proofs.CallerLemmas.{rose_both, rose_by}
 use Rattle.page_slots.proofs.CallerLemmas.{drop_same, fill_same, steps_same, class_is, it, it_found, it_class, it_slot, page_same, it_used, as_many}
 use Rattle.step_ledger.specs.Counting.{RoseBy}
@@ -38,25 +38,25 @@ use Rattle.page_slots.specs.Owner.{IsObjectAt}
 module _ (h : Heap) (k : IsValid h) where
   -- the steps of taking a slot of class c, by the tables and by the order
   pub takes_by : (c a : ℕ) (new : Tables) → c < classes (paging_at h) → TakesAt h.classes (tables_in h) c a new
-      → steps_to_take h.classes (tables_in h) c ≡ Order.steps_to_take (paging_at h) (held_in h) (order_in h) c
+      → take_slot_steps h.classes (tables_in h) c ≡ Order.steps_to_take (paging_at h) (held_in h) (order_in h) c
   takes_by c a new class t =
-      ap (λ t. steps_to_take t (tables_in h) c) (sym (table_is h k))
+      ap (λ t. take_slot_steps t (tables_in h) c) (sym (table_is h k))
       ∙ steps_same k.serve.part k.occupied class h.proxies.free a new (subst (λ t. TakesAt t (tables_in h) c a new) (sym (table_is h k)) t)
       ∙ ap (λ s. Order.steps_to_take (paging_at h) (held_in h) (order_of s (tables_in h) h.proxies.free) c) (sym (as_many (paging_at h) (table_is h k)))
 
   -- the steps of a malloc's parts sum to its exact cost
   pub malloc_sum : (bytes c : ℕ) → Some c ≡ class_of h.classes.sizes bytes → (q : Handle) (a : ℕ) (new : Tables) → TakesAt h.classes (tables_in h) c a new
-      → (s t u v : ℕ) → RoseBy s t 1 → RoseBy t u (steps_to_take h.classes (tables_in h) c) → RoseBy u v (2 + word_steps h.kind)
+      → (s t u v : ℕ) → RoseBy s t 1 → RoseBy t u (take_slot_steps h.classes (tables_in h) c) → RoseBy u v (2 + word_steps h.kind)
       → RoseBy s v (malloc_cost (state_of h) (order_in h) bytes (Ok q))
   malloc_sum bytes c found q a new taken s t u v x y z =
       let is = class_is (paging_ok h k) (table_is h k) bytes c found in
-      let same : steps_to_take h.classes (tables_in h) c ≡ Order.steps_to_take (paging_at h) (held_in h) (order_in h) (class_for (paging_at h) bytes) =
+      let same : take_slot_steps h.classes (tables_in h) c ≡ Order.steps_to_take (paging_at h) (held_in h) (order_in h) (class_for (paging_at h) bytes) =
       takes_by c a new is.2 taken ∙ ap (Order.steps_to_take (paging_at h) (held_in h) (order_in h)) (sym is.1) in
       rose_by s v _ _ (omega arith) (rose_both s u v _ _ (rose_both s t u _ _ x y) z)
 
 module _ {h : Heap} (k : IsValid h) {q a size c : ℕ} (o : IsObjectAt (owner_in h) q a size c) where
   -- the steps of freeing the object's slot, by the tables and by the order
-  pub drops_by : steps_to_drop (tables_in h) (page_at h.classes a) ≡ Order.steps_to_drop (paging_at h) (held_in h) (class_at (paging_at h) (it (owns k) o))
+  pub drops_by : drop_slot_steps (tables_in h) (page_at h.classes a) ≡ Order.steps_to_drop (paging_at h) (held_in h) (class_at (paging_at h) (it (owns k) o))
       (page_of (paging_at h) a)
   drops_by = drop_same k.serve.part k.occupied o.in_range h.proxies.free (page_at h.classes a) (it_used (owns k) o).of
       ∙ ap (λ d. Order.steps_to_drop (paging_at h) (held_in h) d (page_at h.classes a)) (sym (it_class (owns k) o))
@@ -64,15 +64,15 @@ module _ {h : Heap} (k : IsValid h) {q a size c : ℕ} (o : IsObjectAt (owner_in
 
   -- the steps of freeing the slot of the object that moves, by the tables and by the order
   pub fills_by : (page : ℕ) → slice_get (pages_in h.lists c NotFull) 0 ≡ Some page
-      → steps_to_fill (tables_in h) c ≡ Order.steps_to_fill (paging_at h) (held_in h) (order_in h) (class_at (paging_at h) (it (owns k) o))
+      → fill_slot_steps (tables_in h) c ≡ Order.steps_to_fill (paging_at h) (held_in h) (order_in h) (class_at (paging_at h) (it (owns k) o))
   fills_by page front = fill_same k.serve.part k.occupied o.in_range h.proxies.free page front
       ∙ ap (λ s. Order.steps_to_fill (paging_at h) (held_in h) (order_of s (tables_in h) h.proxies.free) c) (sym (as_many (paging_at h) (table_is h k)))
       ∙ ap (Order.steps_to_fill (paging_at h) (held_in h) (order_in h)) (sym (it_class (owns k) o))
 
   -- the steps of leaving the object's slot (`leave_slot`), by the tables of a heap g that yield the same steps, and by the order
   pub leaving_is : {words : ℕ} → words ≡ get_or h.classes.sizes c 0 → (g : Heap) → g.kind ≡ h.kind → g.classes ≡ h.classes
-      → steps_to_drop (tables_in g) (page_at h.classes a) ≡ steps_to_drop (tables_in h) (page_at h.classes a)
-      → steps_to_fill (tables_in g) c ≡ steps_to_fill (tables_in h) c → (r : Option Handle)
+      → drop_slot_steps (tables_in g) (page_at h.classes a) ≡ drop_slot_steps (tables_in h) (page_at h.classes a)
+      → fill_slot_steps (tables_in g) c ≡ fill_slot_steps (tables_in h) c → (r : Option Handle)
       → (IsSome r → (page : ℕ) × (slice_get (pages_in h.lists c NotFull) 0 ≡ Some page))
       → leaving_steps g.kind (parts_of g) (left_slot words c a) r ≡ leaving_cost (state_of h) (order_in h) (it (owns k) o) r
   leaving_is {words} long g kind classes drop fill None front =
@@ -80,14 +80,14 @@ module _ {h : Heap} (k : IsValid h) {q a size c : ℕ} (o : IsObjectAt (owner_in
       let slot = slot_for (paging_at h) (length (it (owns k) o).bytes) in
       let wiped : run_steps h.kind a words ≡ wipe_steps h.kind slot = ap (run_steps h.kind a) (long ∙ it_slot (owns k) o) ∙ whole_run h.kind a slot w.0 w.1 in
       let e = drops_by in
-      ap (λ (κ : Kind). run_steps κ a words + steps_to_drop (tables_in g) (page_at g.classes a)) kind
-      ∙ ap (λ (t : ClassTable). run_steps h.kind a words + steps_to_drop (tables_in g) (page_at t a)) classes ∙ (omega arith)
+      ap (λ (κ : Kind). run_steps κ a words + drop_slot_steps (tables_in g) (page_at g.classes a)) kind
+      ∙ ap (λ (t : ClassTable). run_steps h.kind a words + drop_slot_steps (tables_in g) (page_at t a)) classes ∙ (omega arith)
   leaving_is {words} long g kind classes drop fill (Some y) front =
       let slot = slot_for (paging_at h) (length (it (owns k) o).bytes) in
       let moved : slot_steps h.kind words ≡ slot_steps h.kind slot = ap (slot_steps h.kind) (long ∙ it_slot (owns k) o) in
       let f = front refl in
       let e = fills_by f.0 f.1 in
-      ap (λ (κ : Kind). steps_to_fill (tables_in g) c + word_steps κ + (slot_steps κ words + 1)) kind ∙ (omega arith)
+      ap (λ (κ : Kind). fill_slot_steps (tables_in g) c + word_steps κ + (slot_steps κ words + 1)) kind ∙ (omega arith)
 
   -- the steps of releasing the number and leaving the slot
   pub leaves_sum : {words : ℕ} → words ≡ get_or h.classes.sizes c 0 → {g : Heap} → g ≡ taken_out h q size c → (n : Parts) (r : Option Handle)

@@ -19,7 +19,7 @@ use Rattle.page_model.specs.Order.{word_steps}
 use Rattle.page_model.specs.Paging.{class_for}
 use Rattle.page_model.proofs.CallerLemmas.{class_fits, slot_fits}
 use Rattle.page_slots.specs.Tables.{IsOf, Tables, page_at}
-use Rattle.page_slots.specs.Take.{TakesAt, steps_to_take}
+use Rattle.page_slots.specs.Take.{TakesAt, take_slot_steps}
 use Rattle.step_ledger.proofs.CallerLemmas.{rose_both, rose_by}
 use Rattle.step_ledger.specs.Counting.{RoseBy}
 use Rattle.virtual_words.specs.Words.{IsWhole, copy_steps}
@@ -42,7 +42,7 @@ use Rattle.page_slots.specs.Owner.{IsObjectAt}
 module _ {h : Heap} (k : IsValid h) {x : Change} (is : IsChange h x) where
   -- the steps of taking a slot and copying the object there
   pub entering_sum : (b : ℕ) (new : Tables) → TakesAt h.classes (tables_in h) x.to b new → IsWhole h.kind b → (s t u : ℕ)
-      → RoseBy s t (steps_to_take h.classes (tables_in h) x.to)
+      → RoseBy s t (take_slot_steps h.classes (tables_in h) x.to)
       → RoseBy t u (copy_steps h.kind (x.place + 1) (kept_words x) + tail_steps h.kind b x.bytes (8 * kept_words x) + word_steps h.kind + 1)
       → RoseBy s u (entering_cost h x)
   entering_sum b new taken whole s t u r1 r2 =

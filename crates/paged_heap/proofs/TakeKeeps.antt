@@ -8,7 +8,7 @@ use Rattle.class_lists.specs.declared.Which.{Which}
 use Rattle.class_lists.specs.declared.Which.TheVariants.{NotFull}
 use Rattle.page_model.specs.Order.{drop_steps, fill_steps}
 use Rattle.size_classes.specs.Table.{ClassTable}
-use Rattle.page_slots.specs.Release.{steps_to_drop, steps_to_fill}
+use Rattle.page_slots.specs.Release.{drop_slot_steps, fill_slot_steps}
 use Rattle.page_slots.specs.Tables.{AreTables, IsOf, Tables, slots_in, slots_on, used_in}
 use Rattle.page_slots.specs.Take.{TakesAt}
 use Rattle.page_slots.proofs.CallerLemmas.{free_of_none}
@@ -46,16 +46,16 @@ module _ (k : ClassTable) (old new : Tables) (a : AreTables k old) (kept : AreTa
   ]
 
   -- the steps of freeing or filling a slot of the other class are unchanged
-  pub drop_keeps : (page : ℕ) → IsOf old d page → steps_to_drop new page ≡ steps_to_drop old page
+  pub drop_keeps : (page : ℕ) → IsOf old d page → drop_slot_steps new page ≡ drop_slot_steps old page
   drop_keeps page of = ap (λ slots. drop_steps (used_in slots) (length slots)) (slots_keep page of)
 
-  pub fill_keeps : steps_to_fill new d ≡ steps_to_fill old d
+  pub fill_keeps : fill_slot_steps new d ≡ fill_slot_steps old d
   fill_keeps = go (pages_in old.lists d NotFull) refl
     where
-      go : (pages : List ℕ) → pages_in old.lists d NotFull ≡ pages → steps_to_fill new d ≡ steps_to_fill old d
-      go [] e = rw (steps_to_fill, lists_keep NotFull ∙ e, e) refl
+      go : (pages : List ℕ) → pages_in old.lists d NotFull ≡ pages → fill_slot_steps new d ≡ fill_slot_steps old d
+      go [] e = rw (fill_slot_steps, lists_keep NotFull ∙ e, e) refl
       go (page ∷ rest) e =
           let there : Contains (pages_in old.lists d NotFull) page = subst (λ (xs : List ℕ). Contains xs page) (sym e) (contains_head page rest) in
-          let was : steps_to_fill old d ≡ fill_steps (used_in (slots_on old page)) = rw (steps_to_fill, e) refl in
-          let now : steps_to_fill new d ≡ fill_steps (used_in (slots_on new page)) = rw (steps_to_fill, lists_keep NotFull ∙ e) refl in
+          let was : fill_slot_steps old d ≡ fill_steps (used_in (slots_on old page)) = rw (fill_slot_steps, e) refl in
+          let now : fill_slot_steps new d ≡ fill_steps (used_in (slots_on new page)) = rw (fill_slot_steps, lists_keep NotFull ∙ e) refl in
           now ∙ ap (λ slots. fill_steps (used_in slots)) (slots_keep page (inr there)) ∙ sym was

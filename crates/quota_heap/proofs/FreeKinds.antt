@@ -25,12 +25,12 @@ use Rattle.page_slots.proofs.CallerLemmas.{filled_occupied, filled_part, vacated
 use Rattle.page_slots.proofs.CallerLemmas.{page_same, slot_same, moving, Fills, must_fill, other_fills, kept_tables, other, other_object}
 use Rattle.page_slots.proofs.CallerLemmas.{other_found, other_at, other_known, other_may, other_moved, same_slot}
 use Rattle.proxy_table.specs.Proxies.{Proxies, without_place}
-use Rattle.quota_model.specs.Joined.{AreNumbers, joined, places_at}
+use Rattle.quota_model.specs.Joined.{AreNumbers, joined_places, places_at}
 use Rattle.quota_model.proofs.CallerLemmas.{joined_insert, joined_remove, moved_image, numbers_set, removed_image}
 use Rattle.quota_model.specs.Parts.{key_of, objects_of_task}
 use Rattle.quota_model.proofs.CallerLemmas.{found_whole}
 use Rattle.quota_heap.specs.Calls.{IsRemoved, parts_of, parts_without, slot_of}
-use Rattle.quota_heap.specs.Layout.{ArePages, IsTask, IsTaskIn, IsValid, held_in, held_of, paging_at, places_of, state_of, tables_of, as_owner}
+use Rattle.quota_heap.specs.Layout.{ArePages, IsTask, IsTaskIn, IsValid, tasks_held_in, held_of, shared_paging, places_of, tasks_state_of, tables_of, as_owner}
 use Rattle.quota_heap.specs.Steps.{FreesOfTask}
 use Rattle.quota_heap.specs.declared.shared_pages.SharedPages.{SharedPages}
 use Rattle.quota_heap.specs.declared.open_tasks.OpenTasks.{OpenTasks}
@@ -46,15 +46,15 @@ use Rattle.page_slots.specs.Owner.{IsObjectAt, MustMoveInto}
 -- the tables `new` after the slot of object q of task t is freed: they are still tables for this task and these pages (`FitPagesShared`)
 module _ {g : SharedPages} (k : ArePages g) {t : ℕ} {x : Task} (i : IsTask g t x) {q a size c : ℕ} (o : IsObjectAt (as_owner g x) q a size c) (new : Tables)
     (tables : AreTables g.tables.classes new) where
-  of_table : AreTables (class_table (paging_at g)) new
+  of_table : AreTables (class_table (shared_paging g)) new
   of_table = subst (λ s. AreTables s new) (sym (table_is g k)) tables
 
   module _ (v : Vacates (tables_of g x) c (page_at g.tables.classes a) (slot_at g.tables.classes c a) new) where
-    pub vacated_serves : FitPagesShared (paging_at g) new
+    pub vacated_serves : FitPagesShared (shared_paging g) new
     vacated_serves = vacated_part (paging_ok g) i.serve i.occupied of_table i.sound q (it_found (owns k i) o) v (it_class (owns k i) o)
         (page_same (owns k i) o) (slot_same (owns k i) o)
 
-    pub vacated_occupies : Occupies (paging_at g) (remove (held_of g x) q) new
+    pub vacated_occupies : Occupies (shared_paging g) (remove (held_of g x) q) new
     vacated_occupies = vacated_occupied (paging_ok g) i.serve i.occupied of_table i.sound q (it_found (owns k i) o) v (it_class (owns k i) o)
         (page_same (owns k i) o)
         (slot_same (owns k i) o)
@@ -74,10 +74,10 @@ filling k i o moves filled tables = record { valid = owns k i; object = o; moves
 
 module _ {g : SharedPages} (k : ArePages g) {t : ℕ} {x : Task} (i : IsTask g t x) {q a size c b : ℕ} {new : Tables}
     (f : Fills (as_owner g x) q a size c b new) where
-  pub filled_serves : FitPagesShared (paging_at g) new
+  pub filled_serves : FitPagesShared (shared_paging g) new
   filled_serves = filled_part (paging_ok g) i.serve i.occupied (kept_tables f) q (it_found f.valid f.object) (other_fills f)
 
-  pub filled_occupies : Occupies (paging_at g) (without (held_of g x) q a (Some (other f))) new
+  pub filled_occupies : Occupies (shared_paging g) (without (held_of g x) q a (Some (other f))) new
   filled_occupies = filled_occupied (paging_ok g) i.serve i.occupied (kept_tables f) q (it_found f.valid f.object) (other_fills f) i.sound (other f)
       (other_found f) (other_at f) (must_fill f)
 
@@ -121,7 +121,7 @@ module _ (h n : OpenTasks) (k : IsValid h) (t : ℕ) (x x' : Task) (at : IsTaskI
   abbrev i : IsTask h.shared_pages t x
   i = k.task t x at
 
-  stays : Moves (paging_at h.shared_pages) (held_of h.shared_pages x) (it (owns k.shared_pages i) o) None
+  stays : Moves (shared_paging h.shared_pages) (held_of h.shared_pages x) (it (owns k.shared_pages i) o) None
   stays m = false≢true (go.due.1 (moving (owns k.shared_pages i) o m))
 
   few : t < length (places_of h.tasks.items)
@@ -130,17 +130,17 @@ module _ (h n : OpenTasks) (k : IsValid h) (t : ℕ) (x x' : Task) (at : IsTaskI
   small : q < 65536
   small = number_small h.shared_pages k.shared_pages t x i q a o.known
 
-  becomes : Becomes h n t x x' (without (held_in h) (key_of t q) a (option_map (key_of t) None))
+  becomes : Becomes h n t x x' (without (tasks_held_in h) (key_of t q) a (option_map (key_of t) None))
   unfolding removed stays
   becomes = goes h n k t x x' at tasks granted q a size c o None stays go.rest go.live
-      (ap joined (map_set (λ (y : Task). y.proxies.places) h.tasks.items t x'
+      (ap joined_places (map_set (λ (y : Task). y.proxies.places) h.tasks.items t x'
       ∙ ap (λ p. set (places_of h.tasks.items) t p) (ap (λ (p : Proxies). p.places) go.left.proxies ∙ ap (λ m. remove m q) (sym (places_here h k t x at))))
       ∙ joined_remove (places_of h.tasks.items) (numbers h k) t few q small
       ∙ ap (λ m. remove m (key_of t q)) (places_are h k)
-      ∙ sym (map_values-remove (λ (y : Placed). y.place) (held_in h) (key_of t q)))
+      ∙ sym (map_values-remove (λ (y : Placed). y.place) (tasks_held_in h) (key_of t q)))
       go.left.long
-      (removed_image (profile_of h.shared_pages.settings) (held_in h) k.shared h.shared_pages.settings.page_size h.shared_pages.region k.image n.shared_pages.region t q
-      (without (held_in h) (key_of t q) a None) (removed h n k t x x' at tasks granted q a size c o None stays)
+      (removed_image (profile_of h.shared_pages.settings) (tasks_held_in h) k.shared h.shared_pages.settings.page_size h.shared_pages.region k.image n.shared_pages.region t q
+      (without (tasks_held_in h) (key_of t q) a None) (removed h n k t x x' at tasks granted q a size c o None stays)
       (subst (λ s. Clears h.shared_pages.region n.shared_pages.region (record { from = a; count = s })) (it_slot (owns k.shared_pages i) o) go.left.words))
       (vacated_serves k.shared_pages i o (tables_of n.shared_pages x') go.rest.tables go.left.freed)
       (vacated_occupies k.shared_pages i o (tables_of n.shared_pages x') go.rest.tables go.left.freed)
@@ -152,7 +152,7 @@ module _ (h n : OpenTasks) (k : IsValid h) (t : ℕ) (x x' : Task) (at : IsTaskI
   alone_kept = goes_kept h n k t x x' at tasks granted q a size c o None stays becomes
 
   pub alone_freed : (freed : Freed) → freed.slot_words ≡ get_or h.shared_pages.tables.classes.sizes c 0 → number_of freed.moved ≡ None
-      → FreesOfTask (state_of h) t q freed (state_of n)
+      → FreesOfTask (tasks_state_of h) t q freed (tasks_state_of n)
   alone_freed freed words is = goes_freed h n k t x x' at tasks granted q a size c o None stays becomes freed words is
 
 -- a free of task t from heap h to heap n, which moves the object of handle v to the freed slot
@@ -192,10 +192,10 @@ module _ (h n : OpenTasks) (k : IsValid h) (t : ℕ) (x x' : Task) (at : IsTaskI
   same : y ≡ other_object f
   same = (let e : Some y ≡ Some (other_object f) = sym there ∙ ap (get (held_of h.shared_pages x)) is ∙ other_found f in cc)
 
-  mover : Moves (paging_at h.shared_pages) (held_of h.shared_pages x) (it (owns k.shared_pages i') o) (Some r)
+  mover : Moves (shared_paging h.shared_pages) (held_of h.shared_pages x) (it (owns k.shared_pages i') o) (Some r)
   mover = (
     must_fill f,
-    (y, there, subst (MayFill (paging_at h.shared_pages) (held_of h.shared_pages x) (it (owns k.shared_pages i') o)) (sym same) (other_may f)),
+    (y, there, subst (MayFill (shared_paging h.shared_pages) (held_of h.shared_pages x) (it (owns k.shared_pages i') o)) (sym same) (other_may f)),
   )
 
   small' : q < 65536
@@ -204,11 +204,11 @@ module _ (h n : OpenTasks) (k : IsValid h) (t : ℕ) (x x' : Task) (at : IsTaskI
   other_small : r < 65536
   other_small = number_small h.shared_pages k.shared_pages t x i' r fi.left.from known
 
-  part_there : get (objects_of_task (held_in h) t) r ≡ Some y
+  part_there : get (objects_of_task (tasks_held_in h) t) r ≡ Some y
   part_there = ap (λ m. get m r) (part_is h k t x at) ∙ there
 
-  whole_there : get (held_in h) (key_of t r) ≡ Some y
-  whole_there = found_whole (held_in h) t r y part_there
+  whole_there : get (tasks_held_in h) (key_of t r) ≡ Some y
+  whole_there = found_whole (tasks_held_in h) t r y part_there
 
   abbrev all : List (FinMap nat_cmp ℕ)
   all = places_of h.tasks.items
@@ -217,7 +217,7 @@ module _ (h n : OpenTasks) (k : IsValid h) (t : ℕ) (x x' : Task) (at : IsTaskI
   gone = set all t (remove (places_at all t) q)
 
   -- the addresses of all tasks' objects, by key, after the free and the move
-  places_moved : joined (places_of (set h.tasks.items t x')) ≡ places (without (held_in h) (key_of t q) a (Some (key_of t r)))
+  places_moved : joined_places (places_of (set h.tasks.items t x')) ≡ places (without (tasks_held_in h) (key_of t q) a (Some (key_of t r)))
   places_moved =
       let at_gone : places_at gone t ≡ remove (places_at all t) q = get_or-set_same all t (remove (places_at all t) q) empty few' in
       let gone_numbers : AreNumbers gone = numbers_set all (numbers h k) t few' (remove (places_at all t) q) (λ s b f. numbers h k t s b
@@ -225,26 +225,26 @@ module _ (h n : OpenTasks) (k : IsValid h) (t : ℕ) (x x' : Task) (at : IsTaskI
       let gone_few : t < length gone = (let e = length-set all t (remove (places_at all t) q) in let l = few' in omega arith) in
       let now : insert (remove x.proxies.places q) r a ≡ insert (places_at gone t) r a =
       ap (λ m. insert m r a) (ap (λ m. remove m q) (sym (places_here h k t x at)) ∙ sym at_gone) in
-      ap joined (map_set (λ (z : Task). z.proxies.places) h.tasks.items t x'
+      ap joined_places (map_set (λ (z : Task). z.proxies.places) h.tasks.items t x'
       ∙ ap (λ p. set all t p) (ap (λ (p : Proxies). p.places) fi.left.proxies ∙ now)
       ∙ sym (set-set all t (remove (places_at all t) q) (insert (places_at gone t) r a)))
       ∙ joined_insert gone gone_numbers t gone_few r other_small a
       ∙ ap (λ m. insert m (key_of t r) a) (joined_remove all (numbers h k) t few' q small' ∙ ap (λ m. remove m (key_of t q)) (places_are h k)
-      ∙ sym (map_values-remove (λ (z : Placed). z.place) (held_in h) (key_of t q)))
-      ∙ sym (map_values-insert (λ (z : Placed). z.place) (remove (held_in h) (key_of t q)) (key_of t r) (record { place = a; bytes = y.bytes }))
-      ∙ ap (λ f. places (moved_to (remove (held_in h) (key_of t q)) (key_of t r) f a)) (sym whole_there)
+      ∙ sym (map_values-remove (λ (z : Placed). z.place) (tasks_held_in h) (key_of t q)))
+      ∙ sym (map_values-insert (λ (z : Placed). z.place) (remove (tasks_held_in h) (key_of t q)) (key_of t r) (record { place = a; bytes = y.bytes }))
+      ∙ ap (λ f. places (moved_to (remove (tasks_held_in h) (key_of t q)) (key_of t r) f a)) (sym whole_there)
 
-  becomes' : Becomes h n t x x' (without (held_in h) (key_of t q) a (option_map (key_of t) (Some r)))
+  becomes' : Becomes h n t x x' (without (tasks_held_in h) (key_of t q) a (option_map (key_of t) (Some r)))
   unfolding removed mover
   becomes' = goes h n k t x x' at tasks granted q a size c o (Some r) mover fi.rest fi.live
       places_moved
       fi.left.moves.long
-      (moved_image (profile_of h.shared_pages.settings) (held_in h) k.shared h.shared_pages.settings.page_size h.shared_pages.region k.image n.shared_pages.region t q r y
-      (without (held_in h) (key_of t q) a (Some (key_of t r))) (removed h n k t x x' at tasks granted q a size c o (Some r) mover) part_there
+      (moved_image (profile_of h.shared_pages.settings) (tasks_held_in h) k.shared h.shared_pages.settings.page_size h.shared_pages.region k.image n.shared_pages.region t q r y
+      (without (tasks_held_in h) (key_of t q) a (Some (key_of t r))) (removed h n k t x x' at tasks granted q a size c o (Some r) mover) part_there
       (subst (λ s. MovesWords h.shared_pages.region n.shared_pages.region (record { from = fi.left.from; count = s }) a)
-      (same_slot f ∙ ap (λ (z : Placed). slot_for (paging_at h.shared_pages) (length z.bytes)) (sym same)) fi.left.moves.words))
+      (same_slot f ∙ ap (λ (z : Placed). slot_for (shared_paging h.shared_pages) (length z.bytes)) (sym same)) fi.left.moves.words))
       (filled_serves k.shared_pages i' f)
-      (subst (λ j. Occupies (paging_at h.shared_pages) (without (held_of h.shared_pages x) q a (Some j)) new) (sym is) (filled_occupies k.shared_pages i' f))
+      (subst (λ j. Occupies (shared_paging h.shared_pages) (without (held_of h.shared_pages x) q a (Some j)) new) (sym is) (filled_occupies k.shared_pages i' f))
       (ap (λ (p : Proxies). p.limit) fi.left.proxies)
       (fill_accounts h.shared_pages.tables.classes (tables_of h.shared_pages x) (tables_ok h.shared_pages k.shared_pages t x i') c new fi.left.from fi.left.filled)
 
@@ -252,7 +252,7 @@ module _ (h n : OpenTasks) (k : IsValid h) (t : ℕ) (x x' : Task) (at : IsTaskI
   filled_kept = goes_kept h n k t x x' at tasks granted q a size c o (Some r) mover becomes'
 
   pub filled_freed : (freed : Freed) → freed.slot_words ≡ get_or h.shared_pages.tables.classes.sizes c 0 → number_of freed.moved ≡ Some r
-      → FreesOfTask (state_of h) t q freed (state_of n)
+      → FreesOfTask (tasks_state_of h) t q freed (tasks_state_of n)
   filled_freed freed words is = goes_freed h n k t x x' at tasks granted q a size c o (Some r) mover becomes' freed words is
 
 -- a free of task t from heap h to heap n, whether or not another object moved
@@ -263,10 +263,10 @@ module _ (h n : OpenTasks) (k : IsValid h) (t : ℕ) (x x' : Task) (at : IsTaskI
   removed_kept (Some r) go = filled_kept h n k t x x' at tasks granted q a size c r o go
 
   pub removed_freed : (freed : Freed) → IsRemoved h.shared_pages x q (slot_of h.shared_pages t c a) freed.moved n.shared_pages x'
-      → freed.slot_words ≡ get_or h.shared_pages.tables.classes.sizes c 0 → FreesOfTask (state_of h) t q freed (state_of n)
+      → freed.slot_words ≡ get_or h.shared_pages.tables.classes.sizes c 0 → FreesOfTask (tasks_state_of h) t q freed (tasks_state_of n)
   removed_freed freed go words = by freed.moved refl go
     where
       by : (moved : Option Handle) → freed.moved ≡ moved → IsRemoved h.shared_pages x q (slot_of h.shared_pages t c a) moved n.shared_pages x'
-          → FreesOfTask (state_of h) t q freed (state_of n)
+          → FreesOfTask (tasks_state_of h) t q freed (tasks_state_of n)
       by None is go = alone_freed h n k t x x' at tasks granted q a size c o go freed words (ap number_of is)
       by (Some r) is go = filled_freed h n k t x x' at tasks granted q a size c r o go freed words (ap number_of is)

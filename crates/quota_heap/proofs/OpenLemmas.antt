@@ -25,14 +25,14 @@ use Rattle.page_slots.specs.Occupying.{Occupies, FitPagesShared}
 use Rattle.page_slots.specs.PageTables.{AreFirst, tables_with}
 use Rattle.page_slots.proofs.CallerLemmas.{first_occupied, first_table, new_serve, no_pages}
 use Rattle.proxy_table.specs.Proxies.{AreBelowLimit, no_proxies}
-use Rattle.quota_model.specs.Joined.{AreNumbers, joined, places_at}
+use Rattle.quota_model.specs.Joined.{AreNumbers, joined_places, places_at}
 use Rattle.quota_model.proofs.CallerLemmas.{get_by_key}
-use Rattle.quota_model.specs.Parts.{number_of, objects_of_task, task_of}
+use Rattle.quota_model.specs.Parts.{number_in_task, objects_of_task, task_of}
 use Rattle.quota_model.specs.Shared.{AreQuotas, IsShared}
 use Rattle.quota_model.proofs.CallerLemmas.{first_quotas, first_shared, no_part, sum_zeros_list}
 use Rattle.size_classes.specs.Table.{ClassTable, table_of}
-use Rattle.quota_heap.specs.Layout.{AreFirstPages, ArePages, IsTask, IsTaskIn, IsValid, first_task, held_in, held_of, pages_of, paging_at, places_of}
-use Rattle.quota_heap.specs.Layout.{quotas_of, state_of}
+use Rattle.quota_heap.specs.Layout.{AreFirstPages, ArePages, IsTask, IsTaskIn, IsValid, first_task, held_of, pages_of, places_of, shared_paging, tasks_held_in}
+use Rattle.quota_heap.specs.Layout.{quotas_of, tasks_state_of}
 use Rattle.quota_heap.specs.State.{empty_state}
 use Rattle.quota_heap.specs.declared.open_tasks.OpenTasks.{OpenTasks}
 use Rattle.quota_heap.specs.declared.task.Task.{Task}
@@ -65,9 +65,9 @@ none_numbered n t h a f = absurd (
     none_at (suc n) zero = refl
     none_at (suc n) (suc t) = none_at n t
 
-none_joined : (n : ℕ) → joined (replicate n empty) ≡ empty
-none_joined n = equal_maps _ _ (λ key. get_by_key (replicate n empty) (none_numbered n) key ∙ ap (λ m. get m (number_of key)) (none_at n (task_of key))
-    ∙ get-empty nat_cmp (number_of key) ∙ sym (get-empty nat_cmp key))
+none_joined : (n : ℕ) → joined_places (replicate n empty) ≡ empty
+none_joined n = equal_maps _ _ (λ key. get_by_key (replicate n empty) (none_numbered n) key ∙ ap (λ m. get m (number_in_task key)) (none_at n (task_of key))
+    ∙ get-empty nat_cmp (number_in_task key) ∙ sym (get-empty nat_cmp key))
   where
     none_at : (n t : ℕ) → places_at (replicate n (empty {X = ℕ} {R = nat_cmp})) t ≡ empty
     none_at zero t = refl
@@ -96,13 +96,13 @@ module _ (s : Settings) (h : OpenTasks) (f : AreFirstPages s h.shared_pages) (n 
   first_is t x e = replicated 16 (first_task n s.pages s.proxies) t x (sym (ap (λ ts. slice_get ts t) tasks) ∙ e)
 
   -- the tables are those of pages that are all free
-  shown : FitPagesShared (paging_at h.shared_pages) (tables_with h.shared_pages.tables (empty_lists n s.pages))
+  shown : FitPagesShared (shared_paging h.shared_pages) (tables_with h.shared_pages.tables (empty_lists n s.pages))
   shown =
       let first : AreFirst h.shared_pages.settings Words h.shared_pages.tables =
       subst (λ t. AreFirst t Words h.shared_pages.tables) (sym f.settings) f.tables in
       let t = first_table h.shared_pages.settings.page_words Words h.shared_pages.settings.page_size in
       let small = h.shared_pages.settings.small_region in
-      (new_serve (paging_at h.shared_pages) n (tables_with h.shared_pages.tables (empty_lists n s.pages)) t (omega arith) many_classes
+      (new_serve (shared_paging h.shared_pages) n (tables_with h.shared_pages.tables (empty_lists n s.pages)) t (omega arith) many_classes
       (λ i. record { maps = first.maps i; lists = ap (empty_lists n) (sym pages_is) i; pool = first.pool i })).part
 
   held_none : held_of h.shared_pages (first_task n s.pages s.proxies) ≡ empty
@@ -110,10 +110,10 @@ module _ (s : Settings) (h : OpenTasks) (f : AreFirstPages s h.shared_pages) (n 
 
   first_kept : (t : ℕ) → IsTask h.shared_pages t (first_task n s.pages s.proxies)
   first_kept t = record {
-    sound = subst (IsSound (paging_at h.shared_pages)) (sym held_none) (sound_empty (paging_at h.shared_pages));
+    sound = subst (IsSound (shared_paging h.shared_pages)) (sym held_none) (sound_empty (shared_paging h.shared_pages));
     serve = shown;
-    occupied = subst (λ m. Occupies (paging_at h.shared_pages) m (tables_with h.shared_pages.tables (empty_lists n s.pages))) (sym held_none)
-        (first_occupied n s.pages (paging_at h.shared_pages) h.shared_pages.tables.maps.pages h.shared_pages.tables.pool);
+    occupied = subst (λ m. Occupies (shared_paging h.shared_pages) m (tables_with h.shared_pages.tables (empty_lists n s.pages))) (sym held_none)
+        (first_occupied n s.pages (shared_paging h.shared_pages) h.shared_pages.tables.maps.pages h.shared_pages.tables.pool);
     headed = λ q y e. absurd (
         let z : Some y ≡ None = sym e ∙ ap (λ m. get m q) held_none ∙ get-empty nat_cmp q in cc);
     numbers = sym (ap (λ (t : Settings). t.proxies) f.settings);
@@ -122,13 +122,13 @@ module _ (s : Settings) (h : OpenTasks) (f : AreFirstPages s h.shared_pages) (n 
     counted = λ c lt. (
         let few = (are_sizes h.shared_pages.settings.page_words Words h.shared_pages.settings.page_size).few in
         let here : c < 128 = omega arith in
-        get_or-replicate {A = ℕ} 128 c 0 0 here ∙ sym (ap (λ m. live (paging_at h.shared_pages) (objects m) c) held_none
-        ∙ ap (λ o. live (paging_at h.shared_pages) o c) no_objects ∙ none_live (paging_at h.shared_pages) c));
-    pages = sym (ap (λ m. pages_needed (paging_at h.shared_pages) (objects m)) held_none
-        ∙ ap (λ m. pages_needed (paging_at h.shared_pages) (objects m)) (sym (no_part 0)) ∙ none_needed);
+        get_or-replicate {A = ℕ} 128 c 0 0 here ∙ sym (ap (λ m. live (shared_paging h.shared_pages) (objects m) c) held_none
+        ∙ ap (λ o. live (shared_paging h.shared_pages) o c) no_objects ∙ none_live (shared_paging h.shared_pages) c));
+    pages = sym (ap (λ m. pages_needed (shared_paging h.shared_pages) (objects m)) held_none
+        ∙ ap (λ m. pages_needed (shared_paging h.shared_pages) (objects m)) (sym (no_part 0)) ∙ none_needed);
   }
     where
-      none_needed : pages_needed (paging_at h.shared_pages) (objects (objects_of_task empty 0)) ≡ 0
+      none_needed : pages_needed (shared_paging h.shared_pages) (objects (objects_of_task empty 0)) ≡ 0
       none_needed = (
           let le = (first_quotas (profile_of h.shared_pages.settings)).enough 0 in
           let z : get_or (replicate {A = ℕ} 16 0) 0 0 ≡ 0 = refl in
@@ -140,8 +140,8 @@ module _ (s : Settings) (h : OpenTasks) (f : AreFirstPages s h.shared_pages) (n 
   quotas_none : quotas_of h.tasks.items ≡ replicate 16 0
   quotas_none = ap quotas_of tasks ∙ map_replicate (λ (x : Task). x.quota) 16 (first_task n s.pages s.proxies)
 
-  all_none : held_in h ≡ empty
-  all_none = ap (λ ps. held_at h.shared_pages.region (joined ps)) places_none ∙ ap (held_at h.shared_pages.region) (none_joined 16) ∙ nothing_held h.shared_pages.region
+  all_none : tasks_held_in h ≡ empty
+  all_none = ap (λ ps. held_at h.shared_pages.region (joined_places ps)) places_none ∙ ap (held_at h.shared_pages.region) (none_joined 16) ∙ nothing_held h.shared_pages.region
 
   pub opened_kept : IsValid h
   opened_kept = record {
@@ -154,10 +154,10 @@ module _ (s : Settings) (h : OpenTasks) (f : AreFirstPages s h.shared_pages) (n 
         contains_nil page (subst (λ xs. Contains xs page) (no_pages n s.pages c w) at));
     shared = subst (IsShared (profile_of h.shared_pages.settings)) (sym all_none) (first_shared (profile_of h.shared_pages.settings));
     image =
-        let at : IsSlotImage (paging_at h.shared_pages) empty (replicate (s.pages * s.page_words) 0) =
-        image_empty (slot_for (paging_at h.shared_pages)) (s.pages * s.page_words) in
-        subst (λ m. IsSlotImage (paging_at h.shared_pages) m h.shared_pages.region) (sym all_none)
-        (subst (λ w. IsSlotImage (paging_at h.shared_pages) empty w) (sym f.region) at);
+        let at : IsSlotImage (shared_paging h.shared_pages) empty (replicate (s.pages * s.page_words) 0) =
+        image_empty (slot_for (shared_paging h.shared_pages)) (s.pages * s.page_words) in
+        subst (λ m. IsSlotImage (shared_paging h.shared_pages) m h.shared_pages.region) (sym all_none)
+        (subst (λ w. IsSlotImage (shared_paging h.shared_pages) empty w) (sym f.region) at);
     quotas = subst (λ m. AreQuotas (profile_of h.shared_pages.settings) (quotas_of h.tasks.items) m) (sym all_none)
         (subst (λ qs. AreQuotas (profile_of h.shared_pages.settings) qs empty) (sym quotas_none) (first_quotas (profile_of h.shared_pages.settings)));
     granted = none ∙ sym (ap sum quotas_none ∙ sum_zeros_list 16);
@@ -170,11 +170,11 @@ module _ (s : Settings) (h : OpenTasks) (f : AreFirstPages s h.shared_pages) (n 
         omega arith);
   }
 
-  pub opened_empty : state_of h ≡ empty_state (profile_of s)
+  pub opened_empty : tasks_state_of h ≡ empty_state (profile_of s)
   opened_empty =
-      ap (λ qs. record (state_of h) { quotas = qs }) quotas_none
-      ∙ ap (λ m. record (state_of h) { quotas = replicate 16 0; held = m }) all_none
-      ∙ ap (λ ws. record (state_of h) { quotas = replicate 16 0; held = empty; words = ws }) f.region
-      ∙ ap (λ (t : Settings). record (state_of h)
+      ap (λ qs. record (tasks_state_of h) { quotas = qs }) quotas_none
+      ∙ ap (λ m. record (tasks_state_of h) { quotas = replicate 16 0; held = m }) all_none
+      ∙ ap (λ ws. record (tasks_state_of h) { quotas = replicate 16 0; held = empty; words = ws }) f.region
+      ∙ ap (λ (t : Settings). record (tasks_state_of h)
       { profile = profile_of t; quotas = replicate 16 0; held = empty; words = replicate (s.pages * s.page_words) 0 })
       f.settings

@@ -18,16 +18,16 @@ use Rattle.page_model.proofs.CallerLemmas.{bytes_at-AreBytes, inserted_there, le
 use Rattle.page_model.proofs.CallerLemmas.{written_are_bytes, written_nothing}
 use Rattle.page_slots.specs.Occupying.{Occupies}
 use Rattle.page_slots.proofs.CallerLemmas.{bytes_read, rewrites, words_in, rewritten_occupied, no_place, held}
-use Rattle.quota_model.specs.Joined.{joined}
+use Rattle.quota_model.specs.Joined.{joined_places}
 use Rattle.quota_model.proofs.CallerLemmas.{image_of_write, live_same, needed_same, others_rewritten, own_rewritten, rewritten_quotas, rewritten_shared}
 use Rattle.quota_model.specs.Parts.{key_of, objects_of_task}
 use Rattle.quota_model.proofs.CallerLemmas.{found_whole}
 use Rattle.cf_model.specs.Steps.{Position}
 use Rattle.region.specs.Overwriting.{Overwrites, byte_from}
-use Rattle.quota_heap.specs.Calls.{IsFound, IsFoundIn, IsMissing}
-use Rattle.quota_heap.specs.Layout.{IsTask, IsTaskIn, IsValid, held_in, held_of, paging_at, places_of, quotas_of, state_of, tables_of, as_owner}
+use Rattle.quota_heap.specs.Calls.{IsFoundIn, IsMissing, IsTaskFound}
+use Rattle.quota_heap.specs.Layout.{IsTask, IsTaskIn, IsValid, tasks_held_in, held_of, shared_paging, places_of, quotas_of, tasks_state_of, tables_of, as_owner}
 use Rattle.quota_heap.specs.State.{held_by}
-use Rattle.quota_heap.specs.Steps.{IsFault, ReadsOfTask, WritesForTask, with_held}
+use Rattle.quota_heap.specs.Steps.{IsTaskFault, ReadsOfTask, WritesForTask, with_held}
 use Rattle.quota_heap.specs.declared.open_tasks.OpenTasks.{OpenTasks}
 use Rattle.quota_heap.specs.declared.task.Task.{Task}
 use Rattle.quota_heap.proofs.Facts.{number_small, tables_ok, owns}
@@ -40,14 +40,14 @@ module _ (h : OpenTasks) (k : IsValid h) (t : ℕ) (x : Task) (at : IsTaskIn h t
   i = k.task t x at
 
   -- the object at the address of a live number, as contracts show it
-  pub object_by : (q a : ℕ) → get x.proxies.places q ≡ Some a → get (held_by (state_of h) t) q ≡ Some (record { place = a; bytes = bytes_at h.shared_pages.region a })
+  pub object_by : (q a : ℕ) → get x.proxies.places q ≡ Some a → get (held_by (tasks_state_of h) t) q ≡ Some (record { place = a; bytes = bytes_at h.shared_pages.region a })
   object_by q a e = ap (λ m. get m q) (part_is h k t x at) ∙ held (owns k.shared_pages i) q a e
 
-  pub no_object : (q : ℕ) → get x.proxies.places q ≡ None → get (held_by (state_of h) t) q ≡ None
+  pub no_object : (q : ℕ) → get x.proxies.places q ≡ None → get (held_by (tasks_state_of h) t) q ≡ None
   no_object q e = ap (λ m. get m q) (part_is h k t x at) ∙ no_place (as_owner h.shared_pages x) q e
 
   -- the cause of a fault of `find`, as contracts show it
-  pub fault_is : (position : Position) (count : ℕ) (e : AccessFault) → IsMissing h.shared_pages x position count e → IsFault (state_of h) t position count e
+  pub fault_is : (position : Position) (count : ℕ) (e : AccessFault) → IsMissing h.shared_pages x position count e → IsTaskFault (tasks_state_of h) t position count e
   fault_is position count Unknown none = no_object position.number none
   fault_is position count Range p = record {
     object = record { place = p.place; bytes = bytes_at h.shared_pages.region p.place };
@@ -56,7 +56,7 @@ module _ (h : OpenTasks) (k : IsValid h) (t : ℕ) (x : Task) (at : IsTaskIn h t
   }
 
   -- what `find` of the shared pages returns for the task is right for the heap
-  pub found_in : (position : Position) (count : ℕ) (r : Result ℕ AccessFault) → IsFound h.shared_pages x position count r → IsFoundIn h t position count r
+  pub found_in : (position : Position) (count : ℕ) (r : Result ℕ AccessFault) → IsTaskFound h.shared_pages x position count r → IsFoundIn h t position count r
   found_in position count (Ok place) l = λ y e. (
       let z : Some x ≡ Some y = sym at ∙ e in
       let same : x ≡ y = cc in
@@ -87,7 +87,7 @@ module _ (h : OpenTasks) (k : IsValid h) (t : ℕ) (x : Task) (at : IsTaskIn h t
   -- the bytes that the code reads are those of the object
   pub read_is : (out : List ℕ) → length out ≡ count
       → ((j : ℕ) → j < length out → get_or out j 0 ≡ byte_from h.shared_pages.region (a + 1 + position.from / 8) (position.from % 8 + j))
-      → ReadsOfTask (state_of h) t position count out
+      → ReadsOfTask (tasks_state_of h) t position count out
   read_is out long each = record {
     object = record { place = a; bytes = bytes_at h.shared_pages.region a };
     found = object_by h k t x at position.number a l.found;
@@ -96,7 +96,7 @@ module _ (h : OpenTasks) (k : IsValid h) (t : ℕ) (x : Task) (at : IsTaskIn h t
   }
 
   -- a read of no bytes meets the contract of a read
-  pub reads_nothing : (out : List ℕ) → length out ≡ count → count ≡ 0 → ReadsOfTask (state_of h) t position count out
+  pub reads_nothing : (out : List ℕ) → length out ≡ count → count ≡ 0 → ReadsOfTask (tasks_state_of h) t position count out
   reads_nothing out long none = read_is out long (λ j less. absurd (omega arith))
 
 -- a write of `bytes` to the found object at address a, after which the region has the words `words`
@@ -130,11 +130,11 @@ module _ (h : OpenTasks) (k : IsValid h) (t : ℕ) (x : Task) (at : IsTaskIn h t
   found : get (held_of h.shared_pages x) q ≡ Some it
   found = held (owns k.shared_pages own) q a l.found
 
-  part_found : get (objects_of_task (held_in h) t) q ≡ Some it
+  part_found : get (objects_of_task (tasks_held_in h) t) q ≡ Some it
   part_found = ap (λ m. get m q) (part_is h k t x at) ∙ found
 
-  whole_found : get (held_in h) key ≡ Some it
-  whole_found = found_whole (held_in h) t q it part_found
+  whole_found : get (tasks_held_in h) key ≡ Some it
+  whole_found = found_whole (tasks_held_in h) t q it part_found
 
   are : AreBytes new
   are = written_are_bytes old pos bytes l.within (bytes_at-AreBytes h.shared_pages.region a) each
@@ -149,21 +149,21 @@ module _ (h : OpenTasks) (k : IsValid h) (t : ℕ) (x : Task) (at : IsTaskIn h t
   key_few = (let f = few in let s = task_below h k t x at in omega arith)
 
   abbrev pub changed : Held
-  changed = insert (held_in h) (key_of t position.number) (record { place = a; bytes = written (bytes_at h.shared_pages.region a) position.from bytes })
+  changed = insert (tasks_held_in h) (key_of t position.number) (record { place = a; bytes = written (bytes_at h.shared_pages.region a) position.from bytes })
 
-  image : IsSlotImage (paging_at h.shared_pages) changed words
+  image : IsSlotImage (shared_paging h.shared_pages) changed words
   image =
       let first : a + 1 + pos / 8 ≡ a + (1 + pos / 8) = omega arith in
-      image_of_write (profile_of h.shared_pages.settings) (held_in h) k.shared h.shared_pages.settings.page_size h.shared_pages.region k.image t q it part_found words pos bytes
+      image_of_write (profile_of h.shared_pages.settings) (tasks_held_in h) k.shared h.shared_pages.settings.page_size h.shared_pages.region k.image t q it part_found words pos bytes
       l.within
       (subst (λ f. Rewrites h.shared_pages.region words (record { from = f; count = (pos % 8 + length bytes + 7) / 8 }) (λ j. object_word key new (1 + pos / 8 + j)))
       first (rewrites (owns k.shared_pages own) q pos a bytes l each key key_few (k.image.held key it whole_found) words w))
 
-  class : class_for (paging_at h.shared_pages) (length new) ≡ class_for (paging_at h.shared_pages) (length old)
-  class = ap (class_for (paging_at h.shared_pages)) size
+  class : class_for (shared_paging h.shared_pages) (length new) ≡ class_for (shared_paging h.shared_pages) (length old)
+  class = ap (class_for (shared_paging h.shared_pages)) size
 
   own_part : objects_of_task changed t ≡ insert (held_of h.shared_pages x) q (record { place = a; bytes = new })
-  own_part = own_rewritten (profile_of h.shared_pages.settings) (held_in h) t q it part_found new class
+  own_part = own_rewritten (profile_of h.shared_pages.settings) (tasks_held_in h) t q it part_found new class
       ∙ ap (λ m. insert m q (record { place = a; bytes = new })) (part_is h k t x at)
 
   tasks_same : h.tasks.items ≡ set h.tasks.items t x
@@ -183,28 +183,28 @@ module _ (h : OpenTasks) (k : IsValid h) (t : ℕ) (x : Task) (at : IsTaskIn h t
       handles = own.handles;
       account = refl;
     };
-    places = ap (λ ts. joined (places_of ts)) (sym tasks_same) ∙ places_are h k
-        ∙ sym (rewritten_places (held_in h) key it (record { place = a; bytes = new }) whole_found refl);
-    storable = storable_added (held_in h) key (record { place = a; bytes = new }) (stored h k) key_few are;
+    places = ap (λ ts. joined_places (places_of ts)) (sym tasks_same) ∙ places_are h k
+        ∙ sym (rewritten_places (tasks_held_in h) key it (record { place = a; bytes = new }) whole_found refl);
+    storable = storable_added (tasks_held_in h) key (record { place = a; bytes = new }) (stored h k) key_few are;
     long = w.long;
     image = image;
-    shared = rewritten_shared (profile_of h.shared_pages.settings) (held_in h) t q it part_found new class k.shared;
-    quotas = rewritten_quotas (profile_of h.shared_pages.settings) (held_in h) t q it part_found new class (quotas_of h.tasks.items) k.quotas;
-    others = λ u ne. others_rewritten (profile_of h.shared_pages.settings) (held_in h) t q it part_found new class u ne;
+    shared = rewritten_shared (profile_of h.shared_pages.settings) (tasks_held_in h) t q it part_found new class k.shared;
+    quotas = rewritten_quotas (profile_of h.shared_pages.settings) (tasks_held_in h) t q it part_found new class (quotas_of h.tasks.items) k.quotas;
+    others = λ u ne. others_rewritten (profile_of h.shared_pages.settings) (tasks_held_in h) t q it part_found new class u ne;
     serve = own.serve;
-    occupied = subst (λ m. Occupies (paging_at h.shared_pages) m (tables_of h.shared_pages x)) (sym own_part) (rewritten_occupied own.occupied q found new class);
+    occupied = subst (λ m. Occupies (shared_paging h.shared_pages) m (tables_of h.shared_pages x)) (sym own_part) (rewritten_occupied own.occupied q found new class);
     limit = refl;
     live_long = own.live_long;
-    counted = λ c lt. own.counted c lt ∙ sym (live_same (profile_of h.shared_pages.settings) (held_in h) t q it part_found new class c
-        ∙ ap (λ m. live (paging_at h.shared_pages) (objects m) c) (part_is h k t x at));
-    pages = own.pages ∙ sym (needed_same (profile_of h.shared_pages.settings) (held_in h) t q it part_found new class
-        ∙ ap (λ m. pages_needed (paging_at h.shared_pages) (objects m)) (part_is h k t x at));
+    counted = λ c lt. own.counted c lt ∙ sym (live_same (profile_of h.shared_pages.settings) (tasks_held_in h) t q it part_found new class c
+        ∙ ap (λ m. live (shared_paging h.shared_pages) (objects m) c) (part_is h k t x at));
+    pages = own.pages ∙ sym (needed_same (profile_of h.shared_pages.settings) (tasks_held_in h) t q it part_found new class
+        ∙ ap (λ m. pages_needed (shared_paging h.shared_pages) (objects m)) (part_is h k t x at));
   }
 
   pub wrote_kept : IsValid left
   wrote_kept = becomes_kept h left k t x x changed becomes
 
-  pub wrote : WritesForTask (state_of h) t position bytes (state_of left)
+  pub wrote : WritesForTask (tasks_state_of h) t position bytes (tasks_state_of left)
   wrote = record {
     object = it;
     found = object_by h k t x at q a l.found;
@@ -214,11 +214,11 @@ module _ (h : OpenTasks) (k : IsValid h) (t : ℕ) (x : Task) (at : IsTaskIn h t
 
 -- a write of no bytes changes nothing
 pub wrote_nothing : (h : OpenTasks) (k : IsValid h) (t : ℕ) (x : Task) (at : IsTaskIn h t x) (position : Position) (a : ℕ) (bytes : List ℕ) → length bytes ≡ 0
-    → HoldsBytesAt (as_owner h.shared_pages x) position.number position.from (length bytes) a → WritesForTask (state_of h) t position bytes (state_of h)
+    → HoldsBytesAt (as_owner h.shared_pages x) position.number position.from (length bytes) a → WritesForTask (tasks_state_of h) t position bytes (tasks_state_of h)
 wrote_nothing h k t x at position a [] none l =
     let it : Placed = record { place = a; bytes = bytes_at h.shared_pages.region a } in
     let found = object_by h k t x at position.number a l.found in
-    let whole = found_whole (held_in h) t position.number (record { place = a; bytes = bytes_at h.shared_pages.region a }) found in
+    let whole = found_whole (tasks_held_in h) t position.number (record { place = a; bytes = bytes_at h.shared_pages.region a }) found in
     record {
       object = record { place = a; bytes = bytes_at h.shared_pages.region a };
       found = found;
@@ -226,8 +226,8 @@ wrote_nothing h k t x at position a [] none l =
       whole =
           let fits = l.within in
           let same = written_nothing (bytes_at h.shared_pages.region a) position.from (omega arith) in
-          ap (λ m. with_held (state_of h) m h.shared_pages.region)
-          (sym (ap (λ v. insert (held_in h) (key_of t position.number) (record { place = a; bytes = v })) same
-          ∙ inserted_there (held_in h) (key_of t position.number) (record { place = a; bytes = bytes_at h.shared_pages.region a }) whole));
+          ap (λ m. with_held (tasks_state_of h) m h.shared_pages.region)
+          (sym (ap (λ v. insert (tasks_held_in h) (key_of t position.number) (record { place = a; bytes = v })) same
+          ∙ inserted_there (tasks_held_in h) (key_of t position.number) (record { place = a; bytes = bytes_at h.shared_pages.region a }) whole));
     }
 wrote_nothing h k t x at position a (y ∷ ys) none l = absurd (omega arith)

@@ -18,14 +18,14 @@ use Rattle.page_model.proofs.CallerLemmas.{class_holds, held_at_bytes, held_from
 use Rattle.page_slots.specs.Occupying.{Occupies, FitPagesShared}
 use Rattle.page_slots.specs.Tables.{AreOthers, AreTables}
 use Rattle.page_slots.proofs.CallerLemmas.{mine_elsewhere, others_elsewhere, others_occupied, others_tables}
-use Rattle.quota_model.specs.Joined.{AreNumbers, joined}
+use Rattle.quota_model.specs.Joined.{AreNumbers, joined_places}
 use Rattle.quota_model.proofs.CallerLemmas.{own_image, numbers_set, part_joined}
 use Rattle.quota_model.specs.Parts.{key_of, objects_of_task}
 use Rattle.quota_model.specs.Shared.{AreQuotas, IsShared}
 use Rattle.size_classes.specs.Table.{ClassTable}
 use Rattle.quota_model.proofs.CallerLemmas.{found_whole}
 use Rattle.quota_heap.specs.Calls.{KeepsRest}
-use Rattle.quota_heap.specs.Layout.{IsTask, IsTaskIn, IsValid, held_in, held_of, pages_of, paging_at, places_of, quotas_of, state_of, tables_of}
+use Rattle.quota_heap.specs.Layout.{IsTask, IsTaskIn, IsValid, held_of, pages_of, places_of, quotas_of, shared_paging, tables_of, tasks_held_in, tasks_state_of}
 use Rattle.quota_heap.specs.Steps.{with_held}
 use Rattle.quota_heap.specs.declared.open_tasks.OpenTasks.{OpenTasks}
 use Rattle.quota_heap.specs.declared.task.Task.{Task}
@@ -39,19 +39,19 @@ pub record Becomes (h n : OpenTasks) (t : ℕ) (x x' : Task) (m : Held) : Type 0
   pub tasks : n.tasks.items ≡ set h.tasks.items t x'
   pub granted : n.granted ≡ h.granted
   pub rest : KeepsRest h.shared_pages x n.shared_pages x'
-  pub places : joined (places_of (set h.tasks.items t x')) ≡ places m
+  pub places : joined_places (places_of (set h.tasks.items t x')) ≡ places m
   pub storable : AreStorable m
   pub long : length n.shared_pages.region ≡ length h.shared_pages.region
-  pub image : IsSlotImage (paging_at h.shared_pages) m n.shared_pages.region
+  pub image : IsSlotImage (shared_paging h.shared_pages) m n.shared_pages.region
   pub shared : IsShared (profile_of h.shared_pages.settings) m
   pub quotas : AreQuotas (profile_of h.shared_pages.settings) (quotas_of h.tasks.items) m
-  pub others : (u : ℕ) → u ≢ t → objects_of_task m u ≡ objects_of_task (held_in h) u
-  pub serve : FitPagesShared (paging_at h.shared_pages) (tables_of n.shared_pages x')
-  pub occupied : Occupies (paging_at h.shared_pages) (objects_of_task m t) (tables_of n.shared_pages x')
+  pub others : (u : ℕ) → u ≢ t → objects_of_task m u ≡ objects_of_task (tasks_held_in h) u
+  pub serve : FitPagesShared (shared_paging h.shared_pages) (tables_of n.shared_pages x')
+  pub occupied : Occupies (shared_paging h.shared_pages) (objects_of_task m t) (tables_of n.shared_pages x')
   pub limit : x'.proxies.limit ≡ x.proxies.limit
   pub live_long : length x'.live ≡ 128
-  pub counted : (c : ℕ) → c < classes (paging_at h.shared_pages) → get_or x'.live c 0 ≡ live (paging_at h.shared_pages) (objects (objects_of_task m t)) c
-  pub pages : x'.pages ≡ pages_needed (paging_at h.shared_pages) (objects (objects_of_task m t))
+  pub counted : (c : ℕ) → c < classes (shared_paging h.shared_pages) → get_or x'.live c 0 ≡ live (shared_paging h.shared_pages) (objects (objects_of_task m t)) c
+  pub pages : x'.pages ≡ pages_needed (shared_paging h.shared_pages) (objects (objects_of_task m t))
 
 -- heap n with these settings and classes in place of its own; its maps have room for the slots of the classes
 abbrev pub with_rest : (n : OpenTasks) → Settings → (k : ClassTable) → k.page_words / 4 ≤ n.shared_pages.tables.maps.most → OpenTasks
@@ -86,10 +86,10 @@ module _ (h n : OpenTasks) (k : IsValid h) (t : ℕ) (x x' : Task) (m : Held) (b
   other_in : (u : ℕ) (y : Task) → u ≢ t → IsTaskIn w u y → IsTaskIn h u y
   other_in u y ne e = sym (set_there h.tasks.items t u x' ne) ∙ sym (ap (λ ts. slice_get ts u) b.tasks) ∙ e
 
-  held_is : held_in w ≡ m
-  held_is = held_from_image m (joined (places_of n.tasks.items)) n.shared_pages.region
+  held_is : tasks_held_in w ≡ m
+  held_is = held_from_image m (joined_places (places_of n.tasks.items)) n.shared_pages.region
       (own_image (profile_of h.shared_pages.settings) m b.shared h.shared_pages.settings.page_size n.shared_pages.region b.image)
-      (ap (λ ts. joined (places_of ts)) b.tasks ∙ b.places) b.storable
+      (ap (λ ts. joined_places (places_of ts)) b.tasks ∙ b.places) b.storable
 
   new_numbers : AreNumbers (places_of n.tasks.items)
   new_numbers = subst (λ ts. AreNumbers (places_of ts)) (sym b.tasks) (subst AreNumbers (sym (map_set (λ (y : Task). y.proxies.places) h.tasks.items t x'))
@@ -108,14 +108,14 @@ module _ (h n : OpenTasks) (k : IsValid h) (t : ℕ) (x x' : Task) (m : Held) (b
       ∙ ap (held_at n.shared_pages.region) (mapped_here (λ (z : Task). z.proxies.places) n.tasks.items u y
       empty e)) ∙ ap (λ a. objects_of_task a u) held_is
 
-  sound : (u : ℕ) (y : Task) → IsTaskIn w u y → IsSound (paging_at h.shared_pages) (held_of w.shared_pages y)
-  sound u y e = subst (IsSound (paging_at h.shared_pages)) (sym (part_here u y e)) (b.shared.sound u)
+  sound : (u : ℕ) (y : Task) → IsTaskIn w u y → IsSound (shared_paging h.shared_pages) (held_of w.shared_pages y)
+  sound u y e = subst (IsSound (shared_paging h.shared_pages)) (sym (part_here u y e)) (b.shared.sound u)
 
   headed : (u : ℕ) (y : Task) → IsTaskIn w u y → (q : ℕ) (z : Placed) → get (held_of w.shared_pages y) q ≡ Some z
       → get_or n.shared_pages.region z.place 0 ≡ header_word (key_of u q) (length z.bytes)
   headed u y e q z f =
       let there : get (objects_of_task m u) q ≡ Some z = sym (ap (λ a. get a q) (part_here u y e)) ∙ f in
-      let some = class_holds (paging_at h.shared_pages) (paging_ok h.shared_pages) (length z.bytes) ((b.shared.sound u).slots q z there).class in
+      let some = class_holds (shared_paging h.shared_pages) (paging_ok h.shared_pages) (length z.bytes) ((b.shared.sound u).slots q z there).class in
       let at0 : z.place + 0 ≡ z.place = omega arith in
       sym (ap (λ i. get_or n.shared_pages.region i 0) at0) ∙ b.image.held (key_of u q) z (found_whole m u q z there) 0 (omega arith)
 
@@ -125,13 +125,13 @@ module _ (h n : OpenTasks) (k : IsValid h) (t : ℕ) (x x' : Task) (m : Held) (b
       let e = part_here t x' own_in in record {
         sound = sound t x' own_in;
         serve = b.serve;
-        occupied = subst (λ a. Occupies (paging_at h.shared_pages) a (tables_of n.shared_pages x')) (sym e) b.occupied;
+        occupied = subst (λ a. Occupies (shared_paging h.shared_pages) a (tables_of n.shared_pages x')) (sym e) b.occupied;
         headed = headed t x' own_in;
         numbers = b.limit ∙ (k.task t x b.at).numbers;
         handles = b.rest.handles;
         live_long = b.live_long;
-        counted = λ c l. b.counted c l ∙ ap (λ a. live (paging_at h.shared_pages) (objects a) c) (sym e);
-        pages = b.pages ∙ ap (λ a. pages_needed (paging_at h.shared_pages) (objects a)) (sym e);
+        counted = λ c l. b.counted c l ∙ ap (λ a. live (shared_paging h.shared_pages) (objects a) c) (sym e);
+        pages = b.pages ∙ ap (λ a. pages_needed (shared_paging h.shared_pages) (objects a)) (sym e);
       }
 
   -- the tables of the changed task keep their rules, with the classes of h
@@ -159,15 +159,15 @@ module _ (h n : OpenTasks) (k : IsValid h) (t : ℕ) (x x' : Task) (m : Held) (b
           tables = subst (λ c. AreTables c (tables_of n.shared_pages y)) (sym (table_is h.shared_pages k.shared_pages)) (other_tables u y ne f);
           pages = pages_same ∙ was.serve.pages;
         };
-        occupied = subst (λ a. Occupies (paging_at h.shared_pages) a (tables_of n.shared_pages y)) (sym eq)
+        occupied = subst (λ a. Occupies (shared_paging h.shared_pages) a (tables_of n.shared_pages y)) (sym eq)
             (others_occupied h.shared_pages.tables.classes (tables_of h.shared_pages x) (tables_of n.shared_pages x') new_tables pages_same b.rest.elsewhere y.lists
-            (k.others t u x y b.at f ne) (old_tables_of u y f) (paging_at h.shared_pages) (held_of h.shared_pages y) was.occupied);
+            (k.others t u x y b.at f ne) (old_tables_of u y f) (shared_paging h.shared_pages) (held_of h.shared_pages y) was.occupied);
         headed = headed u y e;
         numbers = was.numbers;
         handles = was.handles;
         live_long = was.live_long;
-        counted = λ c l. was.counted c l ∙ ap (λ a. live (paging_at h.shared_pages) (objects a) c) (sym eq);
-        pages = was.pages ∙ ap (λ a. pages_needed (paging_at h.shared_pages) (objects a)) (sym eq);
+        counted = λ c l. was.counted c l ∙ ap (λ a. live (shared_paging h.shared_pages) (objects a) c) (sym eq);
+        pages = was.pages ∙ ap (λ a. pages_needed (shared_paging h.shared_pages) (objects a)) (sym eq);
       }
 
   -- no page is used by two tasks
@@ -208,7 +208,7 @@ module _ (h n : OpenTasks) (k : IsValid h) (t : ℕ) (x x' : Task) (m : Held) (b
     ];
     others = apart;
     shared = subst (IsShared (profile_of h.shared_pages.settings)) (sym held_is) b.shared;
-    image = subst (λ a. IsSlotImage (paging_at h.shared_pages) a n.shared_pages.region) (sym held_is) b.image;
+    image = subst (λ a. IsSlotImage (shared_paging h.shared_pages) a n.shared_pages.region) (sym held_is) b.image;
     quotas = subst (λ a. AreQuotas (profile_of h.shared_pages.settings) (quotas_of n.tasks.items) a) (sym held_is)
         (subst (λ qs. AreQuotas (profile_of h.shared_pages.settings) qs m) (sym quotas_same) b.quotas);
     granted = b.granted ∙ k.granted ∙ ap sum (sym quotas_same);
@@ -223,17 +223,17 @@ module _ (h n : OpenTasks) (k : IsValid h) (t : ℕ) (x x' : Task) (m : Held) (b
   pub becomes_kept : IsValid n
   becomes_kept = subst IsValid (sym same) rest_kept
 
-  pub becomes_state : state_of n ≡ with_held (state_of h) m n.shared_pages.region
-  becomes_state = ap state_of same
-      ∙ ap (λ qs. record (state_of h) { quotas = qs; held = held_in w; words = n.shared_pages.region }) quotas_same
-      ∙ ap (λ a. record (state_of h) { held = a; words = n.shared_pages.region }) held_is
+  pub becomes_state : tasks_state_of n ≡ with_held (tasks_state_of h) m n.shared_pages.region
+  becomes_state = ap tasks_state_of same
+      ∙ ap (λ qs. record (tasks_state_of h) { quotas = qs; held = tasks_held_in w; words = n.shared_pages.region }) quotas_same
+      ∙ ap (λ a. record (tasks_state_of h) { held = a; words = n.shared_pages.region }) held_is
 
 module _ (h : OpenTasks) (k : IsValid h) where
-  pub places_are : joined (places_of h.tasks.items) ≡ places (held_in h)
-  places_are = sym (places-held_at h.shared_pages.region (joined (places_of h.tasks.items)))
+  pub places_are : joined_places (places_of h.tasks.items) ≡ places (tasks_held_in h)
+  places_are = sym (places-held_at h.shared_pages.region (joined_places (places_of h.tasks.items)))
 
-  pub stored : AreStorable (held_in h)
+  pub stored : AreStorable (tasks_held_in h)
   stored key x e = (
     (let s = k.shared.tasks key x e in let few = h.shared_pages.settings.few_proxies in let n = k.shared.numbers key x e in omega arith),
-    held_at_bytes h.shared_pages.region (joined (places_of h.tasks.items)) key x e,
+    held_at_bytes h.shared_pages.region (joined_places (places_of h.tasks.items)) key x e,
   )

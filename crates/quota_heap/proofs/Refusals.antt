@@ -19,7 +19,7 @@ use Rattle.page_model.specs.Held.{objects}
 use Rattle.page_model.specs.Paging.{class_for, classes}
 use Rattle.page_slots.proofs.CallerLemmas.{not_full_pages_are}
 use Rattle.quota_model.specs.Refusals.{malloc_refusal}
-use Rattle.quota_heap.specs.Layout.{IsTask, IsTaskIn, IsValid, held_of, objects_of, paging_at, quotas_of, state_of, tables_of}
+use Rattle.quota_heap.specs.Layout.{IsTask, IsTaskIn, IsValid, held_of, objects_of, quotas_of, shared_paging, tables_of, tasks_state_of}
 use Rattle.quota_heap.specs.State.{objects_by, quota_of}
 use Rattle.quota_heap.specs.declared.open_tasks.OpenTasks.{OpenTasks}
 use Rattle.quota_heap.specs.declared.task.Task.{Task}
@@ -42,30 +42,30 @@ module _ (h : OpenTasks) (k : IsValid h) (t : ℕ) (x : Task) (at : IsTaskIn h t
   i = k.task t x at
 
   -- the objects and the quota of task t, as contracts show them, are those of its record x
-  pub objects_same : objects_by (state_of h) t ≡ objects_of h.shared_pages x
+  pub objects_same : objects_by (tasks_state_of h) t ≡ objects_of h.shared_pages x
   objects_same = ap objects (part_is h k t x at)
 
-  pub quota_same : quota_of (state_of h) t ≡ x.quota
+  pub quota_same : quota_of (tasks_state_of h) t ≡ x.quota
   quota_same = quota_here h k t x at
 
   abbrev pub reason : ℕ → Option Refusal
-  reason n = malloc_refusal (profile_of h.shared_pages.settings) (quota_of (state_of h) t) (objects_by (state_of h) t) n
+  reason n = malloc_refusal (profile_of h.shared_pages.settings) (quota_of (tasks_state_of h) t) (objects_by (tasks_state_of h) t) n
 
-  module _ (c n : ℕ) (fits : need n ≤ h.shared_pages.settings.page_words) (class : class_for (paging_at h.shared_pages) n ≡ c) (lt : c < classes (paging_at h.shared_pages)) where
+  module _ (c n : ℕ) (fits : need n ≤ h.shared_pages.settings.page_words) (class : class_for (shared_paging h.shared_pages) n ≡ c) (lt : c < classes (shared_paging h.shared_pages)) where
     few : length (pages_in x.lists c NotFull) ≤ 1
     few =
-        let e = not_full_pages_are (paging_at h.shared_pages) (paging_ok h.shared_pages) (held_of h.shared_pages x) (tables_of h.shared_pages x) i.serve i.occupied c in
-        let l = not_full_few (paging_at h.shared_pages) (paging_ok h.shared_pages) (at_one h.shared_pages) (held_of h.shared_pages x) i.sound c lt in
+        let e = not_full_pages_are (shared_paging h.shared_pages) (paging_ok h.shared_pages) (held_of h.shared_pages x) (tables_of h.shared_pages x) i.serve i.occupied c in
+        let l = not_full_few (shared_paging h.shared_pages) (paging_ok h.shared_pages) (at_one h.shared_pages) (held_of h.shared_pages x) i.sound c lt in
         omega arith
 
-    next : pages_needed_with (paging_at h.shared_pages) (objects_by (state_of h) t) n ≡ x.pages + (1 - length (pages_in x.lists c NotFull))
+    next : pages_needed_with (shared_paging h.shared_pages) (objects_by (tasks_state_of h) t) n ≡ x.pages + (1 - length (pages_in x.lists c NotFull))
     next =
-        let o = ap (λ os. pages_needed_with (paging_at h.shared_pages) os n) objects_same in
-        let e = needed_next (paging_at h.shared_pages) (paging_ok h.shared_pages) (at_one h.shared_pages) (held_of h.shared_pages x) i.sound n
-        (subst (λ d. d < classes (paging_at h.shared_pages)) (sym class) lt) in
-        let f = not_full_pages_are (paging_at h.shared_pages) (paging_ok h.shared_pages) (held_of h.shared_pages x) (tables_of h.shared_pages x) i.serve i.occupied
-        (class_for (paging_at h.shared_pages) n) in
-        let g : length (pages_in x.lists (class_for (paging_at h.shared_pages) n) NotFull) ≡ length (pages_in x.lists c NotFull) =
+        let o = ap (λ os. pages_needed_with (shared_paging h.shared_pages) os n) objects_same in
+        let e = needed_next (shared_paging h.shared_pages) (paging_ok h.shared_pages) (at_one h.shared_pages) (held_of h.shared_pages x) i.sound n
+        (subst (λ d. d < classes (shared_paging h.shared_pages)) (sym class) lt) in
+        let f = not_full_pages_are (shared_paging h.shared_pages) (paging_ok h.shared_pages) (held_of h.shared_pages x) (tables_of h.shared_pages x) i.serve i.occupied
+        (class_for (shared_paging h.shared_pages) n) in
+        let g : length (pages_in x.lists (class_for (shared_paging h.shared_pages) n) NotFull) ≡ length (pages_in x.lists c NotFull) =
         ap (λ d. length (pages_in x.lists d NotFull)) class in
         let p = i.pages in
         omega arith
@@ -73,22 +73,22 @@ module _ (h : OpenTasks) (k : IsValid h) (t : ℕ) (x : Task) (at : IsTaskIn h t
     no_size : nat_lt h.shared_pages.settings.page_words (need n) ≡ false
     no_size = lt_no h.shared_pages.settings.page_words (need n) fits
 
-    len_same : len (objects_by (state_of h) t) ≡ len x.proxies.places
+    len_same : len (objects_by (tasks_state_of h) t) ≡ len x.proxies.places
     len_same = ap len objects_same ∙ objects_len h.shared_pages k.shared_pages t x i
 
     pub proxy_refused : len x.proxies.places ≡ h.shared_pages.settings.proxies → reason n ≡ Some Proxy
-    proxy_refused all = picks_proxy _ _ _ no_size (eq_yes (len (objects_by (state_of h) t)) h.shared_pages.settings.proxies (len_same ∙ all))
+    proxy_refused all = picks_proxy _ _ _ no_size (eq_yes (len (objects_by (tasks_state_of h) t)) h.shared_pages.settings.proxies (len_same ∙ all))
 
     pub space_refused : len x.proxies.places ≢ h.shared_pages.settings.proxies → length (pages_in x.lists c NotFull) ≡ 0 → x.quota ≤ x.pages → reason n ≡ Some Space
     space_refused ne none le = picks_space _ _ _ no_size
-        (eq_no (len (objects_by (state_of h) t)) h.shared_pages.settings.proxies (λ e. ne (sym len_same ∙ e)))
-        (lt_yes (quota_of (state_of h) t) (pages_needed_with (paging_at h.shared_pages) (objects_by (state_of h) t) n)
+        (eq_no (len (objects_by (tasks_state_of h) t)) h.shared_pages.settings.proxies (λ e. ne (sym len_same ∙ e)))
+        (lt_yes (quota_of (tasks_state_of h) t) (pages_needed_with (shared_paging h.shared_pages) (objects_by (tasks_state_of h) t) n)
         (let e = next in let q = quota_same in omega arith))
 
     pub not_refused : len x.proxies.places ≢ h.shared_pages.settings.proxies → (length (pages_in x.lists c NotFull) ≡ 0 → x.pages < x.quota) → reason n ≡ None
     not_refused ne room = picks_none _ _ _ no_size
-        (eq_no (len (objects_by (state_of h) t)) h.shared_pages.settings.proxies (λ e. ne (sym len_same ∙ e)))
-        (lt_no (quota_of (state_of h) t) (pages_needed_with (paging_at h.shared_pages) (objects_by (state_of h) t) n)
+        (eq_no (len (objects_by (tasks_state_of h) t)) h.shared_pages.settings.proxies (λ e. ne (sym len_same ∙ e)))
+        (lt_no (quota_of (tasks_state_of h) t) (pages_needed_with (shared_paging h.shared_pages) (objects_by (tasks_state_of h) t) n)
         (let e = next in let q = quota_same in let w = within in elim (cases_eq (length (pages_in x.lists c NotFull)) 0) [
           | inl none ↦ (let r = room none in omega arith)
           | inr some ↦ (let l = few in omega arith)
@@ -96,7 +96,7 @@ module _ (h : OpenTasks) (k : IsValid h) (t : ℕ) (x : Task) (at : IsTaskIn h t
       where
         within : x.pages ≤ x.quota
         within = (let e = k.quotas.enough t in let q = quota_same in let p = i.pages in
-            let o = ap (λ os. pages_needed (paging_at h.shared_pages) os) objects_same in omega arith)
+            let o = ap (λ os. pages_needed (shared_paging h.shared_pages) os) objects_same in omega arith)
 
     pub has_proxy : None ≡ reason n → len x.proxies.places ≢ h.shared_pages.settings.proxies
     has_proxy none all = absurd (let z : None ≡ Some Proxy = none ∙ proxy_refused all in cc)
@@ -119,7 +119,7 @@ module _ (h : OpenTasks) (k : IsValid h) (t : ℕ) (x : Task) (at : IsTaskIn h t
             let le = k.quotas.enough u in
             let q = quota_here h k u y e in
             let p = (k.task u y e).pages in
-            let o = ap (λ os. pages_needed (paging_at h.shared_pages) (objects os)) (part_is h k u y e) in
+            let o = ap (λ os. pages_needed (shared_paging h.shared_pages) (objects os)) (part_is h k u y e) in
             omega arith
 
         sum_quotas : (ts : List Task) → sum (quotas_of ts) ≡ sum_by (λ (y : Task). y.quota) ts

@@ -11,7 +11,7 @@ use Rattle.cf_base.specs.Settings.{profile_of}
 use Rattle.cf_base.proofs.Tests.{lt_no, lt_yes}
 use Rattle.page_model.specs.Arrangement.{pages_needed}
 use Rattle.page_model.specs.Bytes.{held_at}
-use Rattle.quota_model.specs.Joined.{joined}
+use Rattle.quota_model.specs.Joined.{joined_places}
 use Rattle.quota_model.specs.Refusals.{quota_refusal}
 use Rattle.quota_model.specs.Shared.{AreQuotas, IsShared}
 use Rattle.quota_model.specs.declared.answers.QuotaFault.{QuotaFault}
@@ -19,7 +19,7 @@ use Rattle.quota_model.specs.declared.answers.QuotaFault.TheVariants.{Sum, Used}
 use Rattle.quota_model.proofs.CallerLemmas.{granted_quotas}
 use Rattle.page_model.specs.Image.{IsSlotImage}
 use Rattle.page_slots.specs.Tables.{AreOthers, tables}
-use Rattle.quota_heap.specs.Layout.{IsTask, IsTaskIn, IsValid, held_in, pages_of, paging_at, places_of, quotas_of, state_of}
+use Rattle.quota_heap.specs.Layout.{IsTask, IsTaskIn, IsValid, pages_of, places_of, quotas_of, shared_paging, tasks_held_in, tasks_state_of}
 use Rattle.quota_heap.specs.State.{objects_by, quota_of}
 use Rattle.quota_heap.specs.declared.open_tasks.OpenTasks.{OpenTasks}
 use Rattle.quota_heap.specs.declared.task.Task.{Task}
@@ -47,35 +47,35 @@ picks_neither a b ea eb = rw (ea, eb) refl
 
 module _ (h : OpenTasks) (k : IsValid h) (t : ℕ) (sixteen : t < 16) (n : ℕ) where
   abbrev pub fault : Option QuotaFault
-  fault = quota_refusal (profile_of h.shared_pages.settings) (quotas_of h.tasks.items) t n (objects_by (state_of h) t)
+  fault = quota_refusal (profile_of h.shared_pages.settings) (quotas_of h.tasks.items) t n (objects_by (tasks_state_of h) t)
 
   -- the sum that the quotas would have with the new quota n of task t
-  pub sum_is : sum (set (quotas_of h.tasks.items) t n) + quota_of (state_of h) t ≡ h.granted + n
+  pub sum_is : sum (set (quotas_of h.tasks.items) t n) + quota_of (tasks_state_of h) t ≡ h.granted + n
   sum_is = (
       let s = sum_changed_at (quotas_of h.tasks.items) t n (let m = k.quotas.many in omega arith) in
       let g = k.granted in
       omega arith)
 
   -- the quota of a task is at most the sum of all
-  pub quota_within : quota_of (state_of h) t ≤ h.granted
+  pub quota_within : quota_of (tasks_state_of h) t ≤ h.granted
   quota_within = (
       let s = sum_changed_at (quotas_of h.tasks.items) t 0 (let m = k.quotas.many in omega arith) in
       let g = k.granted in
       omega arith)
 
-  module _ (fits : h.granted + n ≤ h.shared_pages.settings.pages + quota_of (state_of h) t) where
+  module _ (fits : h.granted + n ≤ h.shared_pages.settings.pages + quota_of (tasks_state_of h) t) where
     no_sum : nat_lt h.shared_pages.settings.pages (sum (set (quotas_of h.tasks.items) t n)) ≡ false
     no_sum = lt_no h.shared_pages.settings.pages (sum (set (quotas_of h.tasks.items) t n)) (let s = sum_is in omega arith)
 
-    pub used_refused : n < pages_needed (paging_at h.shared_pages) (objects_by (state_of h) t) → fault ≡ Some Used
-    used_refused less = picks_used _ _ no_sum (lt_yes n (pages_needed (paging_at h.shared_pages) (objects_by (state_of h) t)) less)
+    pub used_refused : n < pages_needed (shared_paging h.shared_pages) (objects_by (tasks_state_of h) t) → fault ≡ Some Used
+    used_refused less = picks_used _ _ no_sum (lt_yes n (pages_needed (shared_paging h.shared_pages) (objects_by (tasks_state_of h) t)) less)
 
-    pub quota_granted : pages_needed (paging_at h.shared_pages) (objects_by (state_of h) t) ≤ n → fault ≡ None
-    quota_granted le = picks_neither _ _ no_sum (lt_no n (pages_needed (paging_at h.shared_pages) (objects_by (state_of h) t)) le)
+    pub quota_granted : pages_needed (shared_paging h.shared_pages) (objects_by (tasks_state_of h) t) ≤ n → fault ≡ None
+    quota_granted le = picks_neither _ _ no_sum (lt_no n (pages_needed (shared_paging h.shared_pages) (objects_by (tasks_state_of h) t)) le)
 
   -- after the quota of task t became n, and nothing else changed
   module _ (x : Task) (at : IsTaskIn h t x) (fits : fault ≡ None) (new : OpenTasks) (shared_pages : new.shared_pages ≡ h.shared_pages)
-      (tasks : new.tasks.items ≡ set h.tasks.items t (record x { quota = n })) (sums : new.granted + quota_of (state_of h) t ≡ h.granted + n) where
+      (tasks : new.tasks.items ≡ set h.tasks.items t (record x { quota = n })) (sums : new.granted + quota_of (tasks_state_of h) t ≡ h.granted + n) where
     abbrev x' : Task
     x' = record x { quota = n }
 
@@ -102,8 +102,8 @@ module _ (h : OpenTasks) (k : IsValid h) (t : ℕ) (sixteen : t < 16) (n : ℕ) 
     places_same : places_of new.tasks.items ≡ places_of h.tasks.items
     places_same = ap places_of tasks ∙ map_set_same (λ (y : Task). y.proxies.places) h.tasks.items t x x' at refl
 
-    held_same : held_in left ≡ held_in h
-    held_same = ap (λ ps. held_at h.shared_pages.region (joined ps)) places_same
+    held_same : tasks_held_in left ≡ tasks_held_in h
+    held_same = ap (λ ps. held_at h.shared_pages.region (joined_places ps)) places_same
 
     quotas_are : quotas_of new.tasks.items ≡ set (quotas_of h.tasks.items) t n
     quotas_are = ap quotas_of tasks ∙ map_set (λ (y : Task). y.quota) h.tasks.items t x'
@@ -139,10 +139,10 @@ module _ (h : OpenTasks) (k : IsValid h) (t : ℕ) (sixteen : t < 16) (n : ℕ) 
           subst (λ ls. AreOthers (tables h.shared_pages.tables.maps.pages ls h.shared_pages.tables.pool) z.lists) ly
           (subst (λ ls. AreOthers (tables h.shared_pages.tables.maps.pages (a.0).lists h.shared_pages.tables.pool) ls) lz o));
       shared = subst (IsShared (profile_of h.shared_pages.settings)) (sym held_same) k.shared;
-      image = subst (λ m. IsSlotImage (paging_at h.shared_pages) m h.shared_pages.region) (sym held_same) k.image;
+      image = subst (λ m. IsSlotImage (shared_paging h.shared_pages) m h.shared_pages.region) (sym held_same) k.image;
       quotas = subst (AreQuotas (profile_of h.shared_pages.settings) (quotas_of new.tasks.items)) (sym held_same)
-          (subst (λ qs. AreQuotas (profile_of h.shared_pages.settings) qs (held_in h)) (sym quotas_are)
-          (granted_quotas (profile_of h.shared_pages.settings) (quotas_of h.tasks.items) (held_in h) t n sixteen k.quotas fits));
+          (subst (λ qs. AreQuotas (profile_of h.shared_pages.settings) qs (tasks_held_in h)) (sym quotas_are)
+          (granted_quotas (profile_of h.shared_pages.settings) (quotas_of h.tasks.items) (tasks_held_in h) t n sixteen k.quotas fits));
       granted = (let e = ap sum quotas_are in let s = sum_is in omega arith);
       accounted = (
           let s = sum_set (λ (y : Task). y.pages) h.tasks.items t x x' at in
@@ -154,6 +154,6 @@ module _ (h : OpenTasks) (k : IsValid h) (t : ℕ) (sixteen : t < 16) (n : ℕ) 
     pub quota_kept : IsValid new
     quota_kept = subst IsValid (sym same) left_kept
 
-    pub quota_state : state_of new ≡ record (state_of h) { quotas = set (quotas_of h.tasks.items) t n }
-    quota_state = ap state_of same ∙ ap (λ qs. record (state_of h) { quotas = qs; held = held_in left }) quotas_are
-        ∙ ap (λ m. record (state_of h) { quotas = set (quotas_of h.tasks.items) t n; held = m }) held_same
+    pub quota_state : tasks_state_of new ≡ record (tasks_state_of h) { quotas = set (quotas_of h.tasks.items) t n }
+    quota_state = ap tasks_state_of same ∙ ap (λ qs. record (tasks_state_of h) { quotas = qs; held = tasks_held_in left }) quotas_are
+        ∙ ap (λ m. record (tasks_state_of h) { quotas = set (quotas_of h.tasks.items) t n; held = m }) held_same

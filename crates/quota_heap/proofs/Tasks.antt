@@ -10,7 +10,7 @@ use Rattle.page_model.specs.Bytes.{held_at}
 use Rattle.quota_model.specs.Joined.{AreNumbers, places_at}
 use Rattle.quota_model.proofs.CallerLemmas.{part_joined}
 use Rattle.quota_model.specs.Parts.{objects_of_task}
-use Rattle.quota_heap.specs.Layout.{IsTaskIn, IsValid, held_in, held_of, places_of, quotas_of}
+use Rattle.quota_heap.specs.Layout.{IsTaskIn, IsValid, held_of, places_of, quotas_of, tasks_held_in}
 use Rattle.quota_heap.specs.declared.open_tasks.OpenTasks.{OpenTasks}
 use Rattle.quota_heap.specs.declared.task.Task.{Task}
 use Rattle.quota_heap.proofs.Facts.{number_small}
@@ -69,7 +69,7 @@ module _ (h : OpenTasks) (k : IsValid h) where
       by (Some x) e = number_small h.shared_pages k.shared_pages t x (k.task t x e) q a (sym (ap (λ m. get m q) (places_here t x e)) ∙ f)
 
   -- the objects of task t in the map of all tasks' objects (`objects_of_task`) are those of its record x
-  pub part_is : (t : ℕ) (x : Task) → IsTaskIn h t x → objects_of_task (held_in h) t ≡ held_of h.shared_pages x
+  pub part_is : (t : ℕ) (x : Task) → IsTaskIn h t x → objects_of_task (tasks_held_in h) t ≡ held_of h.shared_pages x
   part_is t x at = part_joined h.shared_pages.region (places_of h.tasks.items) numbers t ∙ ap (held_at h.shared_pages.region) (places_here t x at)
 
   pub task_below : (t : ℕ) (x : Task) → IsTaskIn h t x → t < 16

@@ -17,9 +17,9 @@ use Rattle.page_slots.specs.Take.{TakesAt}
 use Rattle.page_slots.specs.declared.leave.LeftSlot.{LeftSlot}
 use Rattle.proxy_table.specs.Proxies.{AreBelowLimit, with_place, without_place}
 use Rattle.quota_model.specs.Parts.{key_of}
-use Rattle.quota_heap.specs.Costs.{fault_steps}
-use Rattle.quota_heap.specs.Layout.{as_owner, state_of, tables_of}
-use Rattle.quota_heap.specs.Steps.{IsFault}
+use Rattle.quota_heap.specs.Costs.{task_fault_steps}
+use Rattle.quota_heap.specs.Layout.{as_owner, tables_of, tasks_state_of}
+use Rattle.quota_heap.specs.Steps.{IsTaskFault}
 use Rattle.quota_heap.specs.declared.shared_pages.SharedPages.{SharedPages}
 use Rattle.quota_heap.specs.declared.open_tasks.OpenTasks.{OpenTasks}
 use Rattle.quota_heap.specs.declared.task.Task.{Task}
@@ -78,17 +78,17 @@ IsMissing g x position count Unknown = get x.proxies.places position.number ≡ 
 IsMissing g x position count Range = IsPastEnd g x position count
 
 -- what `find` returns for the object `position.number` of task x: its address, or the fault, whose cause holds
-abbrev pub IsFound : SharedPages → Task → Position → ℕ → Result ℕ AccessFault → Type 0
-IsFound g x position count (Ok place) = HoldsBytesAt (as_owner g x) position.number position.from count place
-IsFound g x position count (Err e) = IsMissing g x position count e
+abbrev pub IsTaskFound : SharedPages → Task → Position → ℕ → Result ℕ AccessFault → Type 0
+IsTaskFound g x position count (Ok place) = HoldsBytesAt (as_owner g x) position.number position.from count place
+IsTaskFound g x position count (Err e) = IsMissing g x position count e
 
 -- the steps of `find`: the proxy and, if the handle is live, the header
-abbrev pub find_steps : Result ℕ AccessFault → ℕ
-find_steps (Ok place) = 2
-find_steps (Err e) = fault_steps e
+abbrev pub task_find_steps : Result ℕ AccessFault → ℕ
+task_find_steps (Ok place) = 2
+task_find_steps (Err e) = task_fault_steps e
 
--- as `IsFound`, for task t of an open heap
+-- as `IsTaskFound`, for task t of an open heap
 abbrev pub IsFoundIn : OpenTasks → ℕ → Position → ℕ → Result ℕ AccessFault → Type 0
 IsFoundIn h t position count (Ok place) =
     (x : Task) → slice_get h.tasks.items t ≡ Some x → HoldsBytesAt (as_owner h.shared_pages x) position.number position.from count place
-IsFoundIn h t position count (Err e) = IsFault (state_of h) t position count e
+IsFoundIn h t position count (Err e) = IsTaskFault (tasks_state_of h) t position count e

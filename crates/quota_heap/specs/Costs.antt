@@ -26,49 +26,49 @@ abbrev pub taking_steps : ℕ → ℕ → ℕ
 taking_steps used n = if nat_eq used 0 then new_page_steps else open_steps used n
 
 -- a malloc of `bytes` bytes: finding the class, taking a slot, binding a proxy (2), and writing the header; if refused, only finding the class
-abbrev pub malloc_cost : QuotaState → ℕ → ℕ → Result Handle Refusal → ℕ
-malloc_cost s task bytes (Ok h) = 4 + taking_steps (on_partly_full s task (class_for (task_paging s.profile) bytes))
+abbrev pub task_malloc_cost : QuotaState → ℕ → ℕ → Result Handle Refusal → ℕ
+task_malloc_cost s task bytes (Ok h) = 4 + taking_steps (on_partly_full s task (class_for (task_paging s.profile) bytes))
     (slots_of (task_paging s.profile) (class_for (task_paging s.profile) bytes))
-malloc_cost s task bytes (Err e) = 1
+task_malloc_cost s task bytes (Err e) = 1
 
 -- freeing the slot of the object x, whose words are cleared or moved into; if an object moves in, finding it and freeing its slot, reading its header and
 -- setting its proxy
-abbrev pub leaving_cost : QuotaState → ℕ → Placed → Option Handle → ℕ
-leaving_cost s task x None = steps_to_drop (task_paging s.profile) (held_by s task) (class_at (task_paging s.profile) x) (page_of (task_paging s.profile) x.place)
-leaving_cost s task x (Some y) = 2 + fill_steps (on_partly_full s task (class_at (task_paging s.profile) x))
+abbrev pub task_leaving_cost : QuotaState → ℕ → Placed → Option Handle → ℕ
+task_leaving_cost s task x None = steps_to_drop (task_paging s.profile) (held_by s task) (class_at (task_paging s.profile) x) (page_of (task_paging s.profile) x.place)
+task_leaving_cost s task x (Some y) = 2 + fill_steps (on_partly_full s task (class_at (task_paging s.profile) x))
 
 -- a free of object h: reading its proxy and header, finding its class, testing whether an object must move, releasing the proxy (2), the words of the slot, and
 -- leaving it; if refused, only the proxy
-abbrev pub free_cost : QuotaState → ℕ → ℕ → Result Freed NotLive → ℕ
-free_cost s task h (Ok freed) = elim (get (held_by s task) h) [
+abbrev pub task_free_cost : QuotaState → ℕ → ℕ → Result Freed NotLive → ℕ
+task_free_cost s task h (Ok freed) = elim (get (held_by s task) h) [
   | None ↦ 0
-  | Some x ↦ 6 + slot_for (task_paging s.profile) (length x.bytes) + leaving_cost s task x freed.moved
+  | Some x ↦ 6 + slot_for (task_paging s.profile) (length x.bytes) + task_leaving_cost s task x freed.moved
 ]
-free_cost s task h (Err e) = 1
+task_free_cost s task h (Err e) = 1
 
 -- a refused read or write: the proxy and, if the handle is live, the header
-abbrev pub fault_steps : AccessFault → ℕ
-fault_steps Unknown = 1
-fault_steps Range = 2
+abbrev pub task_fault_steps : AccessFault → ℕ
+task_fault_steps Unknown = 1
+task_fault_steps Range = 2
 
 -- the most steps of a read or a write of `count` bytes from byte `from` on, taken unless it is refused: the proxy, the header, and each word that holds one of the bytes
 abbrev pub most_of_access : ℕ → ℕ → ℕ
 most_of_access from count = 2 + words_touched from count
 
 -- a read or a write with this result, of `count` bytes from byte `from` on
-abbrev pub access_steps : Result Unit AccessFault → ℕ → ℕ → ℕ
-access_steps (Ok done) from count = most_of_access from count
-access_steps (Err e) from count = fault_steps e
+abbrev pub task_access_steps : Result Unit AccessFault → ℕ → ℕ → ℕ
+task_access_steps (Ok done) from count = most_of_access from count
+task_access_steps (Err e) from count = task_fault_steps e
 
 -- a call for the length of an object: the proxy and, if the handle is live, the header
-abbrev pub length_steps : Option ℕ → ℕ
-length_steps None = 1
-length_steps (Some bytes) = 2
+abbrev pub task_length_steps : Option ℕ → ℕ
+task_length_steps None = 1
+task_length_steps (Some bytes) = 2
 
 -- a peek: 1 step for the word, 0 past the region's end
-abbrev pub peek_steps : Option ℕ → ℕ
-peek_steps None = 0
-peek_steps (Some word) = 1
+abbrev pub task_peek_steps : Option ℕ → ℕ
+task_peek_steps None = 0
+task_peek_steps (Some word) = 1
 
 -- the most steps of a malloc: those of one whose object makes its page full
 abbrev pub most_of_malloc : ℕ
@@ -79,6 +79,6 @@ abbrev pub most_of_free : ℕ → ℕ
 most_of_free slot_words = 20 + slot_words
 
 -- the most steps of a free with this result
-abbrev pub free_steps : Result Freed NotLive → ℕ
-free_steps (Ok freed) = most_of_free freed.slot_words
-free_steps (Err e) = 1
+abbrev pub task_free_steps : Result Freed NotLive → ℕ
+task_free_steps (Ok freed) = most_of_free freed.slot_words
+task_free_steps (Err e) = 1

@@ -17,19 +17,19 @@ use Rattle.page_slots.specs.Owner.{Owner}
 use Rattle.page_slots.specs.PageTables.{AreFirst, tables_with}
 use Rattle.page_slots.specs.Tables.{AreOthers, Tables}
 use Rattle.proxy_table.specs.Proxies.{AreBelowLimit, no_proxies}
-use Rattle.quota_model.specs.Joined.{joined}
+use Rattle.quota_model.specs.Joined.{joined_places}
 use Rattle.quota_model.specs.Parts.{key_of}
 use Rattle.quota_model.specs.Refusals.{task_paging}
 use Rattle.quota_model.specs.Shared.{AreQuotas, IsShared}
 use Rattle.size_classes.specs.Table.{table_of}
-use Rattle.quota_heap.specs.State.{QuotaState, closed_state}
+use Rattle.quota_heap.specs.State.{QuotaState, closed_tasks}
 use Rattle.quota_heap.specs.declared.shared_pages.SharedPages.{SharedPages}
 use Rattle.quota_heap.specs.declared.open_tasks.OpenTasks.{OpenTasks}
 use Rattle.quota_heap.specs.declared.task.Task.{Task}
 
 -- the pages and size classes that all tasks share, each class with the bound 1
-abbrev pub paging_at : SharedPages → Paging
-paging_at g = task_paging (profile_of g.settings)
+abbrev pub shared_paging : SharedPages → Paging
+shared_paging g = task_paging (profile_of g.settings)
 
 -- the tables that one task sees: used slots, its own page lists, and the free pages
 abbrev pub tables_of : SharedPages → Task → Tables
@@ -38,7 +38,7 @@ tables_of g x = tables_with g.tables x.lists
 -- task x as an owner of pages
 abbrev pub as_owner : SharedPages → Task → Owner
 as_owner g x = record {
-  paging = paging_at g;
+  paging = shared_paging g;
   classes = g.tables.classes;
   bound = λ c. 1;
   words = g.region;
@@ -62,15 +62,15 @@ pub record ArePages (g : SharedPages) : Type 0 where
 -- The invariant of the task x, whose number is t: its objects are a sound arrangement; its tables hold the slots that the objects use; the header of each
 -- object holds its key, made of t and its number, and its length; the task's proxies and counts are those of its objects.
 pub record IsTask (g : SharedPages) (t : ℕ) (x : Task) : Type 0 where
-  pub sound : IsSound (paging_at g) (held_of g x)
-  pub serve : FitPagesShared (paging_at g) (tables_of g x)
-  pub occupied : Occupies (paging_at g) (held_of g x) (tables_of g x)
+  pub sound : IsSound (shared_paging g) (held_of g x)
+  pub serve : FitPagesShared (shared_paging g) (tables_of g x)
+  pub occupied : Occupies (shared_paging g) (held_of g x) (tables_of g x)
   pub headed : (q : ℕ) (y : Placed) → get (held_of g x) q ≡ Some y → slice_index g.region y.place ≡ header_word (key_of t q) (length y.bytes)
   pub numbers : x.proxies.limit ≡ g.settings.proxies
   pub handles : AreBelowLimit x.proxies
   pub live_long : length x.live ≡ 128
-  pub counted : (c : ℕ) → c < classes (paging_at g) → slice_index x.live c ≡ live (paging_at g) (objects_of g x) c
-  pub pages : x.pages ≡ pages_needed (paging_at g) (objects_of g x)
+  pub counted : (c : ℕ) → c < classes (shared_paging g) → slice_index x.live c ≡ live (shared_paging g) (objects_of g x) c
+  pub pages : x.pages ≡ pages_needed (shared_paging g) (objects_of g x)
 
 -- x is task t of the heap h
 abbrev pub IsTaskIn : OpenTasks → ℕ → Task → Type 0
@@ -89,16 +89,16 @@ abbrev pub pages_of : List Task → ℕ
 pages_of tasks = sum_by (λ (x : Task). x.pages) tasks
 
 -- the objects of all tasks in one map, each under the key made of its task and its number
-abbrev pub held_in : OpenTasks → Held
-held_in h = held_at h.shared_pages.region (joined (places_of h.tasks.items))
+abbrev pub tasks_held_in : OpenTasks → Held
+tasks_held_in h = held_at h.shared_pages.region (joined_places (places_of h.tasks.items))
 
 -- the state of an open heap in contracts
-abbrev pub state_of : OpenTasks → QuotaState
-state_of h = record {
+abbrev pub tasks_state_of : OpenTasks → QuotaState
+tasks_state_of h = record {
   is_open = true;
   profile = profile_of h.shared_pages.settings;
   quotas = quotas_of h.tasks.items;
-  held = held_in h;
+  held = tasks_held_in h;
   words = h.shared_pages.region;
 }
 
@@ -110,21 +110,21 @@ pub record IsValid (h : OpenTasks) : Type 0 where
   pub many : length h.tasks.items ≡ 16
   pub task : (t : ℕ) (x : Task) → IsTaskIn h t x → IsTask h.shared_pages t x
   pub others : (t u : ℕ) (x y : Task) → IsTaskIn h t x → IsTaskIn h u y → u ≢ t → AreOthers (tables_of h.shared_pages x) y.lists
-  pub shared : IsShared (profile_of h.shared_pages.settings) (held_in h)
-  pub image : IsSlotImage (paging_at h.shared_pages) (held_in h) h.shared_pages.region
-  pub quotas : AreQuotas (profile_of h.shared_pages.settings) (quotas_of h.tasks.items) (held_in h)
+  pub shared : IsShared (profile_of h.shared_pages.settings) (tasks_held_in h)
+  pub image : IsSlotImage (shared_paging h.shared_pages) (tasks_held_in h) h.shared_pages.region
+  pub quotas : AreQuotas (profile_of h.shared_pages.settings) (quotas_of h.tasks.items) (tasks_held_in h)
   pub granted : h.granted ≡ sum (quotas_of h.tasks.items)
   pub accounted : length h.shared_pages.tables.pool.free + pages_of h.tasks.items ≡ h.shared_pages.settings.pages
 
 -- the state that contracts show of a heap, open or closed
-abbrev pub state_in : Option OpenTasks → QuotaState
-state_in None = closed_state
-state_in (Some h) = state_of h
+abbrev pub tasks_state_in : Option OpenTasks → QuotaState
+tasks_state_in None = closed_tasks
+tasks_state_in (Some h) = tasks_state_of h
 
 -- the invariant of a heap, open or closed
-abbrev pub IsValidIn : Option OpenTasks → Type 0
-IsValidIn None = Unit {0}
-IsValidIn (Some h) = IsValid h
+abbrev pub IsValidTasksIn : Option OpenTasks → Type 0
+IsValidTasksIn None = Unit {0}
+IsValidTasksIn (Some h) = IsValid h
 
 -- the shared pages of a heap that was just opened: all pages are free and all words are 0
 pub record AreFirstPages (s : Settings) (g : SharedPages) : Type 0 where

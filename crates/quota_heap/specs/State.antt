@@ -21,8 +21,8 @@ pub record QuotaState : Type 0 where
   pub words : List ℕ
 
 -- the state of a closed heap
-abbrev pub closed_state : QuotaState
-closed_state = record { is_open = false; profile = no_profile; quotas = []; held = map.empty; words = [] }
+abbrev pub closed_tasks : QuotaState
+closed_tasks = record { is_open = false; profile = no_profile; quotas = []; held = map.empty; words = [] }
 
 -- the state of a heap that was just opened with the settings p: no task has an object, all quotas are 0, and all words are 0
 abbrev pub empty_state : Profile → QuotaState
@@ -52,8 +52,8 @@ pub record KeepsTasks (s : QuotaState) : Type 0 where
   pub slots : IsSlotImage (task_paging s.profile) s.held s.words
 
 -- the state as nested pairs, which the trait `Model` needs
-abbrev pub state_code : Coded QuotaState
-state_code =
+abbrev pub tasks_state_code : Coded QuotaState
+tasks_state_code =
     code_by (Bool × (Profile × (List ℕ × (Held × List ℕ))))
     (coded× coded_bool (coded× profile_code (coded× (coded_list coded_ℕ) (coded× (map.code coded_ℕ placed_code) (coded_list coded_ℕ)))))
     (λ s. (s.is_open, (s.profile, (s.quotas, (s.held, s.words)))))

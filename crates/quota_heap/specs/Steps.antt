@@ -39,9 +39,9 @@ pub record AddsObjectOfTask (old : QuotaState) (task : ℕ) (asked : Request) (n
   pub whole : new ≡ with_held old new.held new.words
 
 -- a malloc of n bytes adds an object of the task, or is refused and changes nothing
-abbrev pub IsMallocStep : QuotaState → ℕ → ℕ → Result Handle Refusal → QuotaState → Type 0
-IsMallocStep old task n (Ok h) new = AddsObjectOfTask old task (record { number = h.0; length = n }) new
-IsMallocStep old task n (Err e) new = (malloc_refusal old.profile (quota_of old task) (objects_by old task) n ≡ Some e) × (new ≡ old)
+abbrev pub IsTaskMallocStep : QuotaState → ℕ → ℕ → Result Handle Refusal → QuotaState → Type 0
+IsTaskMallocStep old task n (Ok h) new = AddsObjectOfTask old task (record { number = h.0; length = n }) new
+IsTaskMallocStep old task n (Err e) new = (malloc_refusal old.profile (quota_of old task) (objects_by old task) n ≡ Some e) × (new ≡ old)
 
 -- a free of the live object h of a task: it removes h, and moves another object of the task to its slot if it must; `freed` has the words of the slot and
 -- the number of the object that moved, if one did
@@ -51,20 +51,20 @@ pub record FreesOfTask (old : QuotaState) (task h : ℕ) (freed : Freed) (new : 
   pub whole : new ≡ with_held old new.held new.words
 
 -- a free removes the task's object h; if h is not live, it fails and changes nothing
-abbrev pub IsFreeStep : QuotaState → ℕ → ℕ → Result Freed NotLive → QuotaState → Type 0
-IsFreeStep old task h (Ok freed) new = FreesOfTask old task h freed new
-IsFreeStep old task h (Err e) new = (get (held_by old task) h ≡ None) × (new ≡ old)
+abbrev pub IsTaskFreeStep : QuotaState → ℕ → ℕ → Result Freed NotLive → QuotaState → Type 0
+IsTaskFreeStep old task h (Ok freed) new = FreesOfTask old task h freed new
+IsTaskFreeStep old task h (Err e) new = (get (held_by old task) h ≡ None) × (new ≡ old)
 
 -- the task's object `position.number` is live, but has fewer than `count` bytes from byte `position.from` on
-pub record PassesEnd (s : QuotaState) (task : ℕ) (position : Position) (count : ℕ) : Type 0 where
+pub record PassesTaskEnd (s : QuotaState) (task : ℕ) (position : Position) (count : ℕ) : Type 0 where
   pub object : Placed
   pub found : get (held_by s task) position.number ≡ Some object
   pub past : length object.bytes < position.from + count
 
 -- the cause of each refusal of a read or a write of `count` bytes: the task has no such object, or the bytes pass its end
-abbrev pub IsFault : QuotaState → ℕ → Position → ℕ → AccessFault → Type 0
-IsFault s task position count Unknown = get (held_by s task) position.number ≡ None
-IsFault s task position count Range = PassesEnd s task position count
+abbrev pub IsTaskFault : QuotaState → ℕ → Position → ℕ → AccessFault → Type 0
+IsTaskFault s task position count Unknown = get (held_by s task) position.number ≡ None
+IsTaskFault s task position count Range = PassesTaskEnd s task position count
 
 -- a write that is not refused: the task's object `position.number` has these bytes from byte `position.from` on, and no other object changes
 pub record WritesForTask (old : QuotaState) (task : ℕ) (position : Position) (bytes : List ℕ) (new : QuotaState) : Type 0 where
@@ -75,9 +75,9 @@ pub record WritesForTask (old : QuotaState) (task : ℕ) (position : Position) (
       (insert old.held (key_of task position.number) (record { place = object.place; bytes = written object.bytes position.from bytes })) new.words
 
 -- a write changes bytes of the task's object, or fails for its cause and changes nothing
-abbrev pub IsWriteStep : QuotaState → ℕ → Position → List ℕ → Result Unit AccessFault → QuotaState → Type 0
-IsWriteStep old task position bytes (Ok done) new = WritesForTask old task position bytes new
-IsWriteStep old task position bytes (Err e) new = IsFault old task position (length bytes) e × (new ≡ old)
+abbrev pub IsTaskWriteStep : QuotaState → ℕ → Position → List ℕ → Result Unit AccessFault → QuotaState → Type 0
+IsTaskWriteStep old task position bytes (Ok done) new = WritesForTask old task position bytes new
+IsTaskWriteStep old task position bytes (Err e) new = IsTaskFault old task position (length bytes) e × (new ≡ old)
 
 -- a read that is not refused returns `count` bytes of the task's object `position.number` from byte `position.from` on
 pub record ReadsOfTask (s : QuotaState) (task : ℕ) (position : Position) (count : ℕ) (out : List ℕ) : Type 0 where
@@ -88,9 +88,9 @@ pub record ReadsOfTask (s : QuotaState) (task : ℕ) (position : Position) (coun
 
 -- a read into a buffer that holds `old` before and `out` after it: it fills the buffer with bytes of the task's object, or fails for its cause and leaves the
 -- buffer unchanged
-abbrev pub IsReadAnswer : QuotaState → ℕ → Position → List ℕ → Result Unit AccessFault → List ℕ → Type 0
-IsReadAnswer s task position old (Ok done) out = ReadsOfTask s task position (length old) out
-IsReadAnswer s task position old (Err e) out = IsFault s task position (length old) e × (out ≡ old)
+abbrev pub IsTaskReadAnswer : QuotaState → ℕ → Position → List ℕ → Result Unit AccessFault → List ℕ → Type 0
+IsTaskReadAnswer s task position old (Ok done) out = ReadsOfTask s task position (length old) out
+IsTaskReadAnswer s task position old (Err e) out = IsTaskFault s task position (length old) e × (out ≡ old)
 
 -- the figures of class c of a task; none if there is no such class
 abbrev pub figures_by : QuotaState → ℕ → ℕ → Option Figures

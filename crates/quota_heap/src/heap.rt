@@ -6,10 +6,10 @@ ghost use Rattle.step_ledger.specs.Counting.{RoseAtMost, RoseBy};
 ghost use Rattle.cf_base.specs.Settings.{profile_of};
 ghost use Rattle.page_model.specs.Arrangement.{pages_needed, used_pages};
 ghost use Rattle.quota_model.specs.Refusals.{task_paging};
-ghost use Rattle.quota_heap.specs.Costs.{access_steps, free_cost, free_steps, length_steps, malloc_cost, most_of_malloc, peek_steps};
+ghost use Rattle.quota_heap.specs.Costs.{most_of_malloc, task_access_steps, task_free_cost, task_free_steps, task_length_steps, task_malloc_cost, task_peek_steps};
 ghost use Rattle.quota_heap.specs.Needed.{quota_bytes};
-ghost use Rattle.quota_heap.specs.State.{KeepsTasks, closed_state, empty_state, held_by, objects_by, quota_of};
-ghost use Rattle.quota_heap.specs.Steps.{IsFreeStep, IsMallocStep, IsQuotaStep, IsReadAnswer, IsWriteStep, figures_by, length_by};
+ghost use Rattle.quota_heap.specs.State.{KeepsTasks, closed_tasks, empty_state, held_by, objects_by, quota_of};
+ghost use Rattle.quota_heap.specs.Steps.{IsQuotaStep, IsTaskFreeStep, IsTaskMallocStep, IsTaskReadAnswer, IsTaskWriteStep, figures_by, length_by};
 
 use crate::open_tasks::OpenTasks;
 use cf_base::{
@@ -31,23 +31,23 @@ pub struct QuotaHeap {
 }
 
 impl Model for QuotaHeap {
-    ghost use Rattle.quota_heap.specs.State.{QuotaState, state_code};
+    ghost use Rattle.quota_heap.specs.State.{QuotaState, tasks_state_code};
 
     ghost Value = { QuotaState };
 
-    ghost coded = { state_code };
+    ghost coded = { tasks_state_code };
 
-    ghost use Rattle.quota_heap.specs.Layout.{IsValidIn, state_in};
+    ghost use Rattle.quota_heap.specs.Layout.{IsValidTasksIn, tasks_state_in};
 
-    ghost view = { λ h. state_in h.inner };
+    ghost view = { λ h. tasks_state_in h.inner };
 
-    ghost invariant = { λ h. IsValidIn h.inner };
+    ghost invariant = { λ h. IsValidTasksIn h.inner };
 }
 
 impl QuotaHeap {
     /// Returns a closed heap of tasks, which has allocated nothing.
     pub fn closed(alloc: Global) -> QuotaHeap
-        ensures { result ≡ closed_state }
+        ensures { result ≡ closed_tasks }
     {
         QuotaHeap { alloc, inner: None }
     }
@@ -58,7 +58,7 @@ impl QuotaHeap {
     pub fn open_heap(&mut self, s: &Settings) -> Result<(), OutOfMemory>
         ensures opened { IfOk result (λ done. self.new ≡ empty_state (profile_of s.now)) }
         ensures kept { IfOk result (λ done. KeepsTasks self.new) }
-        ensures closed { IfErr result (λ e. self.new ≡ closed_state) }
+        ensures closed { IfErr result (λ e. self.new ≡ closed_tasks) }
     {
         self.inner = None;
         self.inner = Some(OpenTasks::new(self.alloc, s)?);
@@ -166,9 +166,9 @@ impl QuotaHeap {
         requires opened { IsTrue self.old.is_open }
         requires sixteen { task < 16 }
         requires room { steps.old ≤ 2 ^ 63 }
-        ensures step { IsMallocStep self.old task bytes result self.new }
+        ensures step { IsTaskMallocStep self.old task bytes result self.new }
         ensures kept { KeepsTasks self.new }
-        ensures steps { RoseBy steps.old steps.new (malloc_cost self.old task bytes result) }
+        ensures steps { RoseBy steps.old steps.new (task_malloc_cost self.old task bytes result) }
         ensures bound { RoseAtMost steps.old steps.new most_of_malloc }
     {
         match &mut self.inner {
@@ -184,10 +184,10 @@ impl QuotaHeap {
         requires opened { IsTrue self.old.is_open }
         requires sixteen { task < 16 }
         requires room { steps.old ≤ 2 ^ 63 }
-        ensures step { IsFreeStep self.old task h.0 result self.new }
+        ensures step { IsTaskFreeStep self.old task h.0 result self.new }
         ensures kept { KeepsTasks self.new }
-        ensures steps { RoseBy steps.old steps.new (free_cost self.old task h.0 result) }
-        ensures bound { RoseAtMost steps.old steps.new (free_steps result) }
+        ensures steps { RoseBy steps.old steps.new (task_free_cost self.old task h.0 result) }
+        ensures bound { RoseAtMost steps.old steps.new (task_free_steps result) }
     {
         match &mut self.inner {
             Some(open) => open.free(task, h, steps),
@@ -208,9 +208,9 @@ impl QuotaHeap {
         requires opened { IsTrue self.old.is_open }
         requires sixteen { task < 16 }
         requires room { steps.old ≤ 2 ^ 63 }
-        ensures step { IsWriteStep self.old task (record { number = h.0; from = at }) bytes.now result self.new }
+        ensures step { IsTaskWriteStep self.old task (record { number = h.0; from = at }) bytes.now result self.new }
         ensures kept { KeepsTasks self.new }
-        ensures steps { RoseBy steps.old steps.new (access_steps result at (length bytes.now)) }
+        ensures steps { RoseBy steps.old steps.new (task_access_steps result at (length bytes.now)) }
     {
         match &mut self.inner {
             Some(open) => open.write(task, h, at, bytes, steps),
@@ -232,8 +232,8 @@ impl QuotaHeap {
         requires opened { IsTrue self.now.is_open }
         requires sixteen { task < 16 }
         requires room { steps.old ≤ 2 ^ 63 }
-        ensures answer { IsReadAnswer self.now task (record { number = h.0; from = at }) out.old result out.new }
-        ensures steps { RoseBy steps.old steps.new (access_steps result at (length out.old)) }
+        ensures answer { IsTaskReadAnswer self.now task (record { number = h.0; from = at }) out.old result out.new }
+        ensures steps { RoseBy steps.old steps.new (task_access_steps result at (length out.old)) }
     {
         match &self.inner {
             Some(open) => open.read(task, h, at, out, steps),
@@ -247,7 +247,7 @@ impl QuotaHeap {
         requires sixteen { task < 16 }
         requires room { steps.old ≤ 2 ^ 63 }
         ensures value { result ≡ length_by self.now task h.0 }
-        ensures steps { RoseBy steps.old steps.new (length_steps result) }
+        ensures steps { RoseBy steps.old steps.new (task_length_steps result) }
     {
         match &self.inner {
             Some(open) => open.length(task, h, steps),
@@ -273,7 +273,7 @@ impl QuotaHeap {
         requires opened { IsTrue self.now.is_open }
         requires room { steps.old ≤ 2 ^ 63 }
         ensures value { result ≡ slice_get self.now.words word }
-        ensures steps { RoseBy steps.old steps.new (peek_steps result) }
+        ensures steps { RoseBy steps.old steps.new (task_peek_steps result) }
     {
         match &self.inner {
             Some(open) => open.peek(word, steps),

@@ -6,9 +6,9 @@ ghost use Rattle.step_ledger.specs.Counting.{RoseBy};
 ghost use Rattle.class_lists.specs.PageLists.{pages_in};
 ghost use Rattle.class_lists.specs.declared.Which.TheVariants.{NotFull};
 ghost use Rattle.page_model.specs.Paging.{class_for, classes};
-ghost use Rattle.page_slots.specs.Take.{steps_to_take};
+ghost use Rattle.page_slots.specs.Take.{take_slot_steps};
 ghost use Rattle.quota_heap.specs.Calls.{IsAdded};
-ghost use Rattle.quota_heap.specs.Layout.{ArePages, IsTask, paging_at, tables_of};
+ghost use Rattle.quota_heap.specs.Layout.{ArePages, IsTask, shared_paging, tables_of};
 
 use crate::shared_pages::SharedPages;
 use crate::task::{NUMBERS, Task};
@@ -31,13 +31,13 @@ impl SharedPages {
         requires shared_pages { ArePages self.old }
         requires kept { IsTask self.old t task.old }
         requires sixteen { t < 16 }
-        requires class { class_for (paging_at self.old) bytes ≡ c }
-        requires in_range { c < classes (paging_at self.old) }
+        requires class { class_for (shared_paging self.old) bytes ≡ c }
+        requires in_range { c < classes (shared_paging self.old) }
         requires some { len task.old.proxies.places ≢ task.old.proxies.limit }
         requires room { pages_in task.old.lists c NotFull ≡ [] → self.old.tables.pool.free ≡ [] → ⊥ }
         requires few { task.old.pages ≤ 4096 }
         ensures comes { IsAdded self.old task.old t c bytes result.0 self.new task.new }
-        ensures steps { RoseBy steps.old steps.new (steps_to_take self.old.tables.classes (tables_of self.old task.old) c + 3) }
+        ensures steps { RoseBy steps.old steps.new (take_slot_steps self.old.tables.classes (tables_of self.old task.old) c + 3) }
     {
         let left = self.tables.pool.left();
         let Some(place) = self.tables.take_slot(&mut task.lists, c, steps) else {

@@ -10,13 +10,13 @@ ghost use Rattle.page_model.specs.Figures.{figures_of};
 ghost use Rattle.page_model.specs.Paging.{class_for, classes};
 ghost use Rattle.quota_model.specs.Refusals.{malloc_refusal, quota_refusal};
 ghost use Rattle.page_slots.specs.Owner.{IsObjectAt};
-ghost use Rattle.quota_heap.specs.Calls.{IsFoundIn, find_steps};
-ghost use Rattle.quota_heap.specs.Costs.{access_steps, free_cost, length_steps, malloc_cost, peek_steps};
-ghost use Rattle.quota_heap.specs.Layout.{IsValid, as_owner, paging_at, state_of};
+ghost use Rattle.quota_heap.specs.Calls.{IsFoundIn, task_find_steps};
+ghost use Rattle.quota_heap.specs.Costs.{task_access_steps, task_free_cost, task_length_steps, task_malloc_cost, task_peek_steps};
+ghost use Rattle.quota_heap.specs.Layout.{IsValid, as_owner, shared_paging, tasks_state_of};
 ghost use Rattle.quota_heap.specs.Needed.{quota_bytes};
 ghost use Rattle.quota_heap.specs.declared.task.Task.{Task};
 ghost use Rattle.quota_heap.specs.State.{empty_state, held_by, objects_by, quota_of};
-ghost use Rattle.quota_heap.specs.Steps.{IsFreeStep, IsMallocStep, IsQuotaStep, IsReadAnswer, IsWriteStep, figures_by, length_by};
+ghost use Rattle.quota_heap.specs.Steps.{IsQuotaStep, IsTaskFreeStep, IsTaskMallocStep, IsTaskReadAnswer, IsTaskWriteStep, figures_by, length_by};
 
 use crate::shared_pages::{Found, SharedPages};
 use crate::task::{Task, first_tasks, tasks_bytes};
@@ -45,7 +45,7 @@ impl OpenTasks {
     /// functions of `OpenTasks` it alone allocates. Fails if out of memory.
     pub(crate) fn new(alloc: Global, s: &Settings) -> Result<OpenTasks, OutOfMemory>
         ensures kept { IfOk result IsValid }
-        ensures empty { IfOk result (λ h. state_of h ≡ empty_state (profile_of s.now)) }
+        ensures empty { IfOk result (λ h. tasks_state_of h ≡ empty_state (profile_of s.now)) }
     {
         let shared_pages = SharedPages::new(alloc, s)?;
         let tasks = first_tasks(alloc, shared_pages.tables.classes.len(), s.pages, s.proxies)?;
@@ -72,7 +72,7 @@ impl OpenTasks {
     pub(crate) fn quota(&self, t: u32) -> u32
         requires kept { IsValid self.now }
         requires sixteen { t < 16 }
-        ensures { result ≡ quota_of (state_of self.now) t }
+        ensures { result ≡ quota_of (tasks_state_of self.now) t }
     {
         let task = &self.tasks[t as usize];
         task.quota
@@ -83,7 +83,7 @@ impl OpenTasks {
     pub(crate) fn set_quota(&mut self, t: u32, pages: u32) -> Result<(), QuotaFault>
         requires kept { IsValid self.old }
         requires sixteen { t < 16 }
-        ensures step { IsQuotaStep (state_of self.old) t pages result (state_of self.new) }
+        ensures step { IsQuotaStep (tasks_state_of self.old) t pages result (tasks_state_of self.new) }
         ensures kept { IsValid self.new }
     {
         let besides = self.granted - self.quota(t);
@@ -101,7 +101,7 @@ impl OpenTasks {
     pub(crate) fn pages(&self, t: u32) -> u32
         requires kept { IsValid self.now }
         requires sixteen { t < 16 }
-        ensures { result ≡ pages_needed (paging_at self.now.shared_pages) (objects_by (state_of self.now) t) }
+        ensures { result ≡ pages_needed (shared_paging self.now.shared_pages) (objects_by (tasks_state_of self.now) t) }
     {
         let task = &self.tasks[t as usize];
         task.pages
@@ -111,7 +111,7 @@ impl OpenTasks {
     pub(crate) fn live(&self, t: u32) -> u32
         requires kept { IsValid self.now }
         requires sixteen { t < 16 }
-        ensures { result ≡ len (objects_by (state_of self.now) t) }
+        ensures { result ≡ len (objects_by (tasks_state_of self.now) t) }
     {
         let task = &self.tasks[t as usize];
         task.proxies.live()
@@ -120,7 +120,7 @@ impl OpenTasks {
     /// `OpenTasks`: the number of the region's pages less the sum of all quotas.
     pub(crate) fn unassigned(&self) -> u32
         requires kept { IsValid self.now }
-        ensures { result + sum (state_of self.now).quotas ≡ self.now.shared_pages.settings.pages }
+        ensures { result + sum (tasks_state_of self.now).quotas ≡ self.now.shared_pages.settings.pages }
     {
         self.shared_pages.settings.pages - self.granted
     }
@@ -130,9 +130,9 @@ impl OpenTasks {
     fn grant(&mut self, t: u32, pages: u32, granted: u32)
         requires kept { IsValid self.old }
         requires sixteen { t < 16 }
-        requires fits { quota_refusal (profile_of self.old.shared_pages.settings) (state_of self.old).quotas t pages (objects_by (state_of self.old) t) ≡ None }
-        requires sums { granted + quota_of (state_of self.old) t ≡ self.old.granted + pages }
-        ensures state { state_of self.new ≡ record (state_of self.old) { quotas = slice_set (state_of self.old).quotas t pages } }
+        requires fits { quota_refusal (profile_of self.old.shared_pages.settings) (tasks_state_of self.old).quotas t pages (objects_by (tasks_state_of self.old) t) ≡ None }
+        requires sums { granted + quota_of (tasks_state_of self.old) t ≡ self.old.granted + pages }
+        ensures state { tasks_state_of self.new ≡ record (tasks_state_of self.old) { quotas = slice_set (tasks_state_of self.old).quotas t pages } }
         ensures kept { IsValid self.new }
     {
         let task = &mut self.tasks[t as usize];
@@ -151,9 +151,9 @@ impl OpenTasks {
     ) -> Result<Handle, Refusal>
         requires kept { IsValid self.old }
         requires sixteen { t < 16 }
-        ensures step { IsMallocStep (state_of self.old) t bytes result (state_of self.new) }
+        ensures step { IsTaskMallocStep (tasks_state_of self.old) t bytes result (tasks_state_of self.new) }
         ensures kept { IsValid self.new }
-        ensures steps { RoseBy steps.old steps.new (malloc_cost (state_of self.old) t bytes result) }
+        ensures steps { RoseBy steps.old steps.new (task_malloc_cost (tasks_state_of self.old) t bytes result) }
     {
         let Some(c) = self.shared_pages.tables.classes.class_of(bytes, steps) else {
             return Err(Refusal::Size);
@@ -170,9 +170,9 @@ impl OpenTasks {
     fn refusal(&self, t: u32, c: u32) -> Option<Refusal>
         requires kept { IsValid self.now }
         requires sixteen { t < 16 }
-        requires class { c < classes (paging_at self.now.shared_pages) }
-        ensures { (bytes : ℕ) → need bytes ≤ self.now.shared_pages.settings.page_words → class_for (paging_at self.now.shared_pages) bytes ≡ c
-            → result ≡ malloc_refusal (profile_of self.now.shared_pages.settings) (quota_of (state_of self.now) t) (objects_by (state_of self.now) t) bytes }
+        requires class { c < classes (shared_paging self.now.shared_pages) }
+        ensures { (bytes : ℕ) → need bytes ≤ self.now.shared_pages.settings.page_words → class_for (shared_paging self.now.shared_pages) bytes ≡ c
+            → result ≡ malloc_refusal (profile_of self.now.shared_pages.settings) (quota_of (tasks_state_of self.now) t) (objects_by (tasks_state_of self.now) t) bytes }
     {
         let task = &self.tasks[t as usize];
         if task.proxies.live() == self.shared_pages.settings.proxies {
@@ -190,9 +190,9 @@ impl OpenTasks {
     pub(crate) fn free(&mut self, t: u32, h: Handle, steps: &mut Steps) -> Result<Freed, NotLive>
         requires kept { IsValid self.old }
         requires sixteen { t < 16 }
-        ensures step { IsFreeStep (state_of self.old) t h.0 result (state_of self.new) }
+        ensures step { IsTaskFreeStep (tasks_state_of self.old) t h.0 result (tasks_state_of self.new) }
         ensures kept { IsValid self.new }
-        ensures steps { RoseBy steps.old steps.new (free_cost (state_of self.old) t h.0 result) }
+        ensures steps { RoseBy steps.old steps.new (task_free_cost (tasks_state_of self.old) t h.0 result) }
     {
         let Some(x) = self.object(t, h, steps) else {
             return Err(NotLive);
@@ -206,7 +206,7 @@ impl OpenTasks {
     fn object(&self, t: u32, h: Handle, steps: &mut Steps) -> Option<Found>
         requires kept { IsValid self.now }
         requires sixteen { t < 16 }
-        ensures none { IfNone result (get (held_by (state_of self.now) t) h.0 ≡ None) }
+        ensures none { IfNone result (get (held_by (tasks_state_of self.now) t) h.0 ≡ None) }
         ensures found { IfSome result (λ f. (x : Task) → slice_get self.now.tasks.items t ≡ Some x
             → IsObjectAt (as_owner self.now.shared_pages x) h.0 f.place f.length f.class) }
         ensures steps { RoseBy steps.old steps.new (if is_some result then 3 else 1) }
@@ -219,8 +219,8 @@ impl OpenTasks {
     pub(crate) fn length(&self, t: u32, h: Handle, steps: &mut Steps) -> Option<u32>
         requires kept { IsValid self.now }
         requires sixteen { t < 16 }
-        ensures value { result ≡ length_by (state_of self.now) t h.0 }
-        ensures steps { RoseBy steps.old steps.new (length_steps result) }
+        ensures value { result ≡ length_by (tasks_state_of self.now) t h.0 }
+        ensures steps { RoseBy steps.old steps.new (task_length_steps result) }
     {
         let task = &self.tasks[t as usize];
         self.shared_pages.length(task, h, steps)
@@ -239,7 +239,7 @@ impl OpenTasks {
         requires kept { IsValid self.now }
         requires sixteen { t < 16 }
         ensures found { IsFoundIn self.now t (record { number = h.0; from = at }) count result }
-        ensures steps { RoseBy steps.old steps.new (find_steps result) }
+        ensures steps { RoseBy steps.old steps.new (task_find_steps result) }
     {
         let task = &self.tasks[t as usize];
         self.shared_pages.find(task, h, at, count, steps)
@@ -257,9 +257,9 @@ impl OpenTasks {
     ) -> Result<(), AccessFault>
         requires kept { IsValid self.old }
         requires sixteen { t < 16 }
-        ensures step { IsWriteStep (state_of self.old) t (record { number = h.0; from = at }) bytes.now result (state_of self.new) }
+        ensures step { IsTaskWriteStep (tasks_state_of self.old) t (record { number = h.0; from = at }) bytes.now result (tasks_state_of self.new) }
         ensures kept { IsValid self.new }
-        ensures steps { RoseBy steps.old steps.new (access_steps result at (length bytes.now)) }
+        ensures steps { RoseBy steps.old steps.new (task_access_steps result at (length bytes.now)) }
     {
         let len = bytes.len();
         let place = self.find(t, h, at, len, steps)?;
@@ -285,8 +285,8 @@ impl OpenTasks {
     ) -> Result<(), AccessFault>
         requires kept { IsValid self.now }
         requires sixteen { t < 16 }
-        ensures answer { IsReadAnswer (state_of self.now) t (record { number = h.0; from = at }) out.old result out.new }
-        ensures steps { RoseBy steps.old steps.new (access_steps result at (length out.old)) }
+        ensures answer { IsTaskReadAnswer (tasks_state_of self.now) t (record { number = h.0; from = at }) out.old result out.new }
+        ensures steps { RoseBy steps.old steps.new (task_access_steps result at (length out.old)) }
     {
         let len = out.len();
         let place = self.find(t, h, at, len, steps)?;
@@ -304,7 +304,7 @@ impl OpenTasks {
     pub(crate) fn figures(&self, t: u32, c: u32) -> Option<Figures>
         requires kept { IsValid self.now }
         requires sixteen { t < 16 }
-        ensures { result ≡ figures_by (state_of self.now) t c }
+        ensures { result ≡ figures_by (tasks_state_of self.now) t c }
     {
         if c < self.shared_pages.tables.classes.len() {
             Some(self.figures_of(t, c))
@@ -318,8 +318,8 @@ impl OpenTasks {
     fn figures_of(&self, t: u32, c: u32) -> Figures
         requires kept { IsValid self.now }
         requires sixteen { t < 16 }
-        requires class { c < classes (paging_at self.now.shared_pages) }
-        ensures { result ≡ figures_of (paging_at self.now.shared_pages) (held_by (state_of self.now) t) c }
+        requires class { c < classes (shared_paging self.now.shared_pages) }
+        ensures { result ≡ figures_of (shared_paging self.now.shared_pages) (held_by (tasks_state_of self.now) t) c }
     {
         let task = &self.tasks[t as usize];
         let not_full = task.lists.len(c, Which::NotFull);
@@ -336,7 +336,7 @@ impl OpenTasks {
     /// end.
     pub(crate) fn peek(&self, word: u32, steps: &mut Steps) -> Option<u64>
         ensures value { result ≡ slice_get self.now.shared_pages.region word }
-        ensures steps { RoseBy steps.old steps.new (peek_steps result) }
+        ensures steps { RoseBy steps.old steps.new (task_peek_steps result) }
     {
         if word < self.shared_pages.region.len() {
             Some(self.shared_pages.region.read(word, steps))

@@ -5,8 +5,8 @@ ghost use Rattle.std.specs.FinMap.{get};
 ghost use Rattle.step_ledger.specs.Counting.{RoseBy};
 ghost use Rattle.page_model.specs.Held.{Placed};
 ghost use Rattle.page_slots.specs.Owner.{IsObjectAt};
-ghost use Rattle.quota_heap.specs.Calls.{IsFound, find_steps};
-ghost use Rattle.quota_heap.specs.Costs.{length_steps};
+ghost use Rattle.quota_heap.specs.Calls.{IsTaskFound, task_find_steps};
+ghost use Rattle.quota_heap.specs.Costs.{task_length_steps};
 ghost use Rattle.quota_heap.specs.Layout.{AreFirstPages, ArePages, IsTask, as_owner, held_of};
 
 use crate::task::Task;
@@ -74,7 +74,7 @@ impl SharedPages {
         requires shared_pages { ArePages self.now }
         requires kept { (t : ℕ) × IsTask self.now t task.now }
         ensures value { result ≡ option_map (λ (x : Placed). length x.bytes) (get (held_of self.now task.now) h.0) }
-        ensures steps { RoseBy steps.old steps.new (length_steps result) }
+        ensures steps { RoseBy steps.old steps.new (task_length_steps result) }
     {
         let Some(place) = task.proxies.lookup(h, steps) else {
             return None;
@@ -94,8 +94,8 @@ impl SharedPages {
     ) -> Result<u32, AccessFault>
         requires shared_pages { ArePages self.now }
         requires kept { (t : ℕ) × IsTask self.now t task.now }
-        ensures found { IsFound self.now task.now (record { number = h.0; from = at }) count result }
-        ensures steps { RoseBy steps.old steps.new (find_steps result) }
+        ensures found { IsTaskFound self.now task.now (record { number = h.0; from = at }) count result }
+        ensures steps { RoseBy steps.old steps.new (task_find_steps result) }
     {
         let Some(place) = task.proxies.lookup(h, steps) else {
             return Err(AccessFault::Unknown);

@@ -13,9 +13,9 @@ use Rattle.cf_base.proofs.MapValues.{get-map_values}
 use Rattle.cf_base.proofs.Tests.{tied_no, tied_yes}
 use Rattle.page_model.specs.Bytes.{bytes_at, held_at}
 use Rattle.page_model.specs.Held.{Placed}
-use Rattle.quota_model.specs.Parts.{key_of, number_of, objects_of_task, task_of}
+use Rattle.quota_model.specs.Parts.{key_of, number_in_task, objects_of_task, task_of}
 use Rattle.quota_model.proofs.TaskParts.{get_part, get_part_past}
-use Rattle.quota_model.specs.Joined.{AreNumbers, all_keyed, joined, keyed, places_at}
+use Rattle.quota_model.specs.Joined.{AreNumbers, all_keyed, joined_places, keyed, places_at}
 
 -- a key of two joined lists is looked up in the first and, if it isn't there, in the second
 found_first : (k v : ℕ) (xs ys : List (ℕ × ℕ)) → find nat_cmp k xs ≡ Some v → find nat_cmp k (xs ++ ys) ≡ Some v
@@ -113,16 +113,16 @@ find_joined from (suc t) h (m ∷ ms) small lt =
     ∙ find_joined (from + 1) t h ms (λ u q a f. small (suc u) q a f) lt
 
 -- the joined map has under an object's key the address that the object's task has under its number
-pub get_joined : (all : List (FinMap nat_cmp ℕ)) → AreNumbers all → (t h : ℕ) → h < 65536 → get (joined all) (key_of t h) ≡ get (places_at all t) h
-unfolding joined
+pub get_joined : (all : List (FinMap nat_cmp ℕ)) → AreNumbers all → (t h : ℕ) → h < 65536 → get (joined_places all) (key_of t h) ≡ get (places_at all t) h
+unfolding joined_places
 get_joined all small t h lt = get-from_entries nat_cmp_total (all_keyed 0 all) (key_of t h) ∙ ap (λ u. find nat_cmp (key_of u h) (all_keyed 0 all))
     (let e : t ≡ 0 + t = omega arith in e) ∙ find_joined 0 t h all small lt
 
 -- as above, for a key in place of a task and a number
-pub get_by_key : (all : List (FinMap nat_cmp ℕ)) → AreNumbers all → (key : ℕ) → get (joined all) key ≡ get (places_at all (task_of key)) (number_of key)
+pub get_by_key : (all : List (FinMap nat_cmp ℕ)) → AreNumbers all → (key : ℕ) → get (joined_places all) key ≡ get (places_at all (task_of key)) (number_in_task key)
 get_by_key all small key =
-    let is : key ≡ key_of (task_of key) (number_of key) = omega arith in
-    ap (get (joined all)) is ∙ get_joined all small (task_of key) (number_of key) (omega arith)
+    let is : key ≡ key_of (task_of key) (number_in_task key) = omega arith in
+    ap (get (joined_places all)) is ∙ get_joined all small (task_of key) (number_in_task key) (omega arith)
 
 -- the map of all tasks' addresses after those of task t are replaced
 module _ (all : List (FinMap nat_cmp ℕ)) (small : AreNumbers all) (t : ℕ) (lt : t < length all) where
@@ -139,10 +139,10 @@ module _ (all : List (FinMap nat_cmp ℕ)) (small : AreNumbers all) (t : ℕ) (l
   here m = get_or-set_same all t m empty lt
 
   module _ (h : ℕ) (few : h < 65536) where
-    key_other : (key : ℕ) → task_of key ≡ t → number_of key ≢ h → key ≢ key_of t h
+    key_other : (key : ℕ) → task_of key ≡ t → number_in_task key ≢ h → key ≢ key_of t h
     key_other key is ne e = ne (omega arith)
 
-    pub joined_insert : (a : ℕ) → joined (set all t (insert (places_at all t) h a)) ≡ insert (joined all) (key_of t h) a
+    pub joined_insert : (a : ℕ) → joined_places (set all t (insert (places_at all t) h a)) ≡ insert (joined_places all) (key_of t h) a
     joined_insert a = equal_maps _ _ (λ key.
         let now : FinMap nat_cmp ℕ = insert (places_at all t) h a in
         let kept : AreNumbers (set all t now) = numbers_set now (λ q b f. elim (cases_eq q h) [
@@ -150,20 +150,20 @@ module _ (all : List (FinMap nat_cmp ℕ)) (small : AreNumbers all) (t : ℕ) (l
           | inr ne ↦ small t q b (sym (get_insert_other (places_at all t) h a q ne) ∙ f)
         ]) in
         get_by_key (set all t now) kept key ∙ elim (cases_eq (task_of key) t) [
-          | inl is ↦ ap (λ u. get (places_at (set all t now) u) (number_of key)) is ∙ ap (λ m. get m (number_of key)) (here now)
-              ∙ elim (cases_eq (number_of key) h) [
+          | inl is ↦ ap (λ u. get (places_at (set all t now) u) (number_in_task key)) is ∙ ap (λ m. get m (number_in_task key)) (here now)
+              ∙ elim (cases_eq (number_in_task key) h) [
                 | inl at ↦ (
                     let k : key ≡ key_of t h = omega arith in
-                    ap (get now) at ∙ get_inserted (places_at all t) h a ∙ sym (ap (get (insert (joined all) (key_of t h) a)) k
-                    ∙ get_inserted (joined all) (key_of t h) a))
-                | inr ne ↦ get_insert_other (places_at all t) h a (number_of key) ne ∙ sym (ap (λ u. get (places_at all u) (number_of key)) is)
-                    ∙ sym (get_by_key all small key) ∙ sym (get_insert_other (joined all) (key_of t h) a key (key_other key is ne))
+                    ap (get now) at ∙ get_inserted (places_at all t) h a ∙ sym (ap (get (insert (joined_places all) (key_of t h) a)) k
+                    ∙ get_inserted (joined_places all) (key_of t h) a))
+                | inr ne ↦ get_insert_other (places_at all t) h a (number_in_task key) ne ∙ sym (ap (λ u. get (places_at all u) (number_in_task key)) is)
+                    ∙ sym (get_by_key all small key) ∙ sym (get_insert_other (joined_places all) (key_of t h) a key (key_other key is ne))
               ]
-          | inr ne ↦ ap (λ m. get m (number_of key)) (changed now (task_of key) ne) ∙ sym (get_by_key all small key)
-              ∙ sym (get_insert_other (joined all) (key_of t h) a key (λ e. ne (omega arith)))
+          | inr ne ↦ ap (λ m. get m (number_in_task key)) (changed now (task_of key) ne) ∙ sym (get_by_key all small key)
+              ∙ sym (get_insert_other (joined_places all) (key_of t h) a key (λ e. ne (omega arith)))
         ])
 
-    pub joined_remove : joined (set all t (remove (places_at all t) h)) ≡ remove (joined all) (key_of t h)
+    pub joined_remove : joined_places (set all t (remove (places_at all t) h)) ≡ remove (joined_places all) (key_of t h)
     joined_remove = equal_maps _ _ (λ key.
         let now : FinMap nat_cmp ℕ = remove (places_at all t) h in
         let kept : AreNumbers (set all t now) = numbers_set now (λ q b f. elim (cases_eq q h) [
@@ -171,25 +171,25 @@ module _ (all : List (FinMap nat_cmp ℕ)) (small : AreNumbers all) (t : ℕ) (l
           | inr ne ↦ small t q b (sym (get_remove_other (places_at all t) h q ne) ∙ f)
         ]) in
         get_by_key (set all t now) kept key ∙ elim (cases_eq (task_of key) t) [
-          | inl is ↦ ap (λ u. get (places_at (set all t now) u) (number_of key)) is ∙ ap (λ m. get m (number_of key)) (here now)
-              ∙ elim (cases_eq (number_of key) h) [
+          | inl is ↦ ap (λ u. get (places_at (set all t now) u) (number_in_task key)) is ∙ ap (λ m. get m (number_in_task key)) (here now)
+              ∙ elim (cases_eq (number_in_task key) h) [
                 | inl at ↦ (
                     let k : key ≡ key_of t h = omega arith in
-                    ap (get now) at ∙ get_removed (places_at all t) h ∙ sym (ap (get (remove (joined all) (key_of t h))) k ∙ get_removed (joined all) (key_of t h)))
-                | inr ne ↦ get_remove_other (places_at all t) h (number_of key) ne ∙ sym (ap (λ u. get (places_at all u) (number_of key)) is)
-                    ∙ sym (get_by_key all small key) ∙ sym (get_remove_other (joined all) (key_of t h) key (key_other key is ne))
+                    ap (get now) at ∙ get_removed (places_at all t) h ∙ sym (ap (get (remove (joined_places all) (key_of t h))) k ∙ get_removed (joined_places all) (key_of t h)))
+                | inr ne ↦ get_remove_other (places_at all t) h (number_in_task key) ne ∙ sym (ap (λ u. get (places_at all u) (number_in_task key)) is)
+                    ∙ sym (get_by_key all small key) ∙ sym (get_remove_other (joined_places all) (key_of t h) key (key_other key is ne))
               ]
-          | inr ne ↦ ap (λ m. get m (number_of key)) (changed now (task_of key) ne) ∙ sym (get_by_key all small key)
-              ∙ sym (get_remove_other (joined all) (key_of t h) key (λ e. ne (omega arith)))
+          | inr ne ↦ ap (λ m. get m (number_in_task key)) (changed now (task_of key) ne) ∙ sym (get_by_key all small key)
+              ∙ sym (get_remove_other (joined_places all) (key_of t h) key (λ e. ne (omega arith)))
         ])
 
 -- a task's part of all objects at their addresses is its own objects at theirs
 pub part_joined : (words : List ℕ) (all : List (FinMap nat_cmp ℕ)) → AreNumbers all → (t : ℕ)
-    → objects_of_task (held_at words (joined all)) t ≡ held_at words (places_at all t)
+    → objects_of_task (held_at words (joined_places all)) t ≡ held_at words (places_at all t)
 part_joined words all small t = equal_maps _ _ (λ q. elim (cases_lt q 65536) [
-  | inl lt ↦ get_part (held_at words (joined all)) t q lt ∙ get-map_values f (joined all) (key_of t q) ∙ ap (option_map f) (get_joined all small t q lt)
+  | inl lt ↦ get_part (held_at words (joined_places all)) t q lt ∙ get-map_values f (joined_places all) (key_of t q) ∙ ap (option_map f) (get_joined all small t q lt)
       ∙ sym (get-map_values f (places_at all t) q)
-  | inr le ↦ get_part_past (held_at words (joined all)) t q le ∙ sym (past q le)
+  | inr le ↦ get_part_past (held_at words (joined_places all)) t q le ∙ sym (past q le)
 ])
   where
     f : ℕ → Placed

@@ -14,7 +14,7 @@ use Rattle.page_model.specs.Held.{Held}
 use Rattle.page_model.specs.Paging.{EveryBoundIsOne, IsPaging}
 use Rattle.page_model.proofs.CallerLemmas.{first_ones, first_paged, less_counts, not_less_counts_none, one_le, standing, counted_here, sum_plus, sum_same}
 use Rattle.page_model.proofs.CallerLemmas.{sum_zeros, used_at_one, used_is}
-use Rattle.quota_model.specs.Parts.{number_of, objects_of_task, task_of}
+use Rattle.quota_model.specs.Parts.{number_in_task, objects_of_task, task_of}
 use Rattle.quota_model.specs.Refusals.{task_paging}
 use Rattle.quota_model.specs.Shared.{AreQuotas, IsShared}
 use Rattle.quota_model.proofs.TaskParts.{found_part}
@@ -83,7 +83,7 @@ module _ (s : Profile) (quotas : List ℕ) (m : Held) (shared : IsShared s m) (a
     | inl some ↦ (
         let o = standing (task_paging s) m g some in
         let f = found_part m o.0 o.1 o.2 in
-        let there = counted_here (task_paging s) (objects_of_task m (task_of o.0)) (number_of o.0) o.1 f in
+        let there = counted_here (task_paging s) (objects_of_task m (task_of o.0)) (number_in_task o.0) o.1 f in
         let there' : 0 < count_on (task_paging s) (objects_of_task m (task_of o.0)) g =
         subst (λ k. 0 < count_on (task_paging s) (objects_of_task m (task_of o.0)) k) o.3 there in
         let yes = less_counts 0 (count_on (task_paging s) (objects_of_task m (task_of o.0)) g) there' in

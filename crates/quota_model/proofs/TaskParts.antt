@@ -9,19 +9,19 @@ use Rattle.std.specs.FinMap.{entries, find, get, get-entries, get-from_entries, 
 use Rattle.cf_base.proofs.Maps.{equal_maps, get_inserted, get_insert_other, get_removed, get_remove_other}
 use Rattle.cf_base.proofs.Tests.{eq_yes, eq_no, tied_yes, tied_no}
 use Rattle.page_model.specs.Held.{Held, Placed}
-use Rattle.quota_model.specs.Parts.{key_of, number_of, objects_of_task, task_of}
+use Rattle.quota_model.specs.Parts.{key_of, number_in_task, objects_of_task, task_of}
 
 abbrev of_task : ℕ → List (ℕ × Placed) → List (ℕ × Placed)
 of_task task es = filter (λ (e : ℕ × Placed). nat_eq (task_of e.0) task) es
 
 abbrev renumbered : List (ℕ × Placed) → List (ℕ × Placed)
-renumbered es = map (λ (e : ℕ × Placed). (number_of e.0, e.1)) es
+renumbered es = map (λ (e : ℕ × Placed). (number_in_task e.0, e.1)) es
 
 -- an entry of the task is found under its number if and only if it is found under its key
-same_test : (task h key : ℕ) → h < 65536 → task_of key ≡ task → eq_by_cmp nat_cmp h (number_of key) ≡ eq_by_cmp nat_cmp (key_of task h) key
-same_test task h key lt is = elim (cases_eq h (number_of key)) [
-  | inl same ↦ tied_yes h (number_of key) same ∙ sym (tied_yes (key_of task h) key (omega arith))
-  | inr ne ↦ tied_no h (number_of key) ne ∙ sym (tied_no (key_of task h) key (λ e. ne (omega arith)))
+same_test : (task h key : ℕ) → h < 65536 → task_of key ≡ task → eq_by_cmp nat_cmp h (number_in_task key) ≡ eq_by_cmp nat_cmp (key_of task h) key
+same_test task h key lt is = elim (cases_eq h (number_in_task key)) [
+  | inl same ↦ tied_yes h (number_in_task key) same ∙ sym (tied_yes (key_of task h) key (omega arith))
+  | inr ne ↦ tied_no h (number_in_task key) ne ∙ sym (tied_no (key_of task h) key (λ e. ne (omega arith)))
 ]
 
 find_part : (task h : ℕ) (es : List (ℕ × Placed)) → h < 65536 → find nat_cmp h (renumbered (of_task task es)) ≡ find nat_cmp (key_of task h) es
@@ -44,7 +44,7 @@ find_part task h (e ∷ es) lt = elim (cases_eq (task_of e.0) task) [
 find_past : (task h : ℕ) (es : List (ℕ × Placed)) → 65536 ≤ h → find nat_cmp h (renumbered es) ≡ None
 find_past task h [] le = refl
 find_past task h (e ∷ es) le =
-    let test : eq_by_cmp nat_cmp h (number_of e.0) ≡ false = tied_no h (number_of e.0) (λ is. omega arith) in
+    let test : eq_by_cmp nat_cmp h (number_in_task e.0) ≡ false = tied_no h (number_in_task e.0) (λ is. omega arith) in
     ap (λ b. cond b (Some e.1) (find nat_cmp h (renumbered es))) test ∙ find_past task h es le
 
 module _ (m : Held) (task : ℕ) where
@@ -68,10 +68,10 @@ module _ (m : Held) (task : ℕ) where
   found_whole h x found = sym (get_part h (found_small h x found)) ∙ found
 
 -- an object under a key in the map of all tasks is one of its task, under its number
-pub found_part : (m : Held) (key : ℕ) (x : Placed) → get m key ≡ Some x → get (objects_of_task m (task_of key)) (number_of key) ≡ Some x
+pub found_part : (m : Held) (key : ℕ) (x : Placed) → get m key ≡ Some x → get (objects_of_task m (task_of key)) (number_in_task key) ≡ Some x
 found_part m key x found =
-    let key_is : key_of (task_of key) (number_of key) ≡ key = omega arith in
-    get_part m (task_of key) (number_of key) (omega arith) ∙ ap (get m) key_is ∙ found
+    let key_is : key_of (task_of key) (number_in_task key) ≡ key = omega arith in
+    get_part m (task_of key) (number_in_task key) (omega arith) ∙ ap (get m) key_is ∙ found
 
 module _ (m : Held) (task h : ℕ) (lt : h < 65536) where
   other_key : (q : ℕ) → q < 65536 → q ≢ h → key_of task q ≢ key_of task h

@@ -15,7 +15,7 @@ use Rattle.page_model.specs.Held.{Held, Placed}
 use Rattle.page_model.specs.Image.{IsSlotImage, slot_for}
 use Rattle.page_model.specs.Paging.{IsPaging, Paging, class_for, first_bounds, page_of, paging_of}
 use Rattle.page_model.proofs.CallerLemmas.{first_paged}
-use Rattle.quota_model.specs.Parts.{number_of, objects_of_task, task_of}
+use Rattle.quota_model.specs.Parts.{number_in_task, objects_of_task, task_of}
 use Rattle.quota_model.specs.Refusals.{task_paging}
 use Rattle.quota_model.specs.Shared.{IsShared}
 use Rattle.quota_model.proofs.TaskParts.{found_part}
@@ -50,18 +50,18 @@ module _ (s : Profile) (m : Held) (shared : IsShared s m) where
   unfolding class_for not_full_pages
   whole_sound = record {
     slots = λ h x e. (
-        let a = (shared.sound (task_of h)).slots (number_of h) x (found_part m h x e) in
+        let a = (shared.sound (task_of h)).slots (number_in_task h) x (found_part m h x e) in
         record { class = a.class; page = a.page; aligned = a.aligned; fits = a.fits });
     own_place = λ h x q y e f ne same. elim (cases_eq (task_of q) (task_of h)) [
       | inl is ↦ (
-          let g : get (objects_of_task m (task_of h)) (number_of q) ≡ Some y = ap (λ t. get (objects_of_task m t) (number_of q)) (sym is) ∙ found_part m q y f in
-          (shared.sound (task_of h)).own_place (number_of h) x (number_of q) y (found_part m h x e) g (λ n. ne (omega arith)) same)
+          let g : get (objects_of_task m (task_of h)) (number_in_task q) ≡ Some y = ap (λ t. get (objects_of_task m t) (number_in_task q)) (sym is) ∙ found_part m q y f in
+          (shared.sound (task_of h)).own_place (number_in_task h) x (number_in_task q) y (found_part m h x e) g (λ n. ne (omega arith)) same)
       | inr other ↦ other (sym (with_task h x q y e f (ap (page_of (task_paging s)) same)))
     ];
     one_class = λ h x q y e f page. (
         let is = with_task h x q y e f page in
-        let g : get (objects_of_task m (task_of h)) (number_of q) ≡ Some y = ap (λ t. get (objects_of_task m t) (number_of q)) is ∙ found_part m q y f in
-        (shared.sound (task_of h)).one_class (number_of h) x (number_of q) y (found_part m h x e) g page);
+        let g : get (objects_of_task m (task_of h)) (number_in_task q) ≡ Some y = ap (λ t. get (objects_of_task m t) (number_in_task q)) is ∙ found_part m q y f in
+        (shared.sound (task_of h)).one_class (number_in_task h) x (number_in_task q) y (found_part m h x e) g page);
     few_not_full = λ c lt. (
         let most : not_full_pages (wide s) m c ≤ s.pages = count_at_most _ 0 s.pages in
         let bound : get_or (first_bounds (record s { k = s.pages + 1 }) Words) c 0 ≡ s.pages + 1 =

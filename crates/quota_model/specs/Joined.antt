@@ -15,8 +15,8 @@ all_keyed task [] = []
 all_keyed task (places ∷ rest) = keyed task (entries places) ++ all_keyed (task + 1) rest
 
 -- one map from the keys of all tasks' objects to their addresses
-unfoldable pub joined : List (FinMap nat_cmp ℕ) → FinMap nat_cmp ℕ
-joined all = from_entries {R = nat_cmp} (all_keyed 0 all)
+unfoldable pub joined_places : List (FinMap nat_cmp ℕ) → FinMap nat_cmp ℕ
+joined_places all = from_entries {R = nat_cmp} (all_keyed 0 all)
 
 -- the addresses of one task's objects, by their numbers in that task; none if the list has no such task
 abbrev pub places_at : List (FinMap nat_cmp ℕ) → ℕ → FinMap nat_cmp ℕ

@@ -13,10 +13,10 @@ abbrev pub task_of : ℕ → ℕ
 task_of key = key / 65536
 
 -- the number, in its task, of the object with this key
-abbrev pub number_of : ℕ → ℕ
-number_of key = key % 65536
+abbrev pub number_in_task : ℕ → ℕ
+number_in_task key = key % 65536
 
 -- the objects of one task, by their numbers in that task; m has the objects of all tasks by their keys
 unfoldable pub objects_of_task : Held → ℕ → Held
-objects_of_task m task = from_entries {R = nat_cmp} (map (λ (e : ℕ × Placed). (number_of e.0, e.1))
+objects_of_task m task = from_entries {R = nat_cmp} (map (λ (e : ℕ × Placed). (number_in_task e.0, e.1))
     (filter (λ (e : ℕ × Placed). nat_eq (task_of e.0) task) (entries m)))

@@ -7,14 +7,14 @@ use Rattle.page_model.specs.Arrangement.{IsSound, pages_needed}
 use Rattle.page_model.specs.Held.{Held, Placed, objects}
 use Rattle.page_model.specs.Paging.{page_of}
 use Rattle.page_model.specs.Steps.{IsFreePlace, Moves, Request, without, zeros_at}
-use Rattle.quota_model.specs.Parts.{key_of, number_of, objects_of_task, task_of}
+use Rattle.quota_model.specs.Parts.{key_of, number_in_task, objects_of_task, task_of}
 use Rattle.quota_model.specs.Refusals.{task_paging}
 
 -- The rules for the objects of all tasks. There are sixteen tasks, and each object's number in its task is below the number of proxies. The objects of each
 -- task are a sound arrangement with bound 1: at most one page of each of its classes is partly full. No page has objects of two tasks.
 pub record IsShared (s : Profile) (m : Held) : Type 0 where
   pub tasks : (key : ℕ) (x : Placed) → get m key ≡ Some x → task_of key < 16
-  pub numbers : (key : ℕ) (x : Placed) → get m key ≡ Some x → number_of key < s.proxies
+  pub numbers : (key : ℕ) (x : Placed) → get m key ≡ Some x → number_in_task key < s.proxies
   pub sound : (task : ℕ) → IsSound (task_paging s) (objects_of_task m task)
   pub apart : (key : ℕ) (x : Placed) (other : ℕ) (y : Placed) → get m key ≡ Some x → get m other ≡ Some y
       → page_of (task_paging s) x.place ≡ page_of (task_paging s) y.place → task_of key ≡ task_of other

@@ -14,7 +14,7 @@ use Rattle.quota_model.specs.declared.answers.Need.{Need}
 use Rattle.run_model.specs.Replies.{malloc_text}
 use Rattle.script_reader.specs.declared.command.Command.TheVariants as command
 use Rattle.script_laws.specs.RepliesById.{malloc_fault, malloc_said, ok_or}
-use Rattle.quota_session.specs.Admitted.{AreServed, IsMallocWithin, IsServed, StayWithin, StaysWithin, states_in}
+use Rattle.quota_session.specs.Admitted.{AreServed, IsMallocWithin, IsServedItem, StayWithin, StaysWithin, states_in}
 use Rattle.quota_session.specs.Tasks.{own_heap}
 use Rattle.quota_session.specs.Transcript.{MeetsTasks, TaskState, admission, admission_by, admission_text, command_reply, share_of, state_after, task_replies}
 use Rattle.quota_session.proofs.Isolated.{same_refusal}
@@ -93,7 +93,7 @@ module _ (task : ℕ) (admitted : TaskState) (asked : CanBeAsked admitted.tasks.
       by_id None free e = inl (e ∙ ap (λ f. said (ok_or (λ x. malloc_text (Err x)) f)) (is_granted now same id n free (within free)))
 
   one_served : (now : TaskState) → now.tasks.profile ≡ admitted.tasks.profile → (c : Command) → StaysWithin admitted task (Some now) (asks c)
-      → IsServed task now.present (asks c) (command_reply now c)
+      → IsServedItem task now.present (asks c) (command_reply now c)
   one_served now same (command.Malloc id n) within = λ here. malloc_served now same id n (within here) _
       (ap (λ v. said (malloc_said (get (now.tasks.objects v) id) (own_heap now.tasks v) n)) here)
   one_served now same c within = tt

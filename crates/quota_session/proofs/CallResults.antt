@@ -21,7 +21,7 @@ use Rattle.page_model.proofs.CallerLemmas.{class_holds, length-written, mover_is
 use Rattle.page_model.proofs.CallerLemmas.{some_move, sum_plus, used_at_one}
 use Rattle.page_model.proofs.CallerLemmas.{vacant_where_less}
 use Rattle.quota_heap.specs.State.{KeepsTasks, QuotaState, held_by, objects_by, quota_of}
-use Rattle.quota_heap.specs.Steps.{FreesOfTask, IsMallocStep, IsWriteStep, with_held}
+use Rattle.quota_heap.specs.Steps.{FreesOfTask, IsTaskMallocStep, IsTaskWriteStep, with_held}
 use Rattle.quota_model.proofs.CallerLemmas.{image_of_malloc, image_of_write, moved_image, own_image, removed_image, rewritten_quotas, rewritten_shared}
 use Rattle.quota_model.specs.Parts.{key_of, objects_of_task, task_of}
 use Rattle.quota_model.specs.Refusals.{malloc_refusal, task_paging}
@@ -204,7 +204,7 @@ module _ (law : PageLaw) (s : QuotaState) (rules : KeepsTasks s) (task : ℕ) (l
   ]
 
   malloc_granted : (n : ℕ) → malloc_refusal s.profile (quota_of s task) (objects_by s task) n ≡ None
-      → IsThere (Result Handle Refusal) (λ answer new. IsMallocStep s task n answer new)
+      → IsThere (Result Handle Refusal) (λ answer new. IsTaskMallocStep s task n answer new)
   malloc_granted n granted =
       let causes = no_cause (nat_lt s.profile.page_words (need n)) (nat_eq (len (objects m)) s.profile.proxies)
       (nat_lt (quota_of s task) (pages_needed_with p (objects m) n)) granted in
@@ -243,11 +243,11 @@ module _ (law : PageLaw) (s : QuotaState) (rules : KeepsTasks s) (task : ℕ) (l
             (image_of_malloc s.profile s.held rules.shared rules.page_size s.words rules.slots task asked held rules.few_proxies lt step rules.region);
       }
 
-  pub malloc_there : (n : ℕ) → IsThere (Result Handle Refusal) (λ answer new. IsMallocStep s task n answer new)
+  pub malloc_there : (n : ℕ) → IsThere (Result Handle Refusal) (λ answer new. IsTaskMallocStep s task n answer new)
   malloc_there n = go (malloc_refusal s.profile (quota_of s task) (objects_by s task) n) refl
     where
       go : (o : Option Refusal) → malloc_refusal s.profile (quota_of s task) (objects_by s task) n ≡ o
-          → IsThere (Result Handle Refusal) (λ answer new. IsMallocStep s task n answer new)
+          → IsThere (Result Handle Refusal) (λ answer new. IsTaskMallocStep s task n answer new)
       go None granted = malloc_granted n granted
       go (Some e) cause = record { answer = Err e; heap = s; step = (cause, refl); rules = rules }
 
@@ -327,7 +327,7 @@ module _ (law : PageLaw) (s : QuotaState) (rules : KeepsTasks s) (task : ℕ) (l
   few_words at n k le = omega arith
 
   abbrev Writes : ℕ → ℕ → List ℕ → Type 0
-  Writes h at bytes = IsThere (Result Unit AccessFault) (λ answer new. IsWriteStep s task (record { number = h; from = at }) bytes answer new)
+  Writes h at bytes = IsThere (Result Unit AccessFault) (λ answer new. IsTaskWriteStep s task (record { number = h; from = at }) bytes answer new)
 
   pub write_there : (h at : ℕ) (bytes : List ℕ) (x : Placed) → get m h ≡ Some x → Writes h at bytes
   write_there h at bytes x there = elim (cases_lt (length x.bytes) (at + length bytes)) [

@@ -19,7 +19,7 @@ use Rattle.script_laws.specs.ValidItems.{IsValidCommand}
 use Rattle.script_laws.proofs.CallerLemmas.{HasCalls, object_step_exists, CanGoOn}
 use Rattle.script_reader.specs.declared.command.Command.TheVariants as command
 use Rattle.quota_session.specs.Playing.{BeginsTasks, BeginsQuotas}
-use Rattle.quota_session.specs.QuotaRun.{IsGoingQuotas, QuotaRun, QuotaStep, StepsPresent, first_session, needs_of}
+use Rattle.quota_session.specs.QuotaRun.{IsGoingQuotas, QuotaRun, QuotaStep, StepsPresent, first_session, task_needs}
 use Rattle.quota_session.specs.Transcript.{admission_text, need_text}
 use Rattle.quota_session.specs.QuotaRun.{present_run, quota_fault, with_ids, with_need, with_present}
 use Rattle.quota_session.specs.TaskRun.{task_calls, task_shown}
@@ -87,12 +87,12 @@ module _ (law : PageLaw) (old : QuotaRun) (going : IsGoingQuotas old) where
     record { whole = refl; rules = quota_rules task pages (below task can.formed) (quota_fault old.heap task pages) refl; reply_is = refl },
   )
   quota_step_exists (command.Need task bytes count) can = (
-    said (need_text (needs_of old.session task)),
+    said (need_text (task_needs old.session task)),
     record old { session = with_need old.session task (record { bytes = bytes; count = count }) },
     (refl, refl),
   )
   quota_step_exists (command.Admit task) can =
-      let a = admission_there (record { profile = old.heap.profile; quota = quota_of old.heap task }) (needs_of old.session task) in
+      let a = admission_there (record { profile = old.heap.profile; quota = quota_of old.heap task }) (task_needs old.session task) in
       (said (admission_text a.0), old, (record { answer = a.0; meets = a.1; reply_is = refl }, refl))
   quota_step_exists c can = present_there c can
 

@@ -18,7 +18,7 @@ use Rattle.frag_report.specs.Classes.{totals_with}
 use Rattle.quota_session.specs.TaskRun.{class_lines, task_classes, task_report, task_totals, TaskRun, TaskStep, task_calls}
 use Rattle.cf_base.proofs.Maps.{remove_missing}
 use Rattle.script_laws.specs.ObjectRun.{IsGoingObjects}
-use Rattle.quota_heap.specs.Steps.{IsMallocStep}
+use Rattle.quota_heap.specs.Steps.{IsTaskMallocStep}
 use Rattle.quota_session.proofs.Isolated.{same_refusal}
 use Rattle.run_model.specs.Replies.{malloc_text}
 use Rattle.script_laws.specs.IdBytes.{read_shown}
@@ -132,11 +132,11 @@ module _ (task : ℕ) (old new : TaskRun) (going : IsGoingObjects (task_calls ta
   stays : (c : Command) → new ≡ old → reply ≡ task_reply t task c → all task ≡ task_leaves t task c → IsOwnReply c
   stays c same r l = record { reply_is = r; left = ap (by_id (task_calls task)) same ∙ sym own ∙ l }
 
-  fault : (n : ℕ) (answer : Result Handle Refusal) → IsMallocStep old.heap task n answer new.heap → malloc_fault h n ≡ refused answer
+  fault : (n : ℕ) (answer : Result Handle Refusal) → IsTaskMallocStep old.heap task n answer new.heap → malloc_fault h n ≡ refused answer
   fault n answer step = same_refusal t task n ∙ refusal_alike old.heap.profile (quota_of old.heap task) n (objects_by old.heap task) (all task) counts
       ∙ go answer step
     where
-      go : (answer : Result Handle Refusal) → IsMallocStep old.heap task n answer new.heap
+      go : (answer : Result Handle Refusal) → IsTaskMallocStep old.heap task n answer new.heap
           → malloc_refusal old.heap.profile (quota_of old.heap task) (objects_by old.heap task) n ≡ refused answer
       go (Ok k) g = g.granted
       go (Err e) r = r.0

@@ -7,7 +7,7 @@ use Rattle.script_laws.proofs.CallerLemmas.{FreesOn, IsAccessFault, KeepsObjects
 use Rattle.page_model.specs.Paging.{class_for}
 use Rattle.page_model.proofs.CallerLemmas.{length-written}
 use Rattle.quota_heap.specs.State.{KeepsTasks, QuotaState, held_by, objects_by, empty_state, quota_of}
-use Rattle.quota_heap.specs.Steps.{FreesOfTask, AddsObjectOfTask, IsFault, IsMallocStep, IsWriteStep, WritesForTask}
+use Rattle.quota_heap.specs.Steps.{FreesOfTask, AddsObjectOfTask, IsTaskFault, IsTaskMallocStep, IsTaskWriteStep, WritesForTask}
 use Rattle.quota_model.proofs.CallerLemmas.{objects_rewritten, others_rewritten, others_kept, others_stay, own_freed, own_objects, no_part}
 use Rattle.quota_model.specs.Refusals.{task_paging}
 use Rattle.quota_session.specs.TaskRun.{TaskRun, task_calls, TaskStep, task_run, task_classes, task_report, task_totals}
@@ -20,7 +20,7 @@ use Rattle.script_loop.specs.Semantics.{snapshot}
 use Rattle.script_loop.specs.Applying.{Applies}
 use Rattle.id_table.specs.Ties.{AreTiedTo}
 use Rattle.quota_session.specs.Playing.{quota_tasks, BeginsQuotas}
-use Rattle.quota_session.specs.QuotaRun.{AreTasksTied, HasSixteen, IsGoingQuotas, QuotaRun, QuotaStep, SetsQuota, StepsPresent, TaskSession, ids_of, needs_of, present_run, quota_run, with_ids, with_need, first_session}
+use Rattle.quota_session.specs.QuotaRun.{AreTasksTied, HasSixteen, IsGoingQuotas, QuotaRun, QuotaStep, SetsQuota, StepsPresent, TaskSession, ids_of, task_needs, present_run, quota_run, with_ids, with_need, first_session}
 use Rattle.quota_session.specs.Transcript.{one_need_more}
 use Rattle.script_laws.specs.ObjectRun.{IsGoingObjects}
 use Rattle.cf_base.proofs.Values.{map_values-empty, len-map_values}
@@ -109,7 +109,7 @@ module _ (old new : QuotaState) (rules : KeepsTasks old) (kept : KeepsTasks new)
     pub written_found : get (objects_by old task) position.number ≡ Some (w.object).bytes
     written_found = bytes_by old task position.number (Some w.object) w.found
 
-pub fault_on : (s : QuotaState) (task : ℕ) (p : Position) (count : ℕ) (e : AccessFault) → IsFault s task p count e → IsAccessFault (objects_by s task) p count e
+pub fault_on : (s : QuotaState) (task : ℕ) (p : Position) (count : ℕ) (e : AccessFault) → IsTaskFault s task p count e → IsAccessFault (objects_by s task) p count e
 fault_on s task p count access.Unknown none = bytes_by s task p.number None none
 fault_on s task p count access.Range past = (past.object.bytes, bytes_by s task p.number (Some past.object) past.found, past.past)
 
@@ -118,7 +118,7 @@ module _ (task : ℕ) (old new : QuotaState) (rules : KeepsTasks old) where
   refused_rest : new ≡ old → (objects_by new task ≡ objects_by old task) × KeepsRest task old new
   refused_rest still = (ap (λ (s : QuotaState). objects_by s task) still, rest_same task old new rules still)
 
-  malloc_on : (n : ℕ) (answer : Result Handle Refusal) → IsMallocStep old task n answer new → KeepsTasks new
+  malloc_on : (n : ℕ) (answer : Result Handle Refusal) → IsTaskMallocStep old task n answer new → KeepsTasks new
       → MallocsOn (objects_by old task) n answer (objects_by new task) × KeepsRest task old new
   malloc_on n (Ok h) g kept =
       ((given_unused old new rules kept task h.0 n g, given_objects old new rules kept task h.0 n g), given_rest old new rules kept task h.0 n g)
@@ -129,7 +129,7 @@ module _ (task : ℕ) (old new : QuotaState) (rules : KeepsTasks old) where
   free_on h None freed f kept = (freed_objects old new rules kept task h freed f, freed_rest old new rules kept task h freed f)
   free_on h (Some e) freed f kept = absurd e
 
-  write_on : (p : Position) (bytes : List ℕ) (answer : Result Unit AccessFault) → IsWriteStep old task p bytes answer new → KeepsTasks new
+  write_on : (p : Position) (bytes : List ℕ) (answer : Result Unit AccessFault) → IsTaskWriteStep old task p bytes answer new → KeepsTasks new
       → WritesOn (objects_by old task) p bytes answer (objects_by new task) × KeepsRest task old new
   write_on p bytes (Ok u) w kept = (
     (w.object.bytes, written_found old new rules kept task p bytes w, w.within, written_objects old new rules kept task p bytes w),
@@ -187,13 +187,13 @@ with_need_sixteen s task entry lt has = record {
   few = λ u. elim (cases_eq u task) [
     | inl is ↦ (
         let many = has.needs in
-        let e : needs_of (with_need s task entry) u ≡ one_need_more (needs_of s task) entry =
-        ap (needs_of (with_need s task entry)) is ∙ get_or-set_same s.needs task (one_need_more (needs_of s task) entry) [] (omega arith) in
-        let few = few_more (needs_of s task) entry (has.few task) in
+        let e : task_needs (with_need s task entry) u ≡ one_need_more (task_needs s task) entry =
+        ap (task_needs (with_need s task entry)) is ∙ get_or-set_same s.needs task (one_need_more (task_needs s task) entry) [] (omega arith) in
+        let few = few_more (task_needs s task) entry (has.few task) in
         let l = ap length e in
         omega arith)
     | inr ne ↦ (
-        let e : needs_of (with_need s task entry) u ≡ needs_of s u = get_or-set_other s.needs task u (one_need_more (needs_of s task) entry) [] ne in
+        let e : task_needs (with_need s task entry) u ≡ task_needs s u = get_or-set_other s.needs task u (one_need_more (task_needs s task) entry) [] ne in
         let few = has.few u in
         let l = ap length e in
         omega arith)

@@ -26,7 +26,7 @@ use Rattle.run_model.specs.ById.{objects_by_id}
 use Rattle.run_model.proofs.CallerLemmas.{by_id_counts, none_by_id}
 use Rattle.quota_session.specs.Alone.{AreAlikeFor, tasks_of}
 use Rattle.quota_session.specs.Playing.{BeginsTasks, BeginsQuotas, RunsQuotas, quota_tasks}
-use Rattle.quota_session.specs.QuotaRun.{IsGoingQuotas, QuotaRun, QuotaStep, SetsQuota, StepsPresent, TaskSession, ids_of, needs_of, present_run}
+use Rattle.quota_session.specs.QuotaRun.{IsGoingQuotas, QuotaRun, QuotaStep, SetsQuota, StepsPresent, TaskSession, ids_of, present_run, task_needs}
 use Rattle.quota_session.specs.QuotaRun.{quota_fault, with_ids}
 use Rattle.quota_session.specs.TaskRun.{TaskRun, task_run}
 use Rattle.quota_session.proofs.RunInvariant.{below, ids_here, ids_there, rest_kept, present_going, still_going, all_same, begins_going}
@@ -34,7 +34,7 @@ use Rattle.quota_session.proofs.OwnTask.{IsOwnReply, shown}
 
 -- the state of a run as the transcript has it: the present task, the tasks by id, and their needs
 abbrev state_of : QuotaRun → TaskState
-state_of s = record { present = s.session.present; tasks = tasks_of s; needs = needs_of s.session }
+state_of s = record { present = s.session.present; tasks = tasks_of s; needs = task_needs s.session }
 
 module _ (old : QuotaRun) (going : IsGoingQuotas old) where
   abbrev now : ℕ
@@ -141,29 +141,29 @@ begun_shown : (p : Profile) (s : QuotaRun) → BeginsQuotas p s → state_of s �
 begun_shown p s b = λ i. record {
   present = ap (λ (e : TaskSession). e.present) b.session i;
   tasks = begun_is p s b i;
-  needs = λ u. (ap (λ (e : TaskSession). needs_of e u) b.session ∙ all_same {X = List Need} 16 u []) i;
+  needs = λ u. (ap (λ (e : TaskSession). task_needs e u) b.session ∙ all_same {X = List Need} 16 u []) i;
 }
 
 module _ (old : QuotaRun) (going : IsGoingQuotas old) where
   -- the declared entries of each task after a command are those of the transcript
   needs_shown : (c : Command) (reply : Reply) (new : QuotaRun) → IsValidCommand c → QuotaStep old c reply new → (u : ℕ)
-      → needs_of new.session u ≡ needs_after (needs_of old.session) c u
-  needs_shown (command.Task task) reply new can step u = ap (λ (r : QuotaRun). needs_of r.session u) step.1
-  needs_shown (command.Quota task pages) reply new can step u = ap (λ (r : QuotaRun). needs_of r.session u) step.whole
-  needs_shown (command.Need task bytes count) reply new can step u = ap (λ (r : QuotaRun). needs_of r.session u) step.1 ∙ elim (cases_eq u task) [
+      → task_needs new.session u ≡ needs_after (task_needs old.session) c u
+  needs_shown (command.Task task) reply new can step u = ap (λ (r : QuotaRun). task_needs r.session u) step.1
+  needs_shown (command.Quota task pages) reply new can step u = ap (λ (r : QuotaRun). task_needs r.session u) step.whole
+  needs_shown (command.Need task bytes count) reply new can step u = ap (λ (r : QuotaRun). task_needs r.session u) step.1 ∙ elim (cases_eq u task) [
     | inl is ↦ (
         let many = (going.sixteen).needs in
         let low : task ≤ 15 = can.formed in
-        rw is (get_or-set_same old.session.needs task (one_need_more (needs_of old.session task) entry) [] (omega arith)
-        ∙ sym (ap (λ b. cond b (one_need_more (needs_of old.session task) entry) (needs_of old.session task)) (eq_yes task task refl))))
-    | inr ne ↦ get_or-set_other old.session.needs task u (one_need_more (needs_of old.session task) entry) [] ne
-        ∙ sym (ap (λ b. cond b (one_need_more (needs_of old.session u) entry) (needs_of old.session u)) (eq_no u task ne))
+        rw is (get_or-set_same old.session.needs task (one_need_more (task_needs old.session task) entry) [] (omega arith)
+        ∙ sym (ap (λ b. cond b (one_need_more (task_needs old.session task) entry) (task_needs old.session task)) (eq_yes task task refl))))
+    | inr ne ↦ get_or-set_other old.session.needs task u (one_need_more (task_needs old.session task) entry) [] ne
+        ∙ sym (ap (λ b. cond b (one_need_more (task_needs old.session u) entry) (task_needs old.session u)) (eq_no u task ne))
   ]
     where
       entry : Need
       entry = record { bytes = bytes; count = count }
-  needs_shown (command.Admit task) reply new can step u = ap (λ (r : QuotaRun). needs_of r.session u) step.1
-  needs_shown c reply new can step u = ap (λ (r : QuotaRun). needs_of r.session u) step.whole
+  needs_shown (command.Admit task) reply new can step u = ap (λ (r : QuotaRun). task_needs r.session u) step.1
+  needs_shown c reply new can step u = ap (λ (r : QuotaRun). task_needs r.session u) step.whole
 
   state_shown : (c : Command) (reply : Reply) (new : QuotaRun) → IsValidCommand c → QuotaStep old c reply new → state_of new ≡ state_after (state_of old) c
   state_shown c reply new can step = λ i. record {
@@ -179,7 +179,7 @@ module _ (old : QuotaRun) (going : IsGoingQuotas old) where
       ∙ ap (λ f. said (quota_text f)) (fault_same old going task pages (below task can.formed))
   command_shown (command.Need task bytes count) reply new can step = step.0
   command_shown (command.Admit task) reply new can step = (step.0).reply_is
-      ∙ ap (λ a. said (admission_text a)) (admission_is _ (needs_of old.session task) (step.0).answer (step.0).meets)
+      ∙ ap (λ a. said (admission_text a)) (admission_is _ (task_needs old.session task) (step.0).answer (step.0).meets)
   command_shown c reply new can step = call_reply old going c reply new step
 
 -- the reply to an item and the state after it are those of the transcript, and the run goes on

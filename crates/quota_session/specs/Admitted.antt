@@ -30,12 +30,12 @@ StayWithin admitted task now [] = ⊤
 StayWithin admitted task now (item ∷ rest) = StaysWithin admitted task now item × StayWithin admitted task (state_after_item now item) rest
 
 -- if the item is a malloc while the task is present, its reply is `ok` or `live`, but no refusal; other items may have any reply
-abbrev pub IsServed : ℕ → ℕ → Item → Reply → Type 0
-IsServed task present (asks (Malloc id n)) reply = present ≡ task → (reply ≡ said (codes "ok")) ⊎ (reply ≡ said (codes "live"))
-IsServed task present item reply = ⊤
+abbrev pub IsServedItem : ℕ → ℕ → Item → Reply → Type 0
+IsServedItem task present (asks (Malloc id n)) reply = present ≡ task → (reply ≡ said (codes "ok")) ⊎ (reply ≡ said (codes "live"))
+IsServedItem task present item reply = ⊤
 
 -- each item has a reply, and no malloc of the task is refused; `present` is the number of the present task before the first item
 abbrev pub AreServed : ℕ → ℕ → List Item → List Reply → Type 0
 AreServed task present [] replies = ⊤
 AreServed task present (item ∷ rest) [] = ⊥
-AreServed task present (item ∷ rest) (reply ∷ more) = IsServed task present item reply × AreServed task (present_in present item) rest more
+AreServed task present (item ∷ rest) (reply ∷ more) = IsServedItem task present item reply × AreServed task (present_in present item) rest more

@@ -17,14 +17,14 @@ abbrev pub id_access_steps : Ids → ℕ → ℕ → ℕ → ℕ
 id_access_steps ids id from count = if is_some (get ids id) then most_of_access from count else 0
 
 -- the most steps of a free of the object x, by the words of its slot; 0 if there is no object
-abbrev pub object_free_steps : QuotaState → Option Placed → ℕ
-object_free_steps s None = 0
-object_free_steps s (Some x) = most_of_free (slot_for (task_paging s.profile) (length x.bytes))
+abbrev pub most_of_object_free : QuotaState → Option Placed → ℕ
+most_of_object_free s None = 0
+most_of_object_free s (Some x) = most_of_free (slot_for (task_paging s.profile) (length x.bytes))
 
 -- the most steps of a command of the task `task`; all but `m`, `f`, `w` and `r` take none
 abbrev pub task_steps : ℕ → TaskRun → Command → ℕ
 task_steps task s (Malloc id bytes) = id_malloc_steps s.ids id
-task_steps task s (Free id) = object_free_steps s.heap (task_object task s id)
+task_steps task s (Free id) = most_of_object_free s.heap (task_object task s id)
 task_steps task s (Write id from bytes) = id_access_steps s.ids id from (length bytes)
 task_steps task s (Read id from count) = id_access_steps s.ids id from count
 task_steps task s command = 0

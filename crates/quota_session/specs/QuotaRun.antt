@@ -33,19 +33,19 @@ abbrev pub ids_of : TaskSession → ℕ → Ids
 ids_of s task = slice_index_or s.ids task empty
 
 -- the entries that a task declared; none if there is no such task
-abbrev pub needs_of : TaskSession → ℕ → List Need
-needs_of s task = slice_index_or s.needs task []
+abbrev pub task_needs : TaskSession → ℕ → List Need
+task_needs s task = slice_index_or s.needs task []
 
 -- there are sixteen tasks, the present one among them, and each declared 64 entries at most
 pub record HasSixteen (s : TaskSession) : Type 0 where
   pub ids : length s.ids ≡ 16
   pub needs : length s.needs ≡ 16
-  pub few : (task : ℕ) → length (needs_of s task) ≤ 64
+  pub few : (task : ℕ) → length (task_needs s task) ≤ 64
   pub present : s.present < 16
 
 -- the encoding of the session as nested pairs and lists, which the trait `Model` requires
-abbrev pub tasks_code : Coded TaskSession
-tasks_code = code_by (List Ids × (List (List Need) × ℕ)) (coded× (coded_list ids_code) (coded× (coded_list (coded_list need.the_row.coded)) coded_ℕ))
+abbrev pub tasks_session_code : Coded TaskSession
+tasks_session_code = code_by (List Ids × (List (List Need) × ℕ)) (coded× (coded_list ids_code) (coded× (coded_list (coded_list need.the_row.coded)) coded_ℕ))
     (λ s. (s.ids, (s.needs, s.present))) (λ q. record { ids = q.0; needs = q.1.0; present = q.1.1 }) (λ _. refl)
 
 -- the ids of each task name exactly its objects, each object by one id
@@ -101,12 +101,12 @@ pub record SetsQuota (old : QuotaRun) (task pages : ℕ) (reply : Reply) (new : 
 
 -- the session s after `need` for the task: the task has declared this entry too, if it had fewer than 64
 abbrev pub with_need : TaskSession → ℕ → Need → TaskSession
-with_need s task entry = record s { needs = slice_set s.needs task (one_need_more (needs_of s task) entry) }
+with_need s task entry = record s { needs = slice_set s.needs task (one_need_more (task_needs s task) entry) }
 
 -- `admit`: the reply shows whether the task's quota and the proxies are enough for the needs that it declared (`IsAdmission`)
 pub record Admits (s : QuotaRun) (task : ℕ) (reply : Reply) : Type 0 where
   pub answer : Admission
-  pub meets : IsAdmission (record { profile = s.heap.profile; quota = quota_of s.heap task }) (needs_of s.session task) answer
+  pub meets : IsAdmission (record { profile = s.heap.profile; quota = quota_of s.heap task }) (task_needs s.session task) answer
   pub reply_is : reply ≡ said (admission_text answer)
 
 -- One command: the run before it, its reply, and the run after it.
@@ -114,7 +114,7 @@ abbrev pub QuotaStep : QuotaRun → Command → Reply → QuotaRun → Type 0
 QuotaStep old (command.Task task) reply new = (reply ≡ said (codes "ok")) × (new ≡ with_present old task)
 QuotaStep old (command.Quota task pages) reply new = SetsQuota old task pages reply new
 QuotaStep old (command.Need task bytes count) reply new =
-    (reply ≡ said (need_text (needs_of old.session task)))
+    (reply ≡ said (need_text (task_needs old.session task)))
     × (new ≡ record old { session = with_need old.session task (record { bytes = bytes; count = count }) })
 QuotaStep old (command.Admit task) reply new = Admits old task reply × (new ≡ old)
 QuotaStep old command reply new = StepsPresent old command reply new

@@ -8,7 +8,7 @@ use Rattle.script_laws.specs.ObjectRun.{Calls, ObjectRun, ObjectStep, object_run
 use Rattle.page_model.specs.Arrangement.{live, used_pages}
 use Rattle.page_model.specs.Figures.{figures_of, totals_of}
 use Rattle.quota_heap.specs.State.{KeepsTasks, QuotaState, held_by, objects_by, quota_of}
-use Rattle.quota_heap.specs.Steps.{FreesOfTask, IsMallocStep, IsWriteStep}
+use Rattle.quota_heap.specs.Steps.{FreesOfTask, IsTaskMallocStep, IsTaskWriteStep}
 use Rattle.quota_model.specs.Refusals.{task_paging}
 use Rattle.run_model.specs.Replies.{malloc_text}
 use Rattle.run_model.specs.Reports.{class_line, total_line}
@@ -53,9 +53,9 @@ abbrev pub task_calls : ℕ → Calls QuotaState Refusal ⊥
 task_calls task = record {
   is_ready = KeepsTasks;
   objects = λ s. objects_by s task;
-  mallocs = λ old bytes answer new. IsMallocStep old task bytes answer new × KeepsTasks new;
+  mallocs = λ old bytes answer new. IsTaskMallocStep old task bytes answer new × KeepsTasks new;
   frees = λ old h fault new. (freed : Freed) × FreesOfTask old task h freed new × KeepsTasks new;
-  writes = λ old position bytes answer new. IsWriteStep old task position bytes answer new × KeepsTasks new;
+  writes = λ old position bytes answer new. IsTaskWriteStep old task position bytes answer new × KeepsTasks new;
   malloc_text = malloc_text;
   free_text = λ fault. codes "ok";
   others = λ old command reply new. (reply ≡ task_shown old.heap task command) × (new ≡ old);

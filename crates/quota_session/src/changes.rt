@@ -10,7 +10,7 @@ ghost use Rattle.quota_heap.specs.State.{objects_by};
 ghost use Rattle.script_laws.specs.ObjectRun.{object_bytes};
 ghost use Rattle.script_laws.specs.IdBytes.{read_shown};
 ghost use Rattle.id_table.specs.Ties.{AreTiedTo};
-ghost use Rattle.quota_session.specs.Costs.{id_access_steps, id_malloc_steps, object_free_steps};
+ghost use Rattle.quota_session.specs.Costs.{id_access_steps, id_malloc_steps, most_of_object_free};
 ghost use Rattle.quota_session.specs.TaskRun.{TaskStep, task_calls, task_object, task_run};
 
 use cf_io::Line;
@@ -61,7 +61,7 @@ pub(crate) fn free(
     requires tied { AreTiedTo ids.old (objects_by heap.old task) }
     requires room { steps.old ≤ 2 ^ 63 }
     ensures step { TaskStep task (task_run ids.old heap.old) (Free id) (said (short_text result)) (task_run ids.new heap.new) }
-    ensures steps { RoseAtMost steps.old steps.new (object_free_steps heap.old (task_object task (task_run ids.old heap.old) id)) }
+    ensures steps { RoseAtMost steps.old steps.new (most_of_object_free heap.old (task_object task (task_run ids.old heap.old) id)) }
 {
     let Some(h) = ids.handle(id) else {
         return Short::Unknown;

@@ -42,11 +42,11 @@ pub struct QuotaSession {
 
 impl Model for QuotaSession {
     ghost use Rattle.quota_session.specs.Layout.{tasks_session};
-    ghost use Rattle.quota_session.specs.QuotaRun.{HasSixteen, TaskSession, tasks_code};
+    ghost use Rattle.quota_session.specs.QuotaRun.{HasSixteen, TaskSession, tasks_session_code};
 
     ghost Value = { TaskSession };
 
-    ghost coded = { tasks_code };
+    ghost coded = { tasks_session_code };
 
     ghost view = { λ s. tasks_session s.records };
 

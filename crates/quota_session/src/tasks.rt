@@ -7,7 +7,7 @@ ghost use Rattle.cf_session.specs.Short.{short_text};
 ghost use Rattle.quota_heap.specs.State.{KeepsTasks};
 ghost use Rattle.quota_session.specs.Tasks.{quota_text, quotas_after};
 ghost use Rattle.quota_session.specs.Layout.{tasks_session};
-ghost use Rattle.quota_session.specs.QuotaRun.{HasSixteen, needs_of, quota_fault, with_need};
+ghost use Rattle.quota_session.specs.QuotaRun.{HasSixteen, quota_fault, task_needs, with_need};
 ghost use Rattle.quota_session.specs.Transcript.{admission_text, need_text};
 
 use crate::records::Records;
@@ -39,7 +39,7 @@ pub(crate) fn declare(records: &mut Records, task: u32, entry: Need) -> Short
     requires sixteen { task < 16 }
     requires kept { HasSixteen (tasks_session records.old) }
     ensures session { tasks_session records.new ≡ with_need (tasks_session records.old) task entry }
-    ensures text { short_text result ≡ need_text (needs_of (tasks_session records.old) task) }
+    ensures text { short_text result ≡ need_text (task_needs (tasks_session records.old) task) }
 {
     let needs = &mut records.needs[task as usize];
     if needs.push(entry) {

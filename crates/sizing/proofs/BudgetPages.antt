@@ -27,7 +27,7 @@ use Rattle.std.proofs.lemmas.List.{length-replicate}
 use Rattle.sizing.specs.Certificates.{AreBudgetLevels, gap_beside, loose_pages}
 use Rattle.sizing.specs.Checks.{with_pages}
 use Rattle.sizing.specs.Demands.{Affords, ArePrices, KeepsBudget, objects_to_open}
-use Rattle.sizing.specs.Runs.{Does, HeapCall, MallocLacks, ResizeLacks, Run, ServesMallocs, ServesResizes}
+use Rattle.sizing.specs.Runs.{Does, HeapCall, MallocLacks, ResizeLacks, RunCalls, ServesMallocs, ServesResizes}
 use Rattle.sizing.proofs.BudgetLeast.{opened_by}
 use Rattle.sizing.proofs.Calls.{live_malloced, live_moved, live_resized, run_keeps, sound_next}
 use Rattle.sizing.proofs.ClassPages.{sum_less}
@@ -185,7 +185,7 @@ module _ (p : Paging) (cost price : ℕ → ℕ) (prices : ArePrices p cost pric
       sound : IsSound p m
       keeps : KeepsBudget cost budget (objects m)
 
-    within_along : (calls : List HeapCall) (m : Held) → Run p (KeepsBudget cost budget) empty calls m → IsWithin m
+    within_along : (calls : List HeapCall) (m : Held) → RunCalls p (KeepsBudget cost budget) empty calls m → IsWithin m
     within_along calls m run = run_keeps (Does p) (KeepsBudget cost budget) IsWithin
         (λ old new call k does asked. record { sound = sound_next p ok old k.sound call new does; keeps = asked }) calls empty m
         (record {
@@ -198,7 +198,7 @@ module _ (p : Paging) (cost price : ℕ → ℕ) (prices : ArePrices p cost pric
 
     module _ (ones : EveryBoundIsOne p) where
       -- a refused malloc would need more pages than there are
-      malloc_needs : (calls : List HeapCall) (m : Held) (h n : ℕ) → Run p (KeepsBudget cost budget) empty calls m
+      malloc_needs : (calls : List HeapCall) (m : Held) (h n : ℕ) → RunCalls p (KeepsBudget cost budget) empty calls m
           → MallocLacks p (KeepsBudget cost budget) m h n → p.pages < pages_needed p (insert (objects m) h (replicate n 0))
       malloc_needs calls m h n run l =
           let k = within_along calls m run in
@@ -209,7 +209,7 @@ module _ (p : Paging) (cost price : ℕ → ℕ) (prices : ArePrices p cost pric
           omega arith
 
       -- at a refused resize the objects need all pages
-      resize_needs : (calls : List HeapCall) (m : Held) (h n : ℕ) → Run p (KeepsBudget cost budget) empty calls m
+      resize_needs : (calls : List HeapCall) (m : Held) (h n : ℕ) → RunCalls p (KeepsBudget cost budget) empty calls m
           → ResizeLacks p (KeepsBudget cost budget) m h n → p.pages ≤ pages_needed p (objects m)
       resize_needs calls m h n run l =
           let k = within_along calls m run in
@@ -242,7 +242,7 @@ module _ (p : Paging) (cost price : ℕ → ℕ) (prices : ArePrices p cost pric
         omega arith
 
     -- a class has at most the pages that the objects fill for which the budget pays
-    pages_paid : ((c : ℕ) → c < classes p → 0 < price c) → (calls : List HeapCall) (m : Held) → Run p (KeepsBudget cost budget) empty calls m
+    pages_paid : ((c : ℕ) → c < classes p → 0 < price c) → (calls : List HeapCall) (m : Held) → RunCalls p (KeepsBudget cost budget) empty calls m
         → (c : ℕ) → c < classes p → pages_of_class p m c ≤ ceil_div (budget / price c) (slots_of p c)
     pages_paid some calls m run = (pages_along p ok (λ c. budget / price c) (KeepsBudget cost budget)
         (λ o keeps c lt. (
@@ -252,7 +252,7 @@ module _ (p : Paging) (cost price : ℕ → ℕ) (prices : ArePrices p cost pric
         calls m run).1
 
     module _ (i t : ℕ) (lt : i < classes p) (full : (c : ℕ) → c < classes p → t ≤ slots_of p c * price c) (calls : List HeapCall) (m : Held)
-        (run : Run p (KeepsBudget cost budget) empty calls m) where
+        (run : RunCalls p (KeepsBudget cost budget) empty calls m) where
       some_price : 0 < t → (c : ℕ) → c < classes p → 0 < price c
       some_price pos c below = elim (cases_lt 0 (price c)) [
         | inl some ↦ some

@@ -20,7 +20,7 @@ use Rattle.page_model.proofs.Counting.{on_no}
 use Rattle.page_model.proofs.OrderNumbers.{none_freed}
 use Rattle.page_model.proofs.Parts.{freed_counts, in_place_counts, moved_counts}
 use Rattle.sizing.specs.Demands.{HasAtMost}
-use Rattle.sizing.specs.Runs.{Does, HeapCall, RunBy, free_of, malloc_of, resize_of, write_of}
+use Rattle.sizing.specs.Runs.{Does, HeapCall, RunCallsBy, free_of, malloc_of, resize_of, write_of}
 use Rattle.sizing.proofs.ClassPages.{no_more_pages, opened}
 
 module _ (p : Paging) (m : Held) (h n : ℕ) where
@@ -166,6 +166,6 @@ module _ (p : Paging) (ok : IsPaging p) (old : Held) (s : IsSound p old) where
 -- what each call keeps, a run keeps
 pub run_keeps : (step : Held → HeapCall → Held → Type 0) (allowed : Objects → Type 0) (P : Held → Type 0)
     → ((old new : Held) (call : HeapCall) → P old → step old call new → allowed (objects new) → P new) → (calls : List HeapCall) (m last : Held) → P m
-    → RunBy step allowed m calls last → P last
+    → RunCallsBy step allowed m calls last → P last
 run_keeps step allowed P next [] m last k is = subst P (sym is) k
 run_keeps step allowed P next (call ∷ rest) m last k run = run_keeps step allowed P next rest run.0 last (next m run.0 call k run.1 run.2) run.3

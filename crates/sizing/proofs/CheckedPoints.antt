@@ -16,7 +16,7 @@ use Rattle.page_model.specs.Counts.{most_pages}
 use Rattle.page_model.specs.Paging.{IsPaging, Paging, bound_of, class_for, classes, paging_of, slots_of}
 use Rattle.page_model.proofs.CallerLemmas.{paged}
 use Rattle.quota_model.specs.declared.answers.Need.{Need}
-use Rattle.sizing.specs.Certificates.{AreForResizes, IsCertificate, IsPoint, LeadsInto, in_both, kept_count, mode_at, mode_count, one_more, pages_with_copy}
+use Rattle.sizing.specs.Certificates.{AreForResizes, IsCertificate, IsPoint, LeadsInto, in_both, kept_count, mode_at, mode_count, one_more_of, pages_with_copy}
 use Rattle.sizing.specs.Checks.{AllowsResizes, AreCounts, IsRow, needs_of, paging_with, with_pages}
 use Rattle.sizing.specs.Demands.{KeepsToOne, count_in}
 use Rattle.sizing.specs.Layout.{size_before}
@@ -102,9 +102,9 @@ module _ (pages : ℕ) (heap : HeapClasses) (modes : List ModeNeeds) (i j : ℕ)
       ∙ alike pages heap (in_both (mode_at (needs_of modes) i) (mode_at (needs_of modes) j)) c
 
 -- one object more of class c in a table
-pub set_is_more : (xs : List ℕ) (c : ℕ) → c < length xs → (e : ℕ) → slice_index (set xs c (slice_index xs c + 1)) e ≡ one_more c (slice_index xs) e
+pub set_is_more : (xs : List ℕ) (c : ℕ) → c < length xs → (e : ℕ) → slice_index (set xs c (slice_index xs c + 1)) e ≡ one_more_of c (slice_index xs) e
 set_is_more xs c lt e = elim (cases_eq e c) [
-  | inl is ↦ subst (λ i. slice_index (set xs c (slice_index xs c + 1)) i ≡ one_more c (slice_index xs) i) (sym is)
+  | inl is ↦ subst (λ i. slice_index (set xs c (slice_index xs c + 1)) i ≡ one_more_of c (slice_index xs) i) (sym is)
       (rw (eq_yes c c refl) (get_or-set_same xs c (slice_index xs c + 1) 0 lt))
   | inr ne ↦ rw (eq_no e c ne) (rw get_or-set_other refl)
 ]
@@ -123,7 +123,7 @@ module _ (p : Paging) (points : List PointPages) (kept before after kept' before
     (k : (c : ℕ) → c < classes p → kept c ≡ kept' c) (b : (c : ℕ) → c < classes p → before c ≡ before' c) (a : (c : ℕ) → c < classes p → after c ≡ after' c) where
   pub allows_same : AllowsResizes p points kept before after x j → AllowsResizes p points kept' before' after' x j
   allows_same r = record {
-    within = λ c lt less less'. leads_same p points (one_more c kept) (one_more c kept') x j (λ e inside. ap (λ n. cond (nat_eq e c) (n + 1) n) (k e inside))
+    within = λ c lt less less'. leads_same p points (one_more_of c kept) (one_more_of c kept') x j (λ e inside. ap (λ n. cond (nat_eq e c) (n + 1) n) (k e inside))
         (r.within c lt (let u = k c lt in let v = b c lt in omega arith) (let u = k c lt in let v = a c lt in omega arith));
     copies = λ c cl some d dl ne some'. (
         let sum = r.copies c cl (let v = b c cl in omega arith) d dl ne (let v = a d dl in omega arith) in

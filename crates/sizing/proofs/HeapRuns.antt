@@ -17,8 +17,8 @@ use Rattle.cf_model.specs.Rules.{IsPaged, KeepsRulesOf}
 use Rattle.cf_model.specs.State.{HeapState, paging_in}
 use Rattle.cf_model.specs.Steps.{ChangesCost, IsFreeStep, IsLeftByRefusal, IsMallocStep, IsResizeStep, LacksRoomIn, number_of}
 use Rattle.cf_model.proofs.PageSteps.{free_removes, malloc_places}
-use Rattle.sizing.specs.Heaps.{Answered, HeapRun, IsFresh, Leads, free_with, malloc_with, resize_with, write_with}
-use Rattle.sizing.specs.Runs.{Does, HeapCall, Run, ServesMallocs, ServesResizes, free_of, malloc_of, resize_of, write_of}
+use Rattle.sizing.specs.Heaps.{AnsweredCall, HeapRun, IsFresh, Leads, free_with, malloc_with, resize_with, write_with}
+use Rattle.sizing.specs.Runs.{Does, HeapCall, RunCalls, ServesMallocs, ServesResizes, free_of, malloc_of, resize_of, write_of}
 
 -- a call of the manager keeps kind and pages, and is a call of the page model, unless it leaves the objects as they are
 record IsTurned (old new : HeapState) : Type 0 where
@@ -29,7 +29,7 @@ record IsTurned (old new : HeapState) : Type 0 where
 only_cost : (old new : HeapState) → ChangesCost old new → IsTurned old new
 only_cost old new is = record { kind = ap (λ (s : HeapState). s.kind) is; pages = ap paging_in is; step = inl (ap (λ (s : HeapState). s.held) is) }
 
-turned : (old new : HeapState) (call : Answered) → IsPaged old.kind → Leads old call new → IsTurned old new
+turned : (old new : HeapState) (call : AnsweredCall) → IsPaged old.kind → Leads old call new → IsTurned old new
 turned old new (malloc_with bytes (Ok h)) is step = record {
   kind = ap (λ (s : HeapState). s.kind) step.whole;
   pages = ap paging_in step.whole;
@@ -71,11 +71,11 @@ turned old new (write_with at bytes (Err e)) is step = record {
 -- calls of the page model that lead from the objects m to those of the state
 record IsRun (p : Paging) (allowed : Objects → Type 0) (m : Held) (last : HeapState) : Type 0 where
   calls : List HeapCall
-  run : Run p allowed m calls last.held
+  run : RunCalls p allowed m calls last.held
   kind : IsPaged last.kind
   pages : paging_in last ≡ p
 
-is_run : (p : Paging) (allowed : Objects → Type 0) (calls : List Answered) (s last : HeapState) → IsPaged s.kind → paging_in s ≡ p → HeapRun allowed s calls last
+is_run : (p : Paging) (allowed : Objects → Type 0) (calls : List AnsweredCall) (s last : HeapState) → IsPaged s.kind → paging_in s ≡ p → HeapRun allowed s calls last
     → IsRun p allowed s.held last
 is_run p allowed [] s last kind pages run = record {
   calls = [];
@@ -87,7 +87,7 @@ is_run p allowed (call ∷ rest) s last kind pages run =
     let t = turned s run.0 call kind run.1 in
     let r = is_run p allowed rest run.0 last (subst IsPaged (sym t.kind) kind) (t.pages ∙ pages) run.3 in
     elim t.step [
-      | inl same ↦ record { calls = r.calls; run = subst (λ m. Run p allowed m r.calls last.held) same r.run; kind = r.kind; pages = r.pages }
+      | inl same ↦ record { calls = r.calls; run = subst (λ m. RunCalls p allowed m r.calls last.held) same r.run; kind = r.kind; pages = r.pages }
       | inr (c, does) ↦ record {
         calls = c ∷ r.calls;
         run = ((run.0).held, subst (λ q. Does q s.held c (run.0).held) pages does, run.2, r.run);
@@ -96,7 +96,7 @@ is_run p allowed (call ∷ rest) s last kind pages run =
       }
     ]
 
-module _ (allowed : Objects → Type 0) (s : HeapState) (calls : List Answered) (last new : HeapState) (fresh : IsFresh s) (run : HeapRun allowed s calls last) where
+module _ (allowed : Objects → Type 0) (s : HeapState) (calls : List AnsweredCall) (last new : HeapState) (fresh : IsFresh s) (run : HeapRun allowed s calls last) where
   pub paging_at : IsPaging (paging_in s)
   paging_at = (let rules = fresh.rules in let is = fresh.pages in let r = rw (is, KeepsRulesOf) at rules.of_kind in let k = r.0 in k.paging)
 
@@ -137,7 +137,7 @@ module _ (allowed : Objects → Type 0) (s : HeapState) (calls : List Answered) 
       })
 
   -- if along runs of the page model nothing must move, no free moves an object
-  pub no_free_moves : ((steps : List HeapCall) (m : Held) → Run (paging_in s) allowed empty steps m → (h : ℕ) (x : Placed) → get m h ≡ Some x
+  pub no_free_moves : ((steps : List HeapCall) (m : Held) → RunCalls (paging_in s) allowed empty steps m → (h : ℕ) (x : Placed) → get m h ≡ Some x
       → ¬ MustMove (paging_in s) m x) → (h : ℕ) (done : Freed) → IsFreeStep last h (Ok done) new → done.moved ≡ None
   no_free_moves never h done step =
       let at = run_at in

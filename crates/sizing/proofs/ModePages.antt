@@ -27,9 +27,9 @@ use Rattle.page_model.proofs.PageLaws.{most_pages_least}
 use Rattle.quota_model.specs.Admission.{first_large, in_order, live_of, pages_needed_by}
 use Rattle.quota_model.specs.declared.answers.Need.{Need}
 use Rattle.quota_model.proofs.CallerLemmas.{live_of-inserted}
-use Rattle.sizing.specs.Certificates.{AreForResizes, HoldCopies, IsCertificate, IsPoint, KeepResized, LeadsInto, LeadsTo, kept_count, mode_at, mode_count, one_more, pages_with_copy}
+use Rattle.sizing.specs.Certificates.{AreForResizes, HoldCopies, IsCertificate, IsPoint, KeepResized, LeadsInto, LeadsToPoint, kept_count, mode_at, mode_count, one_more_of, pages_with_copy}
 use Rattle.sizing.specs.Demands.{HasAtMost, KeepsTo, KeepsToOne, count_in, greatest_of, pages_of_modes, spread_of, spread_of_modes}
-use Rattle.sizing.specs.Runs.{CanBeRefused, Does, DoesAcross, HeapCall, IsServed, ResizesWithin, Run, RunBy, ServesMallocs, ServesMallocsAcross, ServesMallocsBy, ServesResizes, ServesResizesAcross, ServesResizesBy}
+use Rattle.sizing.specs.Runs.{CanBeRefused, Does, DoesAcross, HeapCall, IsServed, ResizesWithin, RunCalls, RunCallsBy, ServesMallocs, ServesMallocsAcross, ServesMallocsBy, ServesResizes, ServesResizesAcross, ServesResizesBy}
 use Rattle.sizing.specs.declared.certificate.PointPages.{PointPages}
 use Rattle.sizing.proofs.Calls.{live_malloced, live_resized, run_keeps, sound_next, within_next}
 use Rattle.sizing.proofs.ClassPages.{full_now, sum_less}
@@ -110,7 +110,7 @@ module _ (p : Paging) (ok : IsPaging p) where
 
   -- if of each class at most `kept` objects stay over a call, and the pages of the class are within those that it had, or those of the point y, then they are
   -- within those of y
-  below_next : (old new : Held) → IsSound p old → IsSound p new → (x y : PointPages) (kept : ℕ → ℕ) → LeadsTo p kept x y → StaysOver p kept (objects old) (objects new)
+  below_next : (old new : Held) → IsSound p old → IsSound p new → (x y : PointPages) (kept : ℕ → ℕ) → LeadsToPoint p kept x y → StaysOver p kept (objects old) (objects new)
       → (c : ℕ) → c < classes p → pages_of_class p old c ≤ slice_index x.pages c → pages_of_class p new c ≤ max (pages_of_class p old c) (slice_index y.pages c)
       → pages_of_class p new c ≤ slice_index y.pages c
   below_next old new so sn x y kept leads stays c lt below grows = elim (cases_lt (slice_index y.pages c) (pages_of_class p new c)) [
@@ -188,7 +188,7 @@ module _ (p : Paging) (ok : IsPaging p) where
           let was' : KeepsTo (mode_at modes x.mode) (objects old) = subst (λ k. KeepsTo (mode_at modes k) (objects old)) (sym is) was in
           elim (stays_over p (mode_at modes x.mode) (mode_at modes j) ok old so call new (does old new call made) was' keeps) [
             | inl stays ↦ go (kept_count p modes x.mode j) ((point_at x inside).next j lt) stays
-            | inr (within, (c, more)) ↦ go (one_more c (kept_count p modes x.mode j)) (allows old new call made within x inside j lt c more.inside more.before more.after)
+            | inr (within, (c, more)) ↦ go (one_more_of c (kept_count p modes x.mode j)) (allows old new call made within x inside j lt c more.inside more.before more.after)
                 more.stays
           ]
         where
@@ -212,7 +212,7 @@ module _ (p : Paging) (ok : IsPaging p) where
             covered = λ j lt keeps. covers_next old new call k.sound sound made x.0 was.0 x.1 x.2 x.3 was.2 j lt keeps;
           }
 
-      covered_along : (j : ℕ) → j < length modes → (calls : List HeapCall) (m : Held) → RunBy step (KeepsToOne modes) empty calls m → IsCovered m
+      covered_along : (j : ℕ) → j < length modes → (calls : List HeapCall) (m : Held) → RunCallsBy step (KeepsToOne modes) empty calls m → IsCovered m
       covered_along j lt calls m run = run_keeps step (KeepsToOne modes) IsCovered covered_next calls empty m (covered_first j lt) run
 
       mallocs_by : ServesMallocsBy step p (KeepsToOne modes)
@@ -270,7 +270,7 @@ module _ (p : Paging) (ok : IsPaging p) where
           let left : live p (objects m) e
           ≤ cond (nat_eq e (class_at p y)) (min (kept_count p modes x.mode j e + 1) (mode_count p modes x.mode e)) (kept_count p modes x.mode j e) =
           elim (cases_eq e (class_at p y)) [
-            | inl is ↦ (let one_more = one_le (nat_eq (class_at p y) e) in rw (eq_yes e (class_at p y) is) (le-min (omega arith) few))
+            | inl is ↦ (let one_more_of = one_le (nat_eq (class_at p y) e) in rw (eq_yes e (class_at p y) is) (le-min (omega arith) few))
             | inr out ↦ (
                 let same : one (nat_eq (class_at p y) e) ≡ 0 = ap one (eq_no (class_at p y) e (λ i. out (sym i))) in
                 rw (eq_no e (class_at p y) out) (omega arith))
@@ -372,7 +372,7 @@ module _ (p : Paging) (ok : IsPaging p) where
         omega arith
 
     -- whatever stays, at most what the mode after it has
-    spread_leads : (i j : ℕ) (kept : ℕ → ℕ) → ((c : ℕ) → c < classes p → kept c ≤ mode_count p modes j c) → LeadsTo p kept (point_of i) (point_of j)
+    spread_leads : (i j : ℕ) (kept : ℕ → ℕ) → ((c : ℕ) → c < classes p → kept c ≤ mode_count p modes j c) → LeadsToPoint p kept (point_of i) (point_of j)
     spread_leads i j kept few c lt =
         let from = pages_are i c lt in
         let to = pages_are j c lt in
@@ -411,9 +411,9 @@ module _ (p : Paging) (ok : IsPaging p) where
           point_of j,
           has_point j lt,
           refl,
-          subst (λ (z : PointPages). LeadsTo p (one_more c (kept_count p modes x.mode j)) z (point_of j)) (sym y.2)
-              (spread_leads y.0 j (one_more c (kept_count p modes x.mode j)) (λ e l. elim (cases_eq e c) [
-                | inl is ↦ subst (λ i. one_more c (kept_count p modes x.mode j) i ≤ mode_count p modes j i) (sym is) (rw (eq_yes c c refl) (omega arith))
+          subst (λ (z : PointPages). LeadsToPoint p (one_more_of c (kept_count p modes x.mode j)) z (point_of j)) (sym y.2)
+              (spread_leads y.0 j (one_more_of c (kept_count p modes x.mode j)) (λ e l. elim (cases_eq e c) [
+                | inl is ↦ subst (λ i. one_more_of c (kept_count p modes x.mode j) i ≤ mode_count p modes j i) (sym is) (rw (eq_yes c c refl) (omega arith))
                 | inr ne ↦ rw (eq_no e c ne) (kept_few p (mode_at modes x.mode) (mode_at modes j) e)
               ])),
         )
@@ -445,8 +445,8 @@ module _ (p : Paging) (ok : IsPaging p) where
             max-le (omega arith) (omega arith)
 
 -- a run within the needs of a mode is one within the modes
-pub run_weakened : (p : Paging) (A B : Objects → Type 0) → ((o : Objects) → A o → B o) → (calls : List HeapCall) (m last : Held) → Run p A m calls last
-    → Run p B m calls last
+pub run_weakened : (p : Paging) (A B : Objects → Type 0) → ((o : Objects) → A o → B o) → (calls : List HeapCall) (m last : Held) → RunCalls p A m calls last
+    → RunCalls p B m calls last
 run_weakened p A B weaker [] m last run = run
 run_weakened p A B weaker (call ∷ rest) m last run = (run.0, run.1, weaker (objects run.0) run.2, run_weakened p A B weaker rest run.0 last run.3)
 

@@ -15,18 +15,18 @@ use Rattle.quota_model.specs.Admission.{in_order, pages_needed_by}
 use Rattle.quota_model.specs.declared.answers.Need.{Need}
 use Rattle.quota_model.proofs.CallerLemmas.{contained, count-map, declared_is}
 use Rattle.sizing.specs.Demands.{HasAtMost, KeepsTo, count_in}
-use Rattle.sizing.specs.Runs.{Does, HeapCall, IsServed, Run}
+use Rattle.sizing.specs.Runs.{Does, HeapCall, IsServed, RunCalls}
 use Rattle.sizing.proofs.Calls.{IsWithinPages, live_malloced, live_resized, run_keeps, sound_next, within_next}
 use Rattle.sizing.proofs.ClassPages.{full_now, none_must_move, sum_less}
 
 module _ (p : Paging) (ok : IsPaging p) (most : ℕ → ℕ) (allowed : Objects → Type 0) (few : (o : Objects) → allowed o → HasAtMost p most o) where
-  pub pages_along : (calls : List HeapCall) (last : Held) → Run p allowed empty calls last → IsSound p last × IsWithinPages p most last
+  pub pages_along : (calls : List HeapCall) (last : Held) → RunCalls p allowed empty calls last → IsSound p last × IsWithinPages p most last
   pages_along calls last run = run_keeps (Does p) allowed (λ m. IsSound p m × IsWithinPages p most m)
       (λ old new call k step asked. (sound_next p ok old k.0 call new step, within_next p ok old k.0 most k.1 call new step (few (objects new) asked)))
       calls empty last (sound_empty p, λ c lt. (let z = none_home p c in omega arith)) run
 
   -- with bounds of at least the pages that `most` objects fill, no free moves an object
-  pub nothing_moves : ((c : ℕ) → c < classes p → ceil_div (most c) (slots_of p c) ≤ bound_of p c) → (calls : List HeapCall) (m : Held) → Run p allowed empty calls m
+  pub nothing_moves : ((c : ℕ) → c < classes p → ceil_div (most c) (slots_of p c) ≤ bound_of p c) → (calls : List HeapCall) (m : Held) → RunCalls p allowed empty calls m
       → (h : ℕ) (x : Placed) → get m h ≡ Some x → ¬ MustMove p m x
   nothing_moves high calls m run h x there =
       let k = pages_along calls m run in
@@ -37,7 +37,7 @@ module _ (p : Paging) (ok : IsPaging p) (most : ℕ → ℕ) (allowed : Objects 
 
   module _ (enough : pages_for p most ≤ p.pages) where
     -- a class that lacks room has the most objects that it may have
-    lacks_at_most : (calls : List HeapCall) (m : Held) → Run p allowed empty calls m → (c : ℕ) → c < classes p → LacksRoom p m c
+    lacks_at_most : (calls : List HeapCall) (m : Held) → RunCalls p allowed empty calls m → (c : ℕ) → c < classes p → LacksRoom p m c
         → live p (objects m) c + 1 ≤ most c → ⊥
     unfolding used_pages
     lacks_at_most calls m run c lt lacks le =

@@ -20,8 +20,8 @@ use Rattle.page_model.proofs.CallerLemmas.{bytes_held, bytes_missing, free_objec
 use Rattle.quota_model.specs.Admission.{declared, declared_in_all, in_order, live_of}
 use Rattle.quota_model.specs.declared.answers.Need.{Need}
 use Rattle.quota_model.proofs.CallerLemmas.{contained, declared_is, live_of-inserted}
-use Rattle.sizing.specs.Certificates.{in_both, one_more}
-use Rattle.sizing.specs.Checks.{entry_of, need_at}
+use Rattle.sizing.specs.Certificates.{in_both, one_more_of}
+use Rattle.sizing.specs.Checks.{common_entry, need_at}
 use Rattle.sizing.specs.Demands.{HasAtMost, KeepsTo, count_in}
 use Rattle.sizing.specs.Runs.{Does, HeapCall, ResizesWithin, free_of, malloc_of, resize_of, write_of}
 use Rattle.sizing.proofs.Calls.{objects_changed}
@@ -82,7 +82,7 @@ length-in_both : (needs others : List Need) → length (in_both needs others) �
 length-in_both [] others = refl
 length-in_both (e ∷ rest) others = ap suc (length-in_both rest others)
 
-entry-in_both : (needs others : List Need) (k : ℕ) → k < length needs → need_at (in_both needs others) k ≡ entry_of needs others k
+entry-in_both : (needs others : List Need) (k : ℕ) → k < length needs → need_at (in_both needs others) k ≡ common_entry needs others k
 entry-in_both [] others k lt = absurd (omega arith)
 entry-in_both (e ∷ rest) others zero lt = refl
 entry-in_both (e ∷ rest) others (suc k) lt =
@@ -92,7 +92,7 @@ entry-in_both (e ∷ rest) others (suc k) lt =
       count = min (need_at rest k).count (declared others (need_at rest k).bytes - declared (drop i (e ∷ rest)) (need_at rest k).bytes);
     }) next (entry-in_both rest others k (omega arith))
 
-pub both_is : (needs others made : List Need) → length made ≡ length needs → ((k : ℕ) → k < length needs → need_at made k ≡ entry_of needs others k)
+pub both_is : (needs others made : List Need) → length made ≡ length needs → ((k : ℕ) → k < length needs → need_at made k ≡ common_entry needs others k)
     → made ≡ in_both needs others
 both_is needs others made long each = ext_get_or (record { bytes = 0; count = 0 }) made (in_both needs others) (long ∙ sym (length-in_both needs others))
     (λ k lt. (let less : k < length needs = omega arith in each k less ∙ sym (entry-in_both needs others k less)))
@@ -147,7 +147,7 @@ pub record StaysResized (p : Paging) (needs others : List Need) (old new : Objec
   pub inside : c < classes p
   pub before : count_in p (in_both needs others) c < count_in p needs c
   pub after : count_in p (in_both needs others) c < count_in p others c
-  pub stays : StaysOver p (one_more c (count_in p (in_both needs others))) old new
+  pub stays : StaysOver p (one_more_of c (count_in p (in_both needs others))) old new
 
 module _ (p : Paging) (needs others : List Need) where
   -- what stays of each class
@@ -209,7 +209,7 @@ module _ (p : Paging) (needs others : List Need) where
             before = (let a = declared_few p needs o first (class_for p (length v)) inside in omega arith);
             after = (let b = declared_few p others (insert o h w) second (class_for p (length v)) inside in omega arith);
             stays = λ c lt. inl (elim (cases_eq c (class_for p (length v))) [
-              | inl is ↦ subst (λ d. live p o d ≤ one_more (class_for p (length v)) shared d) (sym is)
+              | inl is ↦ subst (λ d. live p o d ≤ one_more_of (class_for p (length v)) shared d) (sym is)
                   (rw (eq_yes (class_for p (length v)) (class_for p (length v)) refl) (omega arith))
               | inr ne ↦ rw (eq_no c (class_for p (length v)) ne) (other_class c lt (λ e. ne (sym e)))
             ]);

@@ -27,17 +27,17 @@ abbrev pub kept_count : Paging → List (List Need) → ℕ → ℕ → ℕ → 
 kept_count p modes i j c = count_in p (in_both (mode_at modes i) (mode_at modes j)) c
 
 -- these numbers by class, with one more of class c
-abbrev pub one_more : ℕ → (ℕ → ℕ) → ℕ → ℕ
-one_more c counts e = if nat_eq e c then counts e + 1 else counts e
+abbrev pub one_more_of : ℕ → (ℕ → ℕ) → ℕ → ℕ
+one_more_of c counts e = if nat_eq e c then counts e + 1 else counts e
 
 -- Of each class at most `kept` objects stay. The pages of the point y are at least those that a run can then still have when it goes on from the point x: the
 -- pages of x, as far as these objects can be on them.
-abbrev pub LeadsTo : Paging → (ℕ → ℕ) → PointPages → PointPages → Type 0
-LeadsTo p kept x y = (c : ℕ) → c < classes p → min (slice_index x.pages c) (most_pages (kept c) (slots_of p c) (bound_of p c)) ≤ slice_index y.pages c
+abbrev pub LeadsToPoint : Paging → (ℕ → ℕ) → PointPages → PointPages → Type 0
+LeadsToPoint p kept x y = (c : ℕ) → c < classes p → min (slice_index x.pages c) (most_pages (kept c) (slots_of p c) (bound_of p c)) ≤ slice_index y.pages c
 
 -- the point x leads to one of the points of mode j
 abbrev pub LeadsInto : Paging → List PointPages → (ℕ → ℕ) → PointPages → ℕ → Type 0
-LeadsInto p points kept x j = (y : PointPages) × Contains points y × (y.mode ≡ j) × LeadsTo p kept x y
+LeadsInto p points kept x j = (y : PointPages) × Contains points y × (y.mode ≡ j) × LeadsToPoint p kept x y
 
 -- What a point of a certificate must meet: there is its mode (`known`). It has at least the pages that the objects of its mode need (`tops`), and its pages are
 -- within those of the heap (`enough`). It leads to one of the points of each mode (`next`).
@@ -55,7 +55,7 @@ pub record IsCertificate (p : Paging) (modes : List (List Need)) (points : List 
 -- The point x leads to one of the points of mode j also if a resize within a class leads to the mode, from one that has at most `before` objects of each class to
 -- one that has at most `after`: then one object more of the class stays, if both modes have more than `kept`.
 abbrev pub KeepsResized : Paging → List PointPages → (kept before after : ℕ → ℕ) → PointPages → ℕ → Type 0
-KeepsResized p points kept before after x j = (c : ℕ) → c < classes p → kept c < before c → kept c < after c → LeadsInto p points (one_more c kept) x j
+KeepsResized p points kept before after x j = (c : ℕ) → c < classes p → kept c < before c → kept c < after c → LeadsInto p points (one_more_of c kept) x j
 
 -- The most pages of class e while a resize has its object in two slots, one of class c and the new one of class d. Before the resize the class has at most these
 -- `pages`, and its mode at most `before` objects of it; the mode afterwards has at most `after`, and `kept` other objects can stay.

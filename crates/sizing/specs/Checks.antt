@@ -40,7 +40,7 @@ pub record AllowsResizes (p : Paging) (points : List PointPages) (kept before af
   pub copies : HoldsCopies p kept before after x
 
 -- x leads to a point of mode j, also by a resize if the program `resizes`
-pub record Follows (p : Paging) (modes : List ModeNeeds) (points : List PointPages) (resizes : Bool) (x : PointPages) (j : ℕ) : Type 0 where
+pub record LeadsIntoMode (p : Paging) (modes : List ModeNeeds) (points : List PointPages) (resizes : Bool) (x : PointPages) (j : ℕ) : Type 0 where
   pub next : LeadsInto p points (kept_count p (needs_of modes) x.mode j) x j
   pub resized : IsTrue resizes → AllowsResizes p points (kept_count p (needs_of modes) x.mode j) (mode_count p (needs_of modes) x.mode) (mode_count p (needs_of modes) j) x j
 
@@ -55,8 +55,8 @@ abbrev pub need_at : List Need → ℕ → Need
 need_at needs i = slice_index_or needs i (record { bytes = 0; count = 0 })
 
 -- entry i of what both needs declare
-abbrev pub entry_of : List Need → List Need → ℕ → Need
-entry_of needs others i = record {
+abbrev pub common_entry : List Need → List Need → ℕ → Need
+common_entry needs others i = record {
   bytes = (need_at needs i).bytes;
   count = min (need_at needs i).count (declared others (need_at needs i).bytes - declared (drop (i + 1) needs) (need_at needs i).bytes);
 }

@@ -17,21 +17,21 @@ use Rattle.cf_model.specs.State.{HeapState}
 use Rattle.cf_model.specs.Steps.{IsFreeStep, IsMallocStep, IsResizeStep, IsWriteStep, Position}
 
 -- a call of a manager, with its result
-pub data Answered : Type 0 where
-  malloc_with : (bytes : ℕ) (r : Result Handle Refusal) → Answered
-  free_with : (h : ℕ) (r : Result Freed NotLive) → Answered
-  resize_with : (asked : Request) (r : Result Resized ResizeFault) → Answered
-  write_with : (at : Position) (bytes : List ℕ) (r : Result Unit AccessFault) → Answered
+pub data AnsweredCall : Type 0 where
+  malloc_with : (bytes : ℕ) (r : Result Handle Refusal) → AnsweredCall
+  free_with : (h : ℕ) (r : Result Freed NotLive) → AnsweredCall
+  resize_with : (asked : Request) (r : Result Resized ResizeFault) → AnsweredCall
+  write_with : (at : Position) (bytes : List ℕ) (r : Result Unit AccessFault) → AnsweredCall
 
 -- the call may get its result and lead from the state `old` to `new`
-abbrev pub Leads : HeapState → Answered → HeapState → Type 0
+abbrev pub Leads : HeapState → AnsweredCall → HeapState → Type 0
 Leads old (malloc_with bytes r) new = IsMallocStep old bytes r new
 Leads old (free_with h r) new = IsFreeStep old h r new
 Leads old (resize_with asked r) new = IsResizeStep old asked r new
 Leads old (write_with at bytes r) new = IsWriteStep old at bytes r new
 
 -- from the state s the calls, one after the other, may lead to `last`; after each the live objects are allowed
-abbrev pub HeapRun : (Objects → Type 0) → HeapState → List Answered → HeapState → Type 0
+abbrev pub HeapRun : (Objects → Type 0) → HeapState → List AnsweredCall → HeapState → Type 0
 HeapRun allowed s [] last = last ≡ s
 HeapRun allowed s (call ∷ rest) last = (next : HeapState) × Leads s call next × allowed (objects next.held) × HeapRun allowed next rest last
 
@@ -43,12 +43,12 @@ pub record IsFresh (s : HeapState) : Type 0 where
 
 -- whatever the program called before, in whatever order, no allowed malloc is refused for space
 abbrev pub ServesHeapMallocs : (Objects → Type 0) → HeapState → Type 0
-ServesHeapMallocs allowed s = (calls : List Answered) (last new : HeapState) (n : ℕ) → HeapRun allowed s calls last
+ServesHeapMallocs allowed s = (calls : List AnsweredCall) (last new : HeapState) (n : ℕ) → HeapRun allowed s calls last
     → ((h : ℕ) → get last.held h ≡ None → allowed (insert (objects last.held) h (replicate n 0)))
     → ¬ IsMallocStep last n (Err refusal.Space) new
 
 -- the same of resizes
 abbrev pub ServesHeapResizes : (Objects → Type 0) → HeapState → Type 0
-ServesHeapResizes allowed s = (calls : List Answered) (last new : HeapState) (asked : Request) → HeapRun allowed s calls last
+ServesHeapResizes allowed s = (calls : List AnsweredCall) (last new : HeapState) (asked : Request) → HeapRun allowed s calls last
     → ((x : Placed) → get last.held asked.number ≡ Some x → allowed (insert (objects last.held) asked.number (resized x.bytes asked.length)))
     → ¬ IsResizeStep last asked (Err resize.Space) new

@@ -15,7 +15,7 @@ pub data HeapCall : Type 0 where
   write_of : (h : ℕ) (v : List ℕ) → HeapCall
 
 -- object h has the bytes v after a write, which changes neither its length nor its address
-pub record Rewrites (old : Held) (h : ℕ) (v : List ℕ) (new : Held) : Type 0 where
+pub record RewritesBytes (old : Held) (h : ℕ) (v : List ℕ) (new : Held) : Type 0 where
   pub object : Placed
   pub found : get old h ≡ Some object
   pub long : length v ≡ length object.bytes
@@ -26,7 +26,7 @@ abbrev pub Does : Paging → Held → HeapCall → Held → Type 0
 Does p old (malloc_of h n) new = PlacesObject p old (record { number = h; length = n }) new
 Does p old (free_of h) new = (moved : Option ℕ) × RemovesObject p old h (record { held = new; moved = moved })
 Does p old (resize_of h n) new = (moved : Option ℕ) × RefitsObject p old (record { number = h; length = n }) (record { held = new; moved = moved })
-Does p old (write_of h v) new = Rewrites old h v new
+Does p old (write_of h v) new = RewritesBytes old h v new
 
 -- the call resizes an object to another length of its class, so the object keeps its slot
 abbrev pub ResizesWithin : Paging → Held → HeapCall → Type 0
@@ -40,13 +40,13 @@ abbrev pub DoesAcross : Paging → Held → HeapCall → Held → Type 0
 DoesAcross p old call new = Does p old call new × ¬ ResizesWithin p old call
 
 -- from the objects m the calls, one after the other, each a step of the relation, may lead to `last`; after each the live objects are allowed
-abbrev pub RunBy : (Held → HeapCall → Held → Type 0) → (Objects → Type 0) → Held → List HeapCall → Held → Type 0
-RunBy step allowed m [] last = last ≡ m
-RunBy step allowed m (call ∷ rest) last = (next : Held) × step m call next × allowed (objects next) × RunBy step allowed next rest last
+abbrev pub RunCallsBy : (Held → HeapCall → Held → Type 0) → (Objects → Type 0) → Held → List HeapCall → Held → Type 0
+RunCallsBy step allowed m [] last = last ≡ m
+RunCallsBy step allowed m (call ∷ rest) last = (next : Held) × step m call next × allowed (objects next) × RunCallsBy step allowed next rest last
 
 -- a run of any calls
-abbrev pub Run : Paging → (Objects → Type 0) → Held → List HeapCall → Held → Type 0
-Run p allowed m calls last = RunBy (Does p) allowed m calls last
+abbrev pub RunCalls : Paging → (Objects → Type 0) → Held → List HeapCall → Held → Type 0
+RunCalls p allowed m calls last = RunCallsBy (Does p) allowed m calls last
 
 -- a malloc of n bytes, whose object would get number h, is allowed, and its class has no slot left
 pub record MallocLacks (p : Paging) (allowed : Objects → Type 0) (m : Held) (h n : ℕ) : Type 0 where
@@ -66,11 +66,11 @@ pub record ResizeLacks (p : Paging) (allowed : Objects → Type 0) (m : Held) (h
 
 -- whatever a program called before by these steps, in whatever order, no allowed malloc is refused for space
 abbrev pub ServesMallocsBy : (Held → HeapCall → Held → Type 0) → Paging → (Objects → Type 0) → Type 0
-ServesMallocsBy step p allowed = (calls : List HeapCall) (m : Held) (h n : ℕ) → RunBy step allowed empty calls m → ¬ MallocLacks p allowed m h n
+ServesMallocsBy step p allowed = (calls : List HeapCall) (m : Held) (h n : ℕ) → RunCallsBy step allowed empty calls m → ¬ MallocLacks p allowed m h n
 
 -- the same of resizes
 abbrev pub ServesResizesBy : (Held → HeapCall → Held → Type 0) → Paging → (Objects → Type 0) → Type 0
-ServesResizesBy step p allowed = (calls : List HeapCall) (m : Held) (h n : ℕ) → RunBy step allowed empty calls m → ¬ ResizeLacks p allowed m h n
+ServesResizesBy step p allowed = (calls : List HeapCall) (m : Held) (h n : ℕ) → RunCallsBy step allowed empty calls m → ¬ ResizeLacks p allowed m h n
 
 -- of any program
 abbrev pub ServesMallocs : Paging → (Objects → Type 0) → Type 0
@@ -95,7 +95,7 @@ pub record IsServed (p : Paging) (allowed : Objects → Type 0) : Type 0 where
 pub record CanBeRefused (p : Paging) (allowed : Objects → Type 0) (m : Held) : Type 0 where
   pub calls : List HeapCall
   pub last : Held
-  pub run : Run p allowed m calls last
+  pub run : RunCalls p allowed m calls last
   pub number : ℕ
   pub bytes : ℕ
   pub lacks : MallocLacks p allowed last number bytes

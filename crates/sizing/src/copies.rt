@@ -3,7 +3,7 @@
 ghost use Rattle.std.specs.Prelude.{ℕ, ◌≡◌, ◌≢◌, ◌-◌, ◌^◌, ◌↔◌, ◌<◌, ◌≤◌, IsTrue, slice_index, sum_by};
 ghost use Rattle.std.specs.List.{range_with_len};
 ghost use Rattle.page_model.specs.Paging.{IsPaging, classes};
-ghost use Rattle.sizing.specs.Certificates.{HoldsCopies, KeepsResized, LeadsInto, one_more, pages_with_copy};
+ghost use Rattle.sizing.specs.Certificates.{HoldsCopies, KeepsResized, LeadsInto, one_more_of, pages_with_copy};
 ghost use Rattle.sizing.specs.Checks.{AllowsResizes, paging_with};
 
 use crate::certificate::PointPages;
@@ -66,7 +66,7 @@ fn leads_resized(
     requires heap { IsPaging (paging_with 0 heap.now) }
     requires class { c < classes (paging_with 0 heap.now) }
     requires low { slice_index counts.now.kept c < 2 ^ 32 - 1 }
-    ensures { IsTrue result ↔ LeadsInto (paging_with 0 heap.now) points.now (one_more c (slice_index counts.now.kept)) x.now j }
+    ensures { IsTrue result ↔ LeadsInto (paging_with 0 heap.now) points.now (one_more_of c (slice_index counts.now.kept)) x.now j }
 {
     let mut kept = counts.kept;
     kept[c] += 1;

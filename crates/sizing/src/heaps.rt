@@ -11,7 +11,7 @@ ghost use Rattle.quota_model.specs.Admission.{in_order, pages_needed_by};
 ghost use Rattle.quota_model.specs.declared.answers.Need.{Need};
 ghost use Rattle.sizing.specs.Certificates.{IsCertificate, KeepResized};
 ghost use Rattle.sizing.specs.Demands.{KeepsTo, KeepsToOne, count_in, spread_of_modes};
-ghost use Rattle.sizing.specs.Heaps.{Answered, HeapRun, IsFresh, ServesHeapMallocs, ServesHeapResizes};
+ghost use Rattle.sizing.specs.Heaps.{AnsweredCall, HeapRun, IsFresh, ServesHeapMallocs, ServesHeapResizes};
 ghost use Rattle.sizing.specs.declared.certificate.PointPages.{PointPages};
 
 /// A manager with pages, moving or not, with any bounds, has at least the pages that the declared objects
@@ -36,7 +36,7 @@ pub fn no_malloc_within_the_modes_is_refused_space()
 /// If the bound of each class is at least the pages that its declared objects fill, no free moves an
 /// object while the program keeps to its `needs`. The pages that are enough stay the same.
 pub fn no_free_within_the_needs_moves_an_object()
-    ensures { (needs : List Need) (s : HeapState) (calls : List Answered) (last new : HeapState) (h : ℕ) (freed : Freed)
+    ensures { (needs : List Need) (s : HeapState) (calls : List AnsweredCall) (last new : HeapState) (h : ℕ) (freed : Freed)
         → IsFresh s
         → ((c : ℕ) → c < classes (paging_in s)
         → ceil_div (count_in (paging_in s) needs c) (slots_of (paging_in s) c) ≤ bound_of (paging_in s) c)

@@ -11,14 +11,14 @@ ghost use Rattle.page_model.specs.Steps.{MustMove};
 ghost use Rattle.quota_model.specs.Admission.{first_large, in_order, pages_needed_by};
 ghost use Rattle.quota_model.specs.declared.answers.Need.{Need};
 ghost use Rattle.sizing.specs.Demands.{HasAtMost, KeepsTo};
-ghost use Rattle.sizing.specs.Runs.{CanBeRefused, HeapCall, IsServed, Run};
+ghost use Rattle.sizing.specs.Runs.{CanBeRefused, HeapCall, IsServed, RunCalls};
 
 /// A run begins without objects, and never has more than `most c` live objects of a class `c`. Then
 /// the class never has more pages than that many objects fill, rounded up: whatever its bound, the
 /// order of mallocs, frees, resizes and writes, and the manager's choices.
 pub fn pages_follow_the_most_live()
     ensures { (p : Paging) (most : ℕ → ℕ) (calls : List HeapCall) (m : Held) (c : ℕ) → IsPaging p
-        → Run p (HasAtMost p most) empty calls m → c < classes p
+        → RunCalls p (HasAtMost p most) empty calls m → c < classes p
         → pages_of_class p m c ≤ ceil_div (most c) (slots_of p c) }
 {}
 
@@ -45,5 +45,5 @@ pub fn fewer_pages_refuse()
 pub fn nothing_must_move()
     ensures { (p : Paging) (most : ℕ → ℕ) (calls : List HeapCall) (m : Held) (h : ℕ) (x : Placed) → IsPaging p
         → ((c : ℕ) → c < classes p → ceil_div (most c) (slots_of p c) ≤ bound_of p c)
-        → Run p (HasAtMost p most) empty calls m → get m h ≡ Some x → ¬ MustMove p m x }
+        → RunCalls p (HasAtMost p most) empty calls m → get m h ≡ Some x → ¬ MustMove p m x }
 {}

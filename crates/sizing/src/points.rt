@@ -3,8 +3,8 @@ ghost use Rattle.std.specs.Prelude.{ℕ, ◌≡◌, ◌+◌, ◌↔◌, ◌<◌,
 ghost use Rattle.std.specs.List.{range_with_len};
 ghost use Rattle.page_model.specs.Counts.{ceil_div, most_pages};
 ghost use Rattle.page_model.specs.Paging.{IsPaging, classes, slots_of};
-ghost use Rattle.sizing.specs.Certificates.{LeadsInto, LeadsTo};
-ghost use Rattle.sizing.specs.Checks.{Follows, HasFew, IsRow, paging_with};
+ghost use Rattle.sizing.specs.Certificates.{LeadsInto, LeadsToPoint};
+ghost use Rattle.sizing.specs.Checks.{HasFew, IsRow, LeadsIntoMode, paging_with};
 ghost use Rattle.sizing.specs.Demands.{count_in};
 
 use crate::certificate::{ModeNeeds, PointPages};
@@ -113,7 +113,7 @@ fn follows(
     requires few { All HasFew modes.now }
     requires known { x.now.mode < length modes.now }
     requires mode { j < length modes.now }
-    ensures { IsTrue result ↔ Follows (paging_with pages heap.now) modes.now points.now resizes x.now j }
+    ensures { IsTrue result ↔ LeadsIntoMode (paging_with pages heap.now) modes.now points.now resizes x.now j }
 {
     let counts = two_modes(heap, &modes[x.mode as usize], &modes[j]);
     if !leads_into(heap, points, &counts.kept, x, j) {
@@ -144,7 +144,7 @@ pub(crate) fn leads_into(
 /// Whether the point y has at least the pages of x, as far as the objects that stay can be on them.
 fn leads(heap: &HeapClasses, kept: &[u32; CLASSES], x: &PointPages, y: &PointPages) -> bool
     requires heap { IsPaging (paging_with 0 heap.now) }
-    ensures { IsTrue result ↔ LeadsTo (paging_with 0 heap.now) (slice_index kept.now) x.now y.now }
+    ensures { IsTrue result ↔ LeadsToPoint (paging_with 0 heap.now) (slice_index kept.now) x.now y.now }
 {
     for c in 0..heap.sizes.len() {
         let most = pages_at_most(kept[c], slots_in(heap, c), heap.bounds[c]);

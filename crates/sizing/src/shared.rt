@@ -4,7 +4,7 @@ ghost use Rattle.std.specs.Prelude.{ℕ, ◌≡◌, ◌<◌, ◌≤◌, length, 
 ghost use Rattle.page_model.specs.Paging.{IsPaging, classes};
 ghost use Rattle.quota_model.specs.Admission.{declared, declared_in_all};
 ghost use Rattle.sizing.specs.Certificates.{in_both};
-ghost use Rattle.sizing.specs.Checks.{AreCounts, HasFew, entry_of, paging_with};
+ghost use Rattle.sizing.specs.Checks.{AreCounts, HasFew, common_entry, paging_with};
 ghost use Rattle.sizing.specs.Demands.{count_in};
 
 use crate::certificate::{ENTRIES, ModeNeeds};
@@ -67,7 +67,7 @@ fn needs_in_both(needs: &[Need; ENTRIES], others: &[Need; ENTRIES]) -> [Need; EN
 /// Entry i with its count, but at most what the others declare of its length beyond the entries after it.
 fn entry_in_both(needs: &[Need; ENTRIES], others: &[Need; ENTRIES], i: usize) -> Need
     requires { i < 64 }
-    ensures { result ≡ entry_of needs.now others.now i }
+    ensures { result ≡ common_entry needs.now others.now i }
 {
     let entry = needs[i];
     let more = count_of(others, entry.bytes).saturating_sub(count_of(&needs[i + 1..], entry.bytes));

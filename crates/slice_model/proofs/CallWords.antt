@@ -19,7 +19,7 @@ use Rattle.page_model.specs.Steps.{Moves, Request, zeros_at}
 use Rattle.page_model.proofs.CallerLemmas.{fresh_word, within_or, disjoint_outside, byte_of_object, class_holds, mover_is_other}
 use Rattle.page_model.proofs.CallerLemmas.{length-written, written_before, written_behind}
 use Rattle.slice_model.specs.State.{Plan, IsPlan, JobSlot, Job, Sliced, IsKept, IsJobOf, advanced, job_slot, Idle, Clear, Move}
-use Rattle.slice_model.specs.Steps.{EndsJob, AddsObject, GoesOn, IsDone, SliceOf, LeavesJob, done_after}
+use Rattle.slice_model.specs.Steps.{EndsJob, AddsSlicedObject, GoesOn, IsDone, SliceOf, LeavesJob, done_after}
 use Rattle.slice_model.specs.Words.{HasWords, DoesWords, RewritesObject, byte_read, word_at}
 use Rattle.slice_model.specs.Runs.{words_of_slice}
 use Rattle.slice_model.proofs.KeptSteps.{kept_malloc}
@@ -220,7 +220,7 @@ module _ (p : Paging) (m : Held) (j : Job) (is_job : IsJobOf p m j) (words words
 
 -- the words after a malloc are right for its state
 pub words_given : (plan : Plan) → IsPlan plan → (old : Sliced) → IsKept plan old → (words words' : List ℕ) → HasWords plan.paging old words
-    → (asked : Request) (new : Sliced) → (g : AddsObject plan old asked new)
+    → (asked : Request) (new : Sliced) → (g : AddsSlicedObject plan old asked new)
     → Rewrites words words' (record { from = g.place; count = 1 }) (λ _. header_word asked.number asked.length) → HasWords plan.paging new words'
 words_given plan ok old kept words words' has asked new g re =
     let kept' : IsKept plan (record old { held = insert old.held asked.number (zeros_at g.place asked.length) }) =

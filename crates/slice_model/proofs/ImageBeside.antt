@@ -9,7 +9,7 @@ use Rattle.page_model.specs.Image.{IsOutside, IsOutsideOf, IsSlotImage, slot_for
 use Rattle.page_model.specs.Paging.{Paging, slot_words}
 use Rattle.page_model.proofs.CallerLemmas.{within_or}
 use Rattle.slice_model.specs.State.{Plan, IsPlan, JobSlot, Job, Sliced, IsKept, job_slot, Idle, Clear, Move}
-use Rattle.slice_model.specs.Words.{HasWords, IsBehind, IsClosed, word_at}
+use Rattle.slice_model.specs.Words.{HasWords, IsBehind, IsClosedWord, word_at}
 use Rattle.slice_model.proofs.CallWords.{mover_class}
 use Rattle.slice_model.proofs.WordAddresses.{where_word, word_left}
 
@@ -19,12 +19,12 @@ idle_words p m words = (
   (λ im. record { held = im.held; done = λ k e i lt. absurd (let e' : None ≡ Some k = e in cc); zeros = λ w out _. im.zeros w out }),
 )
 
-closed_slot : (p : Paging) (m : Held) (j : Job) (w : ℕ) → IsClosed p m j w → (k : JobSlot) → job_slot j ≡ Some k → IsBehind p k k.address w
+closed_slot : (p : Paging) (m : Held) (j : Job) (w : ℕ) → IsClosedWord p m j w → (k : JobSlot) → job_slot j ≡ Some k → IsBehind p k k.address w
 closed_slot p m Idle w c k e = absurd (let e' : None ≡ Some k = e in cc)
 closed_slot p m (Clear g) w c k e = (let f : k ≡ g = (let e' : Some g ≡ Some k = e in cc) in rw f c)
 closed_slot p m (Move h g) w c k e = (let f : k ≡ g = (let e' : Some g ≡ Some k = e in cc) in rw f c.0)
 
-closed_mover : (p : Paging) (m : Held) (j : Job) (w : ℕ) → IsClosed p m j w → (k : JobSlot) (h : ℕ) (x : Placed) → j ≡ Move h k → get m h ≡ Some x
+closed_mover : (p : Paging) (m : Held) (j : Job) (w : ℕ) → IsClosedWord p m j w → (k : JobSlot) (h : ℕ) (x : Placed) → j ≡ Move h k → get m h ≡ Some x
     → IsBehind p k x.place w
 closed_mover p m Idle w c k h x e there = absurd (let e' : Idle ≡ Move h k = e in cc)
 closed_mover p m (Clear g) w c k h x e there = absurd (let e' : Clear g ≡ Move h k = e in cc)
@@ -40,7 +40,7 @@ not_behind a done size w i (inl l) e x y = omega arith
 not_behind a done size w i (inr r) e x y = omega arith
 
 pub closed_words : (plan : Plan) → IsPlan plan → (s : Sliced) → IsKept plan s → (words clean : List ℕ) (w : ℕ) → HasWords plan.paging s words
-    → IsSlotImage plan.paging s.held clean → IsClosed plan.paging s.held s.job w → get_or words w 0 ≡ get_or clean w 0
+    → IsSlotImage plan.paging s.held clean → IsClosedWord plan.paging s.held s.job w → get_or words w 0 ≡ get_or clean w 0
 closed_words plan ok s kept words clean w has im closed = elim (cases_eq (get_or words w 0) (get_or clean w 0)) [
   | inl is ↦ is
   | inr ne ↦ absurd (ne (by_job (job_slot s.job) refl (outside ne)))

@@ -15,7 +15,7 @@ use Rattle.page_model.specs.Steps.{Moves, MustMove, Request, zeros_at}
 use Rattle.page_model.proofs.CallerLemmas.{mover_is_other, objects_on-exchanged, objects_on-inserted, objects_on-elsewhere, part_full, part_yes}
 use Rattle.page_model.proofs.CallerLemmas.{sound_exchanged, sound_placed, sound_without, on_yes, one_le, part_empty, part_over}
 use Rattle.slice_model.specs.State.{Plan, IsPlan, JobSlot, Job, Sliced, IsJobOf, IsKept, advanced, job_slot, occupied, placeholder, with_slot, Idle, Clear, Move}
-use Rattle.slice_model.specs.Steps.{EndsJob, AddsObject, IsSlice, RemovesObject, SliceOf, LeavesJob, done_after, fresh_slot}
+use Rattle.slice_model.specs.Steps.{EndsJob, AddsSlicedObject, IsSlice, RemovesSlicedObject, SliceOf, LeavesJob, done_after, fresh_slot}
 use Rattle.slice_model.proofs.Occupied.{get_beside, inserted_beside, job_class, no_placeholder, place_is_free, placeholder_class}
 
 -- n is sound, and has as many objects of each class on each page as m
@@ -174,7 +174,7 @@ full_shown n s some is = elim (cases_lt n s) [
 
 module _ (plan : Plan) (ok : IsPlan plan) where
   -- a malloc keeps the rules
-  pub kept_malloc : (old : Sliced) → IsKept plan old → (asked : Request) (new : Sliced) → AddsObject plan old asked new → IsKept plan new
+  pub kept_malloc : (old : Sliced) → IsKept plan old → (asked : Request) (new : Sliced) → AddsSlicedObject plan old asked new → IsKept plan new
   kept_malloc old kept asked new g =
       let len : length (replicate asked.length 0) ≡ asked.length = length-replicate {A = ℕ} asked.length 0 in
       let free = place_is_free plan ok old kept asked.length g.place g.free in
@@ -420,7 +420,7 @@ module _ (plan : Plan) (ok : IsPlan plan) where
       go (Some k) e (inr done) = ended old.held old.job k e kept new done.ends
 
   -- a free, with its first slice, keeps the rules
-  pub kept_free : (old : Sliced) → IsKept plan old → (h : ℕ) (new : Sliced) → RemovesObject plan old h new → IsKept plan new
+  pub kept_free : (old : Sliced) → IsKept plan old → (h : ℕ) (new : Sliced) → RemovesSlicedObject plan old h new → IsKept plan new
   kept_free old kept h new r =
       let idle : IsKept plan (record { held = old.held; job = Idle }) = subst (λ j. IsKept plan (record { held = old.held; job = j })) r.idle kept in
       kept_slice r.begun new (kept_begun old.held idle h r.freed r.found r.moved r.moves r.begun r.begins) r.slice

@@ -17,7 +17,7 @@ use Rattle.page_model.specs.Paging.{IsPaging, Paging, address_of, class_for, cla
 use Rattle.page_model.specs.Steps.{IsFreePlace}
 use Rattle.page_model.proofs.CallerLemmas.{class_fits, class_holds, slot_fits, slots_some, address_is_slot, nothing_on, on_page}
 use Rattle.page_model.proofs.CallerLemmas.{on_yes, standing, objects_on-inserted, objects_on-left}
-use Rattle.slice_model.specs.State.{Plan, IsPlan, JobSlot, Job, Sliced, IsUnderWay, IsJobOf, IsKept, IsUsable, IsFreePage, NoPlace, IsPlaceFor, job_slot}
+use Rattle.slice_model.specs.State.{Plan, IsPlan, JobSlot, Job, Sliced, IsUnderWay, IsJobOf, IsKept, IsUsable, IsSlicedFreePage, NoPlace, IsPlaceFor, job_slot}
 use Rattle.slice_model.specs.State.{occupied, placeholder, with_slot, Idle, Clear, Move}
 use Rattle.cf_base.proofs.Searches.{search_below}
 use Rattle.page_model.proofs.CallerLemmas.{IsOpen, IsVacant, less_where_vacant, vacant_where_less, open_counts, open_page}
@@ -187,7 +187,7 @@ module _ (plan : Plan) (ok : IsPlan plan) (s : Sliced) (kept : IsKept plan s) wh
       (address_of p c page free.0, usable_of c (address_of p c page free.0) at.0 free.2 (rw on some))
 
   -- a free page has no object in the arrangement with the placeholder
-  bare : (page : ℕ) → IsFreePage p s page → count_on p all page ≡ 0
+  bare : (page : ℕ) → IsSlicedFreePage p s page → count_on p all page ≡ 0
   bare page f = elim (cases_lt 0 (count_on p all page)) [
     | inr none ↦ omega arith
     | inl some ↦ absurd (
@@ -198,7 +198,7 @@ module _ (plan : Plan) (ok : IsPlan plan) (s : Sliced) (kept : IsKept plan s) wh
         ])
   ]
 
-  free_where_bare : (page : ℕ) → page < p.pages → count_on p all page ≡ 0 → IsFreePage p s page
+  free_where_bare : (page : ℕ) → page < p.pages → count_on p all page ≡ 0 → IsSlicedFreePage p s page
   free_where_bare page lt none = record {
     within = lt;
     empty = elim (cases_lt 0 (count_on p s.held page)) [

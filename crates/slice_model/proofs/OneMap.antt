@@ -15,7 +15,7 @@ use Rattle.page_model.specs.Held.{Held, Objects, Placed, objects}
 use Rattle.page_model.proofs.CallerLemmas.{bytes_held, bytes_missing, inserted_there, malloc_objects, length-written, written_are_bytes, zeros_are_bytes}
 use Rattle.slice_model.specs.State.{Plan, IsPlan, JobSlot, Sliced, IsKept, job_slot, Idle}
 use Rattle.slice_model.specs.Steps.{BeginsMove, EndsJob, IsSlice, SliceOf, LeavesJob}
-use Rattle.slice_model.specs.Runs.{Event, Frees, Happens, HappensOnMap, IsConsistent, Mallocs, Position, Runs, RunsOnMap, Slices, TaskCall, HeapWithWords, Writes, Malloc}
+use Rattle.slice_model.specs.Runs.{Event, FreesWithWords, Happens, HappensOnMap, IsConsistent, MallocsWithWords, Position, Runs, RunsOnMap, Slices, TaskCall, HeapWithWords, WritesWithWords, Malloc}
 use Rattle.slice_model.specs.Runs.{Free, Step, Write, Read}
 use Rattle.slice_model.specs.declared.answers.SliceFault.TheVariants as fault
 use Rattle.slice_model.specs.Words.{HasWords}
@@ -73,7 +73,7 @@ module _ (plan : Plan) (ok : IsPlan plan) where
   same_heap old new good same = (ap (λ (w : HeapWithWords). objects w.state.held) same, subst (IsConsistent plan) (sym same) good)
 
   malloc_on_map : (old : HeapWithWords) (bytes : ℕ) (h : Handle) (new : HeapWithWords) → IsConsistent plan old
-      → Mallocs plan old (record { number = h.0; length = bytes }) new
+      → MallocsWithWords plan old (record { number = h.0; length = bytes }) new
       → HappensOnMap (objects old.state.held) (Malloc bytes (Ok h)) (objects new.state.held) × IsConsistent plan new
   malloc_on_map old bytes h new good is =
       let g = is.gives in
@@ -87,7 +87,7 @@ module _ (plan : Plan) (ok : IsPlan plan) where
         },
       )
 
-  free_on_map : (old : HeapWithWords) (h : ℕ) (new : HeapWithWords) → IsConsistent plan old → Frees plan old h new
+  free_on_map : (old : HeapWithWords) (h : ℕ) (new : HeapWithWords) → IsConsistent plan old → FreesWithWords plan old h new
       → HappensOnMap (objects old.state.held) (Free h None) (objects new.state.held) × IsConsistent plan new
   free_on_map old h new good is =
       let r = is.removes in
@@ -119,7 +119,7 @@ module _ (plan : Plan) (ok : IsPlan plan) where
         },
       )
 
-  write_on_map : (old : HeapWithWords) (position : Position) (bytes : List ℕ) (new : HeapWithWords) → IsConsistent plan old → Writes old position bytes new
+  write_on_map : (old : HeapWithWords) (position : Position) (bytes : List ℕ) (new : HeapWithWords) → IsConsistent plan old → WritesWithWords old position bytes new
       → HappensOnMap (objects old.state.held) (Write position bytes None) (objects new.state.held) × IsConsistent plan new
   write_on_map old position bytes new good is =
       let x : Placed = is.object in

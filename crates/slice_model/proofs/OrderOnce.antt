@@ -16,8 +16,8 @@ use Rattle.page_model.specs.Paging.{Paging}
 use Rattle.page_model.specs.Steps.{Moves, zeros_at}
 use Rattle.page_model.proofs.CallerLemmas.{malloc_once, mover_once}
 use Rattle.slice_model.specs.State.{Plan, IsPlan, JobSlot, Sliced, IsKept, Idle, Move, job_slot, occupied, placeholder, with_slot}
-use Rattle.slice_model.specs.Steps.{BeginsMove, EndsJob, IsSlice, RemovesObject, SliceOf, LeavesJob, fresh_slot}
-use Rattle.slice_model.specs.Runs.{Event, Happens, HappensOnMap, IsConsistent, IsOutOfReach, Position, HeapWithWords, Writes, Malloc, Free, Step, Write, Read, words_of_slice}
+use Rattle.slice_model.specs.Steps.{BeginsMove, EndsJob, IsSlice, RemovesSlicedObject, SliceOf, LeavesJob, fresh_slot}
+use Rattle.slice_model.specs.Runs.{Event, Happens, HappensOnMap, IsConsistent, IsOutOfReach, Position, HeapWithWords, WritesWithWords, Malloc, Free, Step, Write, Read, words_of_slice}
 use Rattle.slice_model.specs.Words.{RewritesObject}
 use Rattle.slice_model.specs.Ordered.{CarriesNext, EndFollows, FreesInOrder, HappensInOrder, MallocsInOrder, MovesNext, SliceFollows}
 use Rattle.slice_model.specs.Ordered.{SlicesInOrder}
@@ -63,7 +63,7 @@ moved_once p m sound x o (Some q) (Some r) a b (y, there, first) (z, here, secon
     ap Some (mover_once p m sound o (class_at p x) q r y z there here first second)
 
 -- two frees of the same object that follow the same order begin the same job
-pub removed_once : (plan : Plan) (s : Sliced) (h : ℕ) (a b : Sliced) (o : Order) → IsKept plan s → (r : RemovesObject plan s h a) (u : RemovesObject plan s h b)
+pub removed_once : (plan : Plan) (s : Sliced) (h : ℕ) (a b : Sliced) (o : Order) → IsKept plan s → (r : RemovesSlicedObject plan s h a) (u : RemovesSlicedObject plan s h b)
     → MovesNext plan.paging s.held o (class_at plan.paging r.freed) r.moved → MovesNext plan.paging s.held o (class_at plan.paging u.freed) u.moved
     → r.begun ≡ u.begun
 removed_once plan s h a b o kept r u first second =
@@ -206,7 +206,7 @@ module _ (plan : Plan) (ok : IsPlan plan) where
       (subst (λ z. SlicesInOrder plan (record { state = z; words = old.words }) b (record was { spare = h ∷ was.spare }) next) begun
       (freed_slices old h b was next y)) long
 
-  write_once : (old : HeapWithWords) (position : Position) (bytes : List ℕ) (a b : HeapWithWords) → Writes old position bytes a → Writes old position bytes b
+  write_once : (old : HeapWithWords) (position : Position) (bytes : List ℕ) (a b : HeapWithWords) → WritesWithWords old position bytes a → WritesWithWords old position bytes b
       → length a.words ≡ length b.words → a ≡ b
   write_once old position bytes a b x y long =
       let object : y.object ≡ x.object = found_once old.state.held position.number y.object x.object y.found x.found in

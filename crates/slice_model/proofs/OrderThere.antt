@@ -18,8 +18,8 @@ use Rattle.page_model.specs.Steps.{Moves, Request, without, zeros_at}
 use Rattle.page_model.proofs.CallerLemmas.{can_free, can_malloc, class_fits, length-written, malloc_once, mover_is_other, objects_on-exchanged, order_in_place}
 use Rattle.page_model.proofs.CallerLemmas.{numbers_spare, order_is, pages_listed, renumbered, spare_same, still_listed}
 use Rattle.slice_model.specs.State.{Plan, IsPlan, IsPlaceFor, JobSlot, Job, Sliced, IsKept, Idle, Clear, Move, advanced, job_slot, occupied, placeholder, with_slot}
-use Rattle.slice_model.specs.Steps.{EndsJob, AddsObject, IsRefusedBy, IsSlice, RemovesObject, SliceOf, LeavesJob, done_after, fresh_slot}
-use Rattle.slice_model.specs.Runs.{Event, Position, HeapWithWords, Writes, Malloc, Free, Step, Write, Read}
+use Rattle.slice_model.specs.Steps.{EndsJob, AddsSlicedObject, IsSlicedRefusedBy, IsSlice, RemovesSlicedObject, SliceOf, LeavesJob, done_after, fresh_slot}
+use Rattle.slice_model.specs.Runs.{Event, Position, HeapWithWords, WritesWithWords, Malloc, Free, Step, Write, Read}
 use Rattle.slice_model.specs.Ordered.{EndFollows, FreesInOrder, HappensInOrder, IsOrderBeside, MallocsInOrder, MovesNext, SliceFollows, numbers_beside}
 use Rattle.slice_model.specs.declared.answers.SliceRefusal.{SliceRefusal}
 use Rattle.slice_model.proofs.KeptSteps.{changed_places, kept_begun, moved_away, must_is_two, other_than, same_elsewhere, slot_stays, two_is_must}
@@ -97,7 +97,7 @@ pub record CanGive (plan : Plan) (s : Sliced) (n : ℕ) (o : Order) : Type 0 whe
   pub number : ℕ
   pub after : Sliced
   pub new : Order
-  pub gives : AddsObject plan s (record { number = number; length = n }) after
+  pub gives : AddsSlicedObject plan s (record { number = number; length = n }) after
   pub follows : MallocFollows plan.paging (occupied plan s) (record { number = number; length = n }) gives.place o new
   pub is_order : IsOrderBeside plan after new
 
@@ -121,7 +121,7 @@ pub record CanSlice (plan : Plan) (s : Sliced) (o : Order) : Type 0 where
 pub record CanRemove (plan : Plan) (s : Sliced) (h : ℕ) (o : Order) : Type 0 where
   pub new : Sliced
   pub now : Order
-  pub removes : RemovesObject plan s h new
+  pub removes : RemovesSlicedObject plan s h new
   pub next : MovesNext plan.paging s.held o (class_at plan.paging removes.freed) removes.moved
   pub follows : SliceFollows plan removes.begun.held (job_slot removes.begun.job) new.job (record o { spare = h ∷ o.spare }) now
   pub is_order : IsOrderBeside plan new now
@@ -159,7 +159,7 @@ module _ (plan : Plan) (ok : IsPlan plan) where
       }
 
   -- a malloc that is not refused can follow the order
-  pub give_unrefused : (s : Sliced) → IsKept plan s → (n : ℕ) (o : Order) → IsOrderBeside plan s o → ((e : SliceRefusal) → ¬ IsRefusedBy plan s n e)
+  pub give_unrefused : (s : Sliced) → IsKept plan s → (n : ℕ) (o : Order) → IsOrderBeside plan s o → ((e : SliceRefusal) → ¬ IsSlicedRefusedBy plan s n e)
       → CanGive plan s n o
   give_unrefused s kept n o is free = elim (answered plan ok s kept n) [
     | inl (e, cause) ↦ absurd (free e cause)
@@ -486,7 +486,7 @@ module _ (plan : Plan) (ok : IsPlan plan) where
       subst (λ o. IsOrderBeside plan new.state o) (sym order) (subst (λ (w : HeapWithWords). IsOrderBeside plan w.state was) (sym state) is)
 
   write_keeps : (old : HeapWithWords) (position : Position) (bytes : List ℕ) (new : HeapWithWords) (was now : Order) → IsKept plan old.state → IsOrderBeside plan old.state was
-      → Writes old position bytes new → now ≡ was → IsOrderBeside plan new.state now
+      → WritesWithWords old position bytes new → now ≡ was → IsOrderBeside plan new.state now
   write_keeps old position bytes new was now kept is w order =
       let lt = kept.numbers position.number w.object w.found in
       let v : List ℕ = written w.object.bytes position.from bytes in

@@ -16,7 +16,7 @@ use Rattle.page_model.specs.Paging.{class_for, page_of, slot_words, slots_of}
 use Rattle.page_model.specs.Steps.{Moves, zeros_at}
 use Rattle.page_model.proofs.CallerLemmas.{length-written, mover_is_other, not_full-same, objects_on-away, objects_on-elsewhere, objects_on-exchanged}
 use Rattle.slice_model.specs.State.{Plan, IsPlan, JobSlot, Sliced, IsKept, job_slot, placeholder, Idle, Clear}
-use Rattle.slice_model.specs.Steps.{AddsObject, GoesOn, IsBeside, IsDone, IsSlice, SliceOf, LeavesJob, done_after, fresh_slot}
+use Rattle.slice_model.specs.Steps.{AddsSlicedObject, GoesOn, IsBeside, IsDone, IsSlice, SliceOf, LeavesJob, done_after, fresh_slot}
 use Rattle.slice_model.specs.Runs.{Event, Happens, IsConsistent, Runs, TaskCall, HeapWithWords, frees_in, is_done_free, is_malloc_of, is_step, mallocs_in, steps_in}
 use Rattle.slice_model.specs.Runs.{Malloc, Free, Step, Write, Read}
 use Rattle.slice_model.proofs.JobSlices.{ceil_bounds, followed_once, slot_advanced}
@@ -117,7 +117,7 @@ module _ (plan : Plan) (ok : IsPlan plan) where
       inr (record { k = b.k; slot = ap job_slot same ∙ b.slot; class = b.class; bound = omega arith })
 
   -- a malloc of class c raises `most` by the slices of a whole slot; one of another class doesn't
-  malloc_within : (c done most bytes q : ℕ) (old new : Sliced) → AddsObject plan old (record { number = q; length = bytes }) new → InTime c done most old
+  malloc_within : (c done most bytes q : ℕ) (old new : Sliced) → AddsSlicedObject plan old (record { number = q; length = bytes }) new → InTime c done most old
       → InTime c done (most + (if nat_eq (class_for plan.paging bytes) c then 1 else 0) * whole c) new
   malloc_within c done most bytes q old new g time = elim (cases_eq (class_for plan.paging bytes) c) [
     | inl is ↦ (

@@ -11,7 +11,7 @@ use Rattle.page_model.specs.Paging.{page_of, slot_words}
 use Rattle.page_model.specs.Steps.{Moves}
 use Rattle.page_model.proofs.CallerLemmas.{mover_is_other, on_page}
 use Rattle.slice_model.specs.State.{Plan, IsPlan, JobSlot, Job, Sliced, IsKept, advanced, job_slot, placeholder, with_slot, Idle, Clear, Move}
-use Rattle.slice_model.specs.Steps.{EndsJob, IsFaultOf, IsSlice, RemovesObject, SliceOf, LeavesJob, done_after, fresh_slot}
+use Rattle.slice_model.specs.Steps.{EndsJob, IsFaultOf, IsSlice, RemovesSlicedObject, SliceOf, LeavesJob, done_after, fresh_slot}
 use Rattle.slice_model.specs.declared.answers.SliceFault.{SliceFault}
 use Rattle.slice_model.specs.declared.answers.SliceFault.TheVariants as fault
 use Rattle.slice_model.proofs.KeptSteps.{kept_begun, one_more, same_elsewhere, two_is_last}
@@ -93,7 +93,7 @@ module _ (plan : Plan) (ok : IsPlan plan) where
   idle_or_not (Move h k) = inr (λ e. (let e' : Move h k ≡ Idle = e in cc))
 
   -- a free is done or refused
-  pub free_answered : (s : Sliced) → IsKept plan s → (h : ℕ) → ((e : SliceFault) × IsFaultOf s h e) ⊎ ((new : Sliced) × RemovesObject plan s h new)
+  pub free_answered : (s : Sliced) → IsKept plan s → (h : ℕ) → ((e : SliceFault) × IsFaultOf s h e) ⊎ ((new : Sliced) × RemovesSlicedObject plan s h new)
   free_answered s kept h = elim (there_or_not s.held h) [
     | inr none ↦ inl (fault.Unknown, none)
     | inl (x, there) ↦ elim (idle_or_not s.job) [
@@ -125,6 +125,6 @@ one_fault s h fault.Unknown fault.Busy x y = absurd (let z : Some y.object ≡ N
 one_fault s h fault.Busy fault.Unknown x y = absurd (let z : Some x.object ≡ None = sym x.found ∙ y in cc)
 one_fault s h fault.Busy fault.Busy x y = refl
 
-pub freed_or_faulty : (plan : Plan) (s : Sliced) (h : ℕ) (new : Sliced) → RemovesObject plan s h new → (e : SliceFault) → ¬ IsFaultOf s h e
+pub freed_or_faulty : (plan : Plan) (s : Sliced) (h : ℕ) (new : Sliced) → RemovesSlicedObject plan s h new → (e : SliceFault) → ¬ IsFaultOf s h e
 freed_or_faulty plan s h new r fault.Unknown x = (let z : Some r.freed ≡ None = sym r.found ∙ x in cc)
 freed_or_faulty plan s h new r fault.Busy x = x.pending r.idle

@@ -13,9 +13,9 @@ use Rattle.page_model.specs.Held.{Held, Objects, Placed, objects}
 use Rattle.page_model.specs.Paging.{IsPaging, Paging, class_for, classes, slots_of, page_of}
 use Rattle.page_model.specs.Steps.{Request, zeros_at}
 use Rattle.page_model.proofs.CallerLemmas.{bytes_missing, ceil_mono, class_fits, lacks_room_at_one, live_added}
-use Rattle.slice_model.specs.State.{Plan, IsPlan, JobSlot, Sliced, IsKept, IsFreePage, IsPlaceFor, IsUsable, NoPlace}
+use Rattle.slice_model.specs.State.{Plan, IsPlan, JobSlot, Sliced, IsKept, IsSlicedFreePage, IsPlaceFor, IsUsable, NoPlace}
 use Rattle.slice_model.specs.State.{job_slot, occupied, placeholder, with_slot, Idle}
-use Rattle.slice_model.specs.Steps.{AddsObject, IsRefusedBy}
+use Rattle.slice_model.specs.Steps.{AddsSlicedObject, IsSlicedRefusedBy}
 use Rattle.slice_model.specs.declared.answers.SliceRefusal.{SliceRefusal}
 use Rattle.slice_model.specs.declared.answers.SliceRefusal.TheVariants as refusal
 use Rattle.slice_model.proofs.Occupied.{lacking_is_no_place, no_place_is_lacking, no_placeholder, place_or_none}
@@ -66,7 +66,7 @@ module _ (plan : Plan) (ok : IsPlan plan) (s : Sliced) (kept : IsKept plan s) (n
   pub slot_is_within : (a : ℕ) → IsUsable plan.paging s (class_for plan.paging n) a → pages_needed_with plan.paging (objects s.held) n ≤ plan.paging.pages
   slot_is_within a usable = place_is_within a (record { slot = usable.slot; choice = inl usable })
 
-  pub page_is_within : (page : ℕ) → IsFreePage plan.paging s page → pages_needed_with plan.paging (objects s.held) n ≤ plan.paging.pages
+  pub page_is_within : (page : ℕ) → IsSlicedFreePage plan.paging s page → pages_needed_with plan.paging (objects s.held) n ≤ plan.paging.pages
   page_is_within page free = elim (cases_lt plan.paging.pages (pages_needed_with plan.paging (objects s.held) n)) [
     | inr within ↦ within
     | inl over ↦ absurd ((over_is_no_place over).taken page free)
@@ -80,7 +80,7 @@ module _ (plan : Plan) (ok : IsPlan plan) (s : Sliced) (kept : IsKept plan s) (n
       subst (λ j. plan.paging.pages < pages_needed_with plan.paging (objects (with_slot plan s.held (job_slot j))) n) idle l
 
 -- a refusal has one cause
-pub one_cause : (plan : Plan) (s : Sliced) (n : ℕ) (a b : SliceRefusal) → IsRefusedBy plan s n a → IsRefusedBy plan s n b → a ≡ b
+pub one_cause : (plan : Plan) (s : Sliced) (n : ℕ) (a b : SliceRefusal) → IsSlicedRefusedBy plan s n a → IsSlicedRefusedBy plan s n b → a ≡ b
 one_cause plan s n refusal.Size refusal.Size x y = refl
 one_cause plan s n refusal.Size refusal.Proxy x y = absurd (let f = y.fits in omega arith)
 one_cause plan s n refusal.Size refusal.Space x y = absurd (let f = y.fits in omega arith)
@@ -99,8 +99,8 @@ one_cause plan s n refusal.Busy refusal.Space x y = absurd (let f = y.over in le
 one_cause plan s n refusal.Busy refusal.Busy x y = refl
 
 -- a malloc that is done has no cause of a refusal
-pub given_or_refused : (plan : Plan) → IsPlan plan → (s : Sliced) → IsKept plan s → (asked : Request) (new : Sliced) → AddsObject plan s asked new
-    → (e : SliceRefusal) → ¬ IsRefusedBy plan s asked.length e
+pub given_or_refused : (plan : Plan) → IsPlan plan → (s : Sliced) → IsKept plan s → (asked : Request) (new : Sliced) → AddsSlicedObject plan s asked new
+    → (e : SliceRefusal) → ¬ IsSlicedRefusedBy plan s asked.length e
 given_or_refused plan ok s kept asked new g refusal.Size x = (let f = g.fits in omega arith)
 given_or_refused plan ok s kept asked new g refusal.Proxy x = (let f = g.few in let a = x.all in omega arith)
 given_or_refused plan ok s kept asked new g refusal.Space x = (
@@ -112,7 +112,7 @@ given_or_refused plan ok s kept asked new g refusal.Busy x = elim g.free.choice 
 
 -- a malloc is done or refused
 pub answered : (plan : Plan) → IsPlan plan → (s : Sliced) → IsKept plan s → (n : ℕ)
-    → ((e : SliceRefusal) × IsRefusedBy plan s n e) ⊎ ((h : ℕ) × (new : Sliced) × AddsObject plan s (record { number = h; length = n }) new)
+    → ((e : SliceRefusal) × IsSlicedRefusedBy plan s n e) ⊎ ((h : ℕ) × (new : Sliced) × AddsSlicedObject plan s (record { number = h; length = n }) new)
 answered plan ok s kept n = elim (cases_lt plan.paging.page_words (need n)) [
   | inl large ↦ inl (refusal.Size, large)
   | inr fits ↦ elim (cases_lt (len s.held) plan.proxies) [

@@ -6,7 +6,7 @@ use Rattle.page_model.specs.Arrangement.{pages_needed_with}
 use Rattle.page_model.specs.Held.{objects}
 use Rattle.page_model.proofs.CallerLemmas.{len-objects}
 use Rattle.slice_model.specs.State.{Plan, IsPlan, Sliced, IsKept, Idle}
-use Rattle.slice_model.specs.Steps.{AreSlices, AddsObject, IsRefusedBy, LacksSlot}
+use Rattle.slice_model.specs.Steps.{AreSlices, AddsSlicedObject, IsSlicedRefusedBy, LacksUsableSlot}
 use Rattle.slice_model.specs.declared.answers.SliceRefusal.{SliceRefusal}
 use Rattle.slice_model.specs.declared.answers.SliceRefusal.TheVariants as refusal
 use Rattle.slice_model.proofs.KeptSteps.{kept_slice}
@@ -20,8 +20,8 @@ module _ (plan : Plan) (ok : IsPlan plan) where
       let r = slices_keep n mid new (kept_slice plan ok old mid kept slice) rest in (r.0, r.1 ∙ objects_sliced plan old mid slice)
 
   module _ (old new : Sliced) (bytes : ℕ) (kept : IsKept plan new) (same : objects new.held ≡ objects old.held) (idle : new.job ≡ Idle)
-      (wants : LacksSlot plan old bytes) where
-    no : (e : SliceRefusal) → IsRefusedBy plan new bytes e → ⊥
+      (wants : LacksUsableSlot plan old bytes) where
+    no : (e : SliceRefusal) → IsSlicedRefusedBy plan new bytes e → ⊥
     no refusal.Size why = (let f = wants.fits in omega arith)
     no refusal.Proxy why =
         let size : len new.held ≡ len old.held = sym (len-objects new.held) ∙ ap (λ o. len o) same ∙ len-objects old.held in
@@ -39,7 +39,7 @@ module _ (plan : Plan) (ok : IsPlan plan) where
         let within = why.within in
         omega arith
 
-    pub done_then : (h : ℕ) × (after : Sliced) × AddsObject plan new (record { number = h; length = bytes }) after
+    pub done_then : (h : ℕ) × (after : Sliced) × AddsSlicedObject plan new (record { number = h; length = bytes }) after
     done_then = elim (answered plan ok new kept bytes) [
       | inr given ↦ given
       | inl (e, why) ↦ absurd (no e why)

@@ -9,7 +9,7 @@ use Rattle.page_model.specs.Paging.{Paging, page_of, slot_words}
 use Rattle.page_model.specs.Steps.{Request}
 use Rattle.slice_model.specs.State.{Plan, JobSlot, Job, Sliced, Idle, Clear, Move, job_slot, occupied, with_slot}
 use Rattle.slice_model.specs.Steps.{done_after}
-use Rattle.slice_model.specs.Runs.{Event, Frees, Happens, Mallocs, Slices, HeapWithWords, Malloc, Free, Step, Write, Read}
+use Rattle.slice_model.specs.Runs.{Event, FreesWithWords, Happens, MallocsWithWords, Slices, HeapWithWords, Malloc, Free, Step, Write, Read}
 
 -- the limit of the numbers: the number of proxies, plus one for the placeholder if a job holds a slot
 abbrev pub numbers_beside : Plan → Option JobSlot → ℕ
@@ -22,7 +22,7 @@ IsOrderBeside plan s o = IsOrderOf plan.paging (occupied plan s) (numbers_beside
 
 -- a malloc that follows the order: it uses the number and the slot that the order `was` lists next
 pub record MallocsInOrder (plan : Plan) (old : HeapWithWords) (asked : Request) (new : HeapWithWords) (was now : Order) : Type 0 where
-  pub mallocs : Mallocs plan old asked new
+  pub mallocs : MallocsWithWords plan old asked new
   pub follows : MallocFollows plan.paging (occupied plan old.state) asked mallocs.gives.place was now
 
 -- if a free moves an object q of class c, it is the one that the order o lists next to move
@@ -62,7 +62,7 @@ pub record SlicesInOrder (plan : Plan) (old new : HeapWithWords) (was now : Orde
 -- a free of object h that follows the order: the object that it moves, if any, is the next one to move, and the next malloc uses the number h. A slot
 -- becomes free only when the job ends.
 pub record FreesInOrder (plan : Plan) (old : HeapWithWords) (h : ℕ) (new : HeapWithWords) (was now : Order) : Type 0 where
-  pub frees : Frees plan old h new
+  pub frees : FreesWithWords plan old h new
   pub next : MovesNext plan.paging old.state.held was (class_at plan.paging frees.removes.freed) frees.removes.moved
   pub follows : SliceFollows plan frees.removes.begun.held (job_slot frees.removes.begun.job) new.state.job (record was { spare = h ∷ was.spare }) now
 

@@ -12,7 +12,7 @@ use Rattle.page_model.specs.Image.{Rewrites, header_word}
 use Rattle.page_model.specs.Bytes.{AreBytes, written}
 use Rattle.page_model.specs.Steps.{Request}
 use Rattle.slice_model.specs.State.{Plan, JobSlot, Sliced, IsKept, job_slot}
-use Rattle.slice_model.specs.Steps.{AddsObject, IsRefusedBy, RemovesObject, IsFaultOf, IsSlice}
+use Rattle.slice_model.specs.Steps.{AddsSlicedObject, IsSlicedRefusedBy, RemovesSlicedObject, IsFaultOf, IsSlice}
 use Rattle.slice_model.specs.Words.{HasWords, DoesWords, RewritesObject, byte_read}
 use Rattle.slice_model.specs.declared.answers.SliceRefusal.{SliceRefusal}
 use Rattle.slice_model.specs.declared.answers.SliceFault.{SliceFault}
@@ -48,13 +48,13 @@ words_of_slice plan None = 0
 words_of_slice plan (Some k) = min plan.quantum (slot_words plan.paging k.class - k.done)
 
 -- a malloc that is done: the object `asked` is added to the state, and its header is written at its address; no other word changes
-pub record Mallocs (plan : Plan) (old : HeapWithWords) (asked : Request) (new : HeapWithWords) : Type 0 where
-  pub gives : AddsObject plan old.state asked new.state
+pub record MallocsWithWords (plan : Plan) (old : HeapWithWords) (asked : Request) (new : HeapWithWords) : Type 0 where
+  pub gives : AddsSlicedObject plan old.state asked new.state
   pub words : Rewrites old.words new.words (record { from = gives.place; count = 1 }) (λ _. header_word asked.number asked.length)
 
 -- a free of object h that is done: the object is removed from the state, and the first slice of its job clears or moves words
-pub record Frees (plan : Plan) (old : HeapWithWords) (h : ℕ) (new : HeapWithWords) : Type 0 where
-  pub removes : RemovesObject plan old.state h new.state
+pub record FreesWithWords (plan : Plan) (old : HeapWithWords) (h : ℕ) (new : HeapWithWords) : Type 0 where
+  pub removes : RemovesSlicedObject plan old.state h new.state
   pub words : DoesWords removes.begun.held removes.begun.job (words_of_slice plan (job_slot removes.begun.job)) old.words new.words
 
 -- a slice: the state becomes the next one, and the job's next words are cleared or moved
@@ -63,7 +63,7 @@ pub record Slices (plan : Plan) (old new : HeapWithWords) : Type 0 where
   pub words : DoesWords old.state.held old.state.job (words_of_slice plan (job_slot old.state.job)) old.words new.words
 
 -- a write that is done: the object gets the bytes from byte `position.from` on, and each word that holds one of them is rewritten where it lies (`word_at`)
-pub record Writes (old : HeapWithWords) (position : Position) (bytes : List ℕ) (new : HeapWithWords) : Type 0 where
+pub record WritesWithWords (old : HeapWithWords) (position : Position) (bytes : List ℕ) (new : HeapWithWords) : Type 0 where
   pub object : Placed
   pub found : get old.state.held position.number ≡ Some object
   pub fits : position.from + length bytes ≤ length object.bytes
@@ -75,7 +75,7 @@ pub record Writes (old : HeapWithWords) (position : Position) (bytes : List ℕ)
       (record { from = 1 + position.from / 8; count = (position.from % 8 + length bytes + 7) / 8 }) old.words new.words
 
 -- a read of `count` bytes that is done: each byte of the result `out` is read from the word that holds it, where that word lies (`word_at`)
-pub record Reads (old : HeapWithWords) (position : Position) (count : ℕ) (out : List ℕ) : Type 0 where
+pub record ReadsWithWords (old : HeapWithWords) (position : Position) (count : ℕ) (out : List ℕ) : Type 0 where
   pub object : Placed
   pub found : get old.state.held position.number ≡ Some object
   pub fits : position.from + count ≤ length object.bytes
@@ -89,14 +89,14 @@ IsOutOfReach o position count access.Range = (v : List ℕ) × (get o position.n
 
 -- what a call with this result does to the state and the words: the heap `old` becomes `new`
 abbrev pub Happens : Plan → HeapWithWords → Event → HeapWithWords → Type 0
-Happens plan old (Malloc bytes (Ok h)) new = Mallocs plan old (record { number = h.0; length = bytes }) new
-Happens plan old (Malloc bytes (Err e)) new = IsRefusedBy plan old.state bytes e × (new ≡ old)
-Happens plan old (Free h None) new = Frees plan old h new
+Happens plan old (Malloc bytes (Ok h)) new = MallocsWithWords plan old (record { number = h.0; length = bytes }) new
+Happens plan old (Malloc bytes (Err e)) new = IsSlicedRefusedBy plan old.state bytes e × (new ≡ old)
+Happens plan old (Free h None) new = FreesWithWords plan old h new
 Happens plan old (Free h (Some e)) new = IsFaultOf old.state h e × (new ≡ old)
 Happens plan old Step new = Slices plan old new
-Happens plan old (Write position bytes None) new = Writes old position bytes new
+Happens plan old (Write position bytes None) new = WritesWithWords old position bytes new
 Happens plan old (Write position bytes (Some e)) new = IsOutOfReach (objects old.state.held) position (length bytes) e × (new ≡ old)
-Happens plan old (Read position count (Ok out)) new = Reads old position count out × (new ≡ old)
+Happens plan old (Read position count (Ok out)) new = ReadsWithWords old position count out × (new ≡ old)
 Happens plan old (Read position count (Err e)) new = IsOutOfReach (objects old.state.held) position count e × (new ≡ old)
 
 -- the calls of all tasks, made one after the other, turn the heap `old` into `new`

@@ -99,7 +99,7 @@ pub record IsUsable (p : Paging) (s : Sliced) (c a : ℕ) : Type 0 where
   pub page : (0 < objects_on p s.held c (page_of p a)) ⊎ IsJobPage p s c (page_of p a)
 
 -- the page is free: no object is on it, and the job holds no slot of it
-pub record IsFreePage (p : Paging) (s : Sliced) (page : ℕ) : Type 0 where
+pub record IsSlicedFreePage (p : Paging) (s : Sliced) (page : ℕ) : Type 0 where
   pub within : page < p.pages
   pub empty : count_on p s.held page ≡ 0
   pub unheld : (k : JobSlot) → job_slot s.job ≡ Some k → page_of p k.address ≢ page
@@ -107,12 +107,12 @@ pub record IsFreePage (p : Paging) (s : Sliced) (page : ℕ) : Type 0 where
 -- no slot is left for class c: none is usable, and no page is free
 pub record NoPlace (p : Paging) (s : Sliced) (c : ℕ) : Type 0 where
   pub unusable : (a : ℕ) → ¬ IsUsable p s c a
-  pub taken : (page : ℕ) → ¬ IsFreePage p s page
+  pub taken : (page : ℕ) → ¬ IsSlicedFreePage p s page
 
 -- A malloc of class c may use the slot at address a: the slot is usable, or no slot of the class is usable and its page is free.
 pub record IsPlaceFor (p : Paging) (s : Sliced) (c a : ℕ) : Type 0 where
   pub slot : IsSlotAt p c a
-  pub choice : IsUsable p s c a ⊎ (((b : ℕ) → ¬ IsUsable p s c b) × IsFreePage p s (page_of p a))
+  pub choice : IsUsable p s c a ⊎ (((b : ℕ) → ¬ IsUsable p s c b) × IsSlicedFreePage p s (page_of p a))
 
 -- The rules for the objects m without the placeholder, while a job holds slot k. No object is in that slot, and those on its page are of its class. Each
 -- other class has at most one partly full page, and the slot's class at most two; if it has two, the slot is the only free one on its page.

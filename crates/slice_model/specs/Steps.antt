@@ -15,7 +15,7 @@ use Rattle.slice_model.specs.declared.answers.SliceFault.TheVariants as fault
 
 -- A malloc is done: the object `asked` fits a page, a proxy is free, and the object is added, all zeros, in a slot that it may use, under a number that
 -- wasn't in use. The job is unchanged.
-pub record AddsObject (plan : Plan) (old : Sliced) (asked : Request) (new : Sliced) : Type 0 where
+pub record AddsSlicedObject (plan : Plan) (old : Sliced) (asked : Request) (new : Sliced) : Type 0 where
   pub fits : need asked.length ≤ plan.paging.page_words
   pub few : len old.held < plan.proxies
   pub in_range : asked.number < plan.proxies
@@ -25,31 +25,31 @@ pub record AddsObject (plan : Plan) (old : Sliced) (asked : Request) (new : Slic
   pub placed : new ≡ record old { held = insert old.held asked.number (zeros_at place asked.length) }
 
 -- the cause of `Proxy` for a malloc of `bytes` bytes: the object would fit a page, but all proxies are in use
-pub record LacksProxy (plan : Plan) (s : Sliced) (bytes : ℕ) : Type 0 where
+pub record LacksSlicedProxy (plan : Plan) (s : Sliced) (bytes : ℕ) : Type 0 where
   pub fits : need bytes ≤ plan.paging.page_words
   pub all : len s.held ≡ plan.proxies
 
 -- the cause of `Space` for a malloc of `bytes` bytes: the object fits a page and a proxy is free, but the objects and the new one need more pages than the
 -- heap has
-pub record LacksSpace (plan : Plan) (s : Sliced) (bytes : ℕ) : Type 0 where
+pub record LacksSlicedSpace (plan : Plan) (s : Sliced) (bytes : ℕ) : Type 0 where
   pub fits : need bytes ≤ plan.paging.page_words
   pub few : len s.held < plan.proxies
   pub over : plan.paging.pages < pages_needed_with plan.paging (objects s.held) bytes
 
 -- the cause of `Busy` for a malloc of `bytes` bytes: the object fits a page, a proxy is free and the pages are enough, but no slot of the class is usable
 -- and no page is free
-pub record LacksSlot (plan : Plan) (s : Sliced) (bytes : ℕ) : Type 0 where
+pub record LacksUsableSlot (plan : Plan) (s : Sliced) (bytes : ℕ) : Type 0 where
   pub fits : need bytes ≤ plan.paging.page_words
   pub few : len s.held < plan.proxies
   pub within : pages_needed_with plan.paging (objects s.held) bytes ≤ plan.paging.pages
   pub lacking : NoPlace plan.paging s (class_for plan.paging bytes)
 
 -- what holds of state s if a malloc of `bytes` bytes is refused with this reply
-abbrev pub IsRefusedBy : Plan → Sliced → ℕ → SliceRefusal → Type 0
-IsRefusedBy plan s bytes refusal.Size = plan.paging.page_words < need bytes
-IsRefusedBy plan s bytes refusal.Proxy = LacksProxy plan s bytes
-IsRefusedBy plan s bytes refusal.Space = LacksSpace plan s bytes
-IsRefusedBy plan s bytes refusal.Busy = LacksSlot plan s bytes
+abbrev pub IsSlicedRefusedBy : Plan → Sliced → ℕ → SliceRefusal → Type 0
+IsSlicedRefusedBy plan s bytes refusal.Size = plan.paging.page_words < need bytes
+IsSlicedRefusedBy plan s bytes refusal.Proxy = LacksSlicedProxy plan s bytes
+IsSlicedRefusedBy plan s bytes refusal.Space = LacksSlicedSpace plan s bytes
+IsSlicedRefusedBy plan s bytes refusal.Busy = LacksUsableSlot plan s bytes
 
 -- the slot of class c at address a when a job on it begins: none of its words is done
 abbrev pub fresh_slot : ℕ → ℕ → JobSlot
@@ -121,7 +121,7 @@ IsOver k j = (j ≡ Idle) ⊎ ((h : ℕ) × (g : JobSlot) × (j ≡ Move h g) ×
 
 -- A free of object h is done, while no job is pending. The object is removed, and a job begins (state `begun`): it holds the freed slot, or, if object
 -- `moved` moves there, the old slot of that object. The first slice of the job is part of the free.
-pub record RemovesObject (plan : Plan) (old : Sliced) (h : ℕ) (new : Sliced) : Type 0 where
+pub record RemovesSlicedObject (plan : Plan) (old : Sliced) (h : ℕ) (new : Sliced) : Type 0 where
   pub idle : old.job ≡ Idle
   pub freed : Placed
   pub found : get old.held h ≡ Some freed

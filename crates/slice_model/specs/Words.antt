@@ -34,10 +34,10 @@ IsBehind p k a w = IsOutside (a + k.done) (slot_words p k.class - k.done) w
 
 -- Word w is none of those that the job leaves open: the words that it has yet to clear; or those that it has yet to move, both in the job's slot and at the
 -- object's address.
-abbrev pub IsClosed : Paging → Held → Job → ℕ → Type 0
-IsClosed p m Idle w = ⊤
-IsClosed p m (Clear k) w = IsBehind p k k.address w
-IsClosed p m (Move h k) w = IsBehind p k k.address w × ((x : Placed) → get m h ≡ Some x → IsBehind p k x.place w)
+abbrev pub IsClosedWord : Paging → Held → Job → ℕ → Type 0
+IsClosedWord p m Idle w = ⊤
+IsClosedWord p m (Clear k) w = IsBehind p k k.address w
+IsClosedWord p m (Move h k) w = IsBehind p k k.address w × ((x : Placed) → get m h ≡ Some x → IsBehind p k x.place w)
 
 -- what a slice of n words changes in the region: the job's next n words are cleared, or moved from its slot to the address of the object in motion
 abbrev pub DoesWords : Held → Job → ℕ → List ℕ → List ℕ → Type 0

@@ -8,7 +8,7 @@ ghost use Rattle.page_model.specs.Held.{Placed};
 ghost use Rattle.page_model.specs.Paging.{slot_words};
 ghost use Rattle.slice_model.specs.Runs.{Free, Happens, IsConsistent, Runs, Step, TaskCall, HeapWithWords, frees_in, mallocs_in, steps_in};
 ghost use Rattle.slice_model.specs.State.{Idle, IsKept, IsPlan, JobSlot, Plan, Sliced, advanced, job_slot};
-ghost use Rattle.slice_model.specs.Steps.{AreSlices, AddsObject, IsOver, LacksSlot};
+ghost use Rattle.slice_model.specs.Steps.{AreSlices, AddsSlicedObject, IsOver, LacksUsableSlot};
 
 /// A job does a quantum of words in each slice, and no other call changes it. Suppose the calls
 /// `turns` contain n slices, and the job has more than n quanta of words left. Then it is still
@@ -54,7 +54,7 @@ pub fn each_malloc_between_prolongs_a_job_once()
 /// of its class takes.
 pub fn a_busy_malloc_succeeds_after_the_slices()
     ensures { (plan : Plan) (old new : Sliced) (bytes : ℕ) (k : JobSlot) → IsPlan plan → IsKept plan old
-        → LacksSlot plan old bytes → job_slot old.job ≡ Some k
+        → LacksUsableSlot plan old bytes → job_slot old.job ≡ Some k
         → AreSlices plan (ceil_div (slot_words plan.paging k.class - k.done) plan.quantum + ceil_div (slot_words plan.paging k.class) plan.quantum) old new
-        → (h : ℕ) × (after : Sliced) × AddsObject plan new (record { number = h; length = bytes }) after }
+        → (h : ℕ) × (after : Sliced) × AddsSlicedObject plan new (record { number = h; length = bytes }) after }
 {}

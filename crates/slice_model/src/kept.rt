@@ -8,7 +8,7 @@ ghost use Rattle.page_model.specs.Held.{Placed};
 ghost use Rattle.page_model.specs.Paging.{page_of};
 ghost use Rattle.page_model.specs.Steps.{Request};
 ghost use Rattle.slice_model.specs.State.{Idle, IsKept, IsPlan, JobSlot, Plan, Sliced, AreSoundBesideJob, job_slot};
-ghost use Rattle.slice_model.specs.Steps.{AddsObject, IsSlice, RemovesObject};
+ghost use Rattle.slice_model.specs.Steps.{AddsSlicedObject, IsSlice, RemovesSlicedObject};
 
 /// A heap without objects and without a pending job satisfies the rules (`IsKept`).
 pub fn an_empty_sliced_heap_keeps_the_rules()
@@ -19,14 +19,14 @@ pub fn an_empty_sliced_heap_keeps_the_rules()
 /// `asked` has the new object's number and its length in bytes.
 pub fn a_malloc_keeps_the_rules()
     ensures { (plan : Plan) (old : Sliced) (asked : Request) (new : Sliced) → IsPlan plan → IsKept plan old
-        → AddsObject plan old asked new → IsKept plan new }
+        → AddsSlicedObject plan old asked new → IsKept plan new }
 {}
 
 /// If the state `old` satisfies the rules, so does the state `new` that a successful free of object
 /// h leaves. The free includes the first slice of its job.
 pub fn a_free_keeps_the_rules()
     ensures { (plan : Plan) (old : Sliced) (h : ℕ) (new : Sliced) → IsPlan plan → IsKept plan old
-        → RemovesObject plan old h new → IsKept plan new }
+        → RemovesSlicedObject plan old h new → IsKept plan new }
 {}
 
 /// If the state `old` satisfies the rules, so does the state `new` that a slice leaves, also if the

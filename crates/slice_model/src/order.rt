@@ -10,7 +10,7 @@ ghost use Rattle.page_model.specs.Order.{MallocFollows, Order, first_order};
 ghost use Rattle.slice_model.specs.Ordered.{HappensInOrder, IsOrderBeside, MovesNext, SliceFollows};
 ghost use Rattle.slice_model.specs.Runs.{Event, Free, IsConsistent, Malloc, Position, Read, Step, HeapWithWords, Write};
 ghost use Rattle.slice_model.specs.State.{Idle, IsKept, IsPlan, Plan, Sliced, job_slot, occupied};
-ghost use Rattle.slice_model.specs.Steps.{AddsObject, IsRefusedBy, IsSlice, RemovesObject};
+ghost use Rattle.slice_model.specs.Steps.{AddsSlicedObject, IsSlice, IsSlicedRefusedBy, RemovesSlicedObject};
 ghost use Rattle.slice_model.specs.declared.answers.SliceFault.{SliceFault};
 ghost use Rattle.slice_model.specs.declared.answers.SliceRefusal.{SliceRefusal};
 
@@ -45,8 +45,8 @@ pub fn an_order_leaves_no_choice_beside_a_job()
 /// of refusal holds can follow such an order, and leaves an order of the new state.
 pub fn a_malloc_can_follow_an_order_beside_a_job()
     ensures { (plan : Plan) (s : Sliced) (bytes : ℕ) (o : Order) → IsPlan plan → IsKept plan s → IsOrderBeside plan s o
-        → ((e : SliceRefusal) → ¬ IsRefusedBy plan s bytes e)
-        → (h : ℕ) × (after : Sliced) × (new : Order) × (gives : AddsObject plan s (record { number = h; length = bytes }) after)
+        → ((e : SliceRefusal) → ¬ IsSlicedRefusedBy plan s bytes e)
+        → (h : ℕ) × (after : Sliced) × (new : Order) × (gives : AddsSlicedObject plan s (record { number = h; length = bytes }) after)
         × MallocFollows plan.paging (occupied plan s) (record { number = h; length = bytes }) gives.place o new
         × IsOrderBeside plan after new }
 {}
@@ -65,7 +65,7 @@ pub fn a_slice_can_follow_an_order()
 pub fn a_sliced_free_can_follow_an_order()
     ensures { (plan : Plan) (s : Sliced) (h : ℕ) (x : Placed) (o : Order) → IsPlan plan → IsKept plan s → IsOrderBeside plan s o
         → s.job ≡ Idle → get s.held h ≡ Some x
-        → (after : Sliced) × (new : Order) × (removes : RemovesObject plan s h after)
+        → (after : Sliced) × (new : Order) × (removes : RemovesSlicedObject plan s h after)
         × MovesNext plan.paging s.held o (class_at plan.paging removes.freed) removes.moved
         × SliceFollows plan removes.begun.held (job_slot removes.begun.job) after.job (record o { spare = h ∷ o.spare }) new
         × IsOrderBeside plan after new }

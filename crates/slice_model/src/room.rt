@@ -7,14 +7,14 @@ ghost use Rattle.page_model.specs.Arrangement.{pages_needed_with};
 ghost use Rattle.page_model.specs.Held.{objects};
 ghost use Rattle.page_model.specs.Paging.{class_for};
 ghost use Rattle.page_model.specs.Steps.{Request};
-ghost use Rattle.slice_model.specs.State.{Idle, IsFreePage, IsKept, IsPlan, IsUsable, NoPlace, Plan, Sliced, occupied};
-ghost use Rattle.slice_model.specs.Steps.{AddsObject, IsFaultOf, IsRefusedBy, IsSlice, RemovesObject, LacksSlot};
+ghost use Rattle.slice_model.specs.State.{Idle, IsKept, IsPlan, IsSlicedFreePage, IsUsable, NoPlace, Plan, Sliced, occupied};
+ghost use Rattle.slice_model.specs.Steps.{AddsSlicedObject, IsFaultOf, IsSlicedRefusedBy, IsSlice, RemovesSlicedObject, LacksUsableSlot};
 ghost use Rattle.slice_model.specs.declared.answers.SliceFault.{SliceFault};
 ghost use Rattle.slice_model.specs.declared.answers.SliceRefusal.{SliceRefusal};
 
 /// A malloc is refused as `Busy` only if a job is pending.
 pub fn a_malloc_is_busy_only_with_a_job()
-    ensures { (plan : Plan) (s : Sliced) (bytes : ℕ) → IsPlan plan → IsKept plan s → LacksSlot plan s bytes → s.job ≢ Idle }
+    ensures { (plan : Plan) (s : Sliced) (bytes : ℕ) → IsPlan plan → IsKept plan s → LacksUsableSlot plan s bytes → s.job ≢ Idle }
 {}
 
 /// If the class of a malloc has a usable slot, or a page is free, the malloc is not refused as
@@ -27,7 +27,7 @@ pub fn a_place_is_within_the_sum()
         → IsUsable plan.paging s (class_for plan.paging bytes) a
         → pages_needed_with plan.paging (objects s.held) bytes ≤ plan.paging.pages }
     ensures page { (plan : Plan) (s : Sliced) (bytes page : ℕ) → IsPlan plan → IsKept plan s → need bytes ≤ plan.paging.page_words
-        → IsFreePage plan.paging s page
+        → IsSlicedFreePage plan.paging s page
         → pages_needed_with plan.paging (objects s.held) bytes ≤ plan.paging.pages }
 {}
 
@@ -43,27 +43,27 @@ pub fn when_a_malloc_is_busy()
 /// `Busy`. So one spare page is enough that no malloc waits for a job.
 pub fn no_malloc_is_busy_with_a_spare_page()
     ensures { (plan : Plan) (s : Sliced) (bytes : ℕ) → IsPlan plan → IsKept plan s
-        → pages_needed_with plan.paging (objects s.held) bytes < plan.paging.pages → ¬ LacksSlot plan s bytes }
+        → pages_needed_with plan.paging (objects s.held) bytes < plan.paging.pages → ¬ LacksUsableSlot plan s bytes }
 {}
 
 /// In a state that satisfies the rules (`IsKept`), each malloc is either done or refused, and
 /// refused for exactly one cause.
 pub fn a_malloc_has_one_answer()
     ensures some { (plan : Plan) (s : Sliced) (bytes : ℕ) → IsPlan plan → IsKept plan s
-        → ((e : SliceRefusal) × IsRefusedBy plan s bytes e)
-        ⊎ ((h : ℕ) × (new : Sliced) × AddsObject plan s (record { number = h; length = bytes }) new) }
-    ensures one { (plan : Plan) (s : Sliced) (bytes : ℕ) (a b : SliceRefusal) → IsRefusedBy plan s bytes a → IsRefusedBy plan s bytes b → a ≡ b }
+        → ((e : SliceRefusal) × IsSlicedRefusedBy plan s bytes e)
+        ⊎ ((h : ℕ) × (new : Sliced) × AddsSlicedObject plan s (record { number = h; length = bytes }) new) }
+    ensures one { (plan : Plan) (s : Sliced) (bytes : ℕ) (a b : SliceRefusal) → IsSlicedRefusedBy plan s bytes a → IsSlicedRefusedBy plan s bytes b → a ≡ b }
     ensures done { (plan : Plan) (s : Sliced) (asked : Request) (new : Sliced) (e : SliceRefusal) → IsPlan plan → IsKept plan s
-        → AddsObject plan s asked new → ¬ IsRefusedBy plan s asked.length e }
+        → AddsSlicedObject plan s asked new → ¬ IsSlicedRefusedBy plan s asked.length e }
 {}
 
 /// In a state that satisfies the rules (`IsKept`), each free is either done or refused, and refused
 /// for exactly one cause.
 pub fn a_free_has_one_answer()
     ensures some { (plan : Plan) (s : Sliced) (h : ℕ) → IsPlan plan → IsKept plan s
-        → ((e : SliceFault) × IsFaultOf s h e) ⊎ ((new : Sliced) × RemovesObject plan s h new) }
+        → ((e : SliceFault) × IsFaultOf s h e) ⊎ ((new : Sliced) × RemovesSlicedObject plan s h new) }
     ensures one { (s : Sliced) (h : ℕ) (a b : SliceFault) → IsFaultOf s h a → IsFaultOf s h b → a ≡ b }
-    ensures done { (plan : Plan) (s : Sliced) (h : ℕ) (new : Sliced) (e : SliceFault) → RemovesObject plan s h new → ¬ IsFaultOf s h e }
+    ensures done { (plan : Plan) (s : Sliced) (h : ℕ) (new : Sliced) (e : SliceFault) → RemovesSlicedObject plan s h new → ¬ IsFaultOf s h e }
 {}
 
 /// A slice is never refused: from every state that satisfies the rules (`IsKept`) a slice leads to

@@ -9,8 +9,8 @@ ghost use Rattle.page_model.specs.Paging.{Paging};
 ghost use Rattle.page_model.specs.Steps.{Request};
 ghost use Rattle.slice_model.specs.Runs.{words_of_slice};
 ghost use Rattle.slice_model.specs.State.{Idle, IsKept, IsPlan, JobSlot, Move, Plan, Sliced, job_slot};
-ghost use Rattle.slice_model.specs.Steps.{AddsObject, IsSlice, RemovesObject};
-ghost use Rattle.slice_model.specs.Words.{DoesWords, HasWords, IsClosed, RewritesObject, byte_read};
+ghost use Rattle.slice_model.specs.Steps.{AddsSlicedObject, IsSlice, RemovesSlicedObject};
+ghost use Rattle.slice_model.specs.Words.{DoesWords, HasWords, IsClosedWord, RewritesObject, byte_read};
 
 /// Compares the words of a heap with the image of its objects (`clean`). If no job is pending, the
 /// two are equal (clause `idle`). Else they differ at most in the words that the job has yet to clear
@@ -21,7 +21,7 @@ pub fn words_are_the_image_but_for_the_job()
         → HasWords p (record { held = m; job = Idle }) words ↔ IsSlotImage p m words }
     ensures closed { (plan : Plan) (s : Sliced) (words clean : List ℕ) (w : ℕ) → IsPlan plan → IsKept plan s
         → HasWords plan.paging s words → IsSlotImage plan.paging s.held clean
-        → IsClosed plan.paging s.held s.job w → slice_index words w ≡ slice_index clean w }
+        → IsClosedWord plan.paging s.held s.job w → slice_index words w ≡ slice_index clean w }
     ensures carried { (plan : Plan) (s : Sliced) (words clean : List ℕ) (h : ℕ) (k : JobSlot) (x : Placed) (i : ℕ)
         → HasWords plan.paging s words → IsSlotImage plan.paging s.held clean
         → s.job ≡ Move h k → get s.held h ≡ Some x → k.done ≤ i → i < slot_for plan.paging (length x.bytes)
@@ -33,11 +33,11 @@ pub fn words_are_the_image_but_for_the_job()
 /// clear or move just the next words of the job. A write changes just the words that hold its bytes.
 pub fn words_after_each_call()
     ensures malloc { (plan : Plan) (old : Sliced) (words after : List ℕ) (asked : Request) (new : Sliced) → IsPlan plan → IsKept plan old
-        → HasWords plan.paging old words → (g : AddsObject plan old asked new)
+        → HasWords plan.paging old words → (g : AddsSlicedObject plan old asked new)
         → Rewrites words after (record { from = g.place; count = 1 }) (λ _. header_word asked.number asked.length)
         → HasWords plan.paging new after }
     ensures free { (plan : Plan) (old : Sliced) (words after : List ℕ) (h : ℕ) (new : Sliced) → IsPlan plan → IsKept plan old
-        → HasWords plan.paging old words → (r : RemovesObject plan old h new)
+        → HasWords plan.paging old words → (r : RemovesSlicedObject plan old h new)
         → DoesWords r.begun.held r.begun.job (words_of_slice plan (job_slot r.begun.job)) words after
         → HasWords plan.paging new after }
     ensures slice { (plan : Plan) (old : Sliced) (words after : List ℕ) (new : Sliced) → IsPlan plan → IsKept plan old

@@ -7,16 +7,16 @@ use Rattle.script_reader.specs.declared.command.Command.TheVariants as command
 use Rattle.page_model.specs.Order.{Order}
 use Rattle.slice_model.specs.Runs.{HeapWithWords, Malloc, Free}
 use Rattle.slice_model.specs.State.{Idle, Sliced, IsKept, IsPlan, Plan}
-use Rattle.slice_model.specs.Steps.{IsFaultOf, IsRefusedBy, LacksSlot}
+use Rattle.slice_model.specs.Steps.{IsFaultOf, IsSlicedRefusedBy, LacksUsableSlot}
 use Rattle.slice_model.specs.declared.answers.SliceFault.{SliceFault}
 use Rattle.slice_model.specs.declared.answers.SliceFault.TheVariants as fault
 use Rattle.slice_model.specs.declared.answers.SliceRefusal.{SliceRefusal}
 use Rattle.slice_model.specs.declared.answers.SliceRefusal.TheVariants as refusal
 use Rattle.slice_model.proofs.CallerLemmas.{given_or_refused, one_cause}
-use Rattle.sliced_heap.specs.Shown.{SlicedState, plan_in, working_in, StaysOpen}
+use Rattle.sliced_heap.specs.Shown.{SlicedState, plan_in, working_in, StaysSlicedOpen}
 use Rattle.script_laws.proofs.CallerLemmas.{refused}
 use Rattle.script_laws.specs.ObjectRun.{FreesId, MallocsId, ids_without}
-use Rattle.slice_session.specs.SliceRun.{Does, IsGoingSliced, SliceRun, SliceStep}
+use Rattle.slice_session.specs.SliceRun.{DoesEvent, IsGoingSliced, SliceRun, SliceStep}
 use Rattle.run_model.specs.Steps.{Stays, ids_given}
 use Rattle.slice_session.specs.SliceRun.{slice_free_text, slice_malloc_text, slice_run, sliced_calls}
 
@@ -24,7 +24,7 @@ use Rattle.slice_session.specs.SliceRun.{slice_free_text, slice_malloc_text, sli
 abbrev heap_by : Bool → Profile → ℕ → HeapWithWords → Order → SlicedState
 heap_by b p q w o = record { is_open = b; profile = p; quantum = q; held = w.state.held; job = w.state.job; words = w.words; order = o }
 
-heap_same : (old new : SlicedState) → StaysOpen old new → working_in new ≡ working_in old → new.order ≡ old.order → new ≡ old
+heap_same : (old new : SlicedState) → StaysSlicedOpen old new → working_in new ≡ working_in old → new.order ≡ old.order → new ≡ old
 heap_same old new s is order = ap (λ b. heap_by b new.profile new.quantum (working_in new) new.order) s.is_open
     ∙ ap (λ p. heap_by old.is_open p new.quantum (working_in new) new.order) s.profile
     ∙ ap (λ q. heap_by old.is_open old.profile q (working_in new) new.order) s.quantum
@@ -82,11 +82,11 @@ module _ (old new : SliceRun) (id : ℕ) where
       go (Some q) is f = (let e : q ≡ h = (let z : Some q ≡ Some h = is in cc) in subst (λ k. FreesId sliced_calls old id k reply new) e f)
 
   pub malloc_cause : (n : ℕ) (e : SliceRefusal) → get old.ids id ≡ None → SliceStep old (command.Malloc id n) (said (slice_malloc_text (Err e))) new
-      → IsRefusedBy (plan_in old.heap) (working_in old.heap).state n e × (new ≡ old)
+      → IsSlicedRefusedBy (plan_in old.heap) (working_in old.heap).state n e × (new ≡ old)
   malloc_cause n e none step =
       let m = mallocs_at n _ none step in
       let is : m.answer ≡ Err e = same_refusal m.answer e m.reply_is in
-      let d = subst (λ (a : Result Handle SliceRefusal). Does old.heap (Malloc n a) new.heap) is m.step in
+      let d = subst (λ (a : Result Handle SliceRefusal). DoesEvent old.heap (Malloc n a) new.heap) is m.step in
       let ids : new.ids ≡ old.ids = m.ids ∙ ap (ids_given old.ids id) is in
       (d.happens.0, ap₂ slice_run ids (heap_same old.heap new.heap d.stays d.happens.1 d.ordered.1))
 
@@ -95,17 +95,17 @@ module _ (old new : SliceRun) (id : ℕ) where
   free_cause h e live step =
       let f = frees_at h _ live step in
       let is : f.answer ≡ Some e = same_fault f.answer e f.reply_is in
-      let d = subst (λ (a : Option SliceFault). Does old.heap (Free h a) new.heap) is f.step in
+      let d = subst (λ (a : Option SliceFault). DoesEvent old.heap (Free h a) new.heap) is f.step in
       let ids : new.ids ≡ old.ids = f.ids ∙ ap (ids_without old.ids id) is in
       (d.happens.0, ap₂ slice_run ids (heap_same old.heap new.heap d.stays d.happens.1 d.ordered.1))
 
   -- if a cause of refusal holds, the reply is the text of this cause
   pub cause_shown : (n : ℕ) (e : SliceRefusal) (reply : Reply) → IsGoingSliced old → get old.ids id ≡ None
-      → IsRefusedBy (plan_in old.heap) (working_in old.heap).state n e → SliceStep old (command.Malloc id n) reply new
+      → IsSlicedRefusedBy (plan_in old.heap) (working_in old.heap).state n e → SliceStep old (command.Malloc id n) reply new
       → reply ≡ said (slice_malloc_text (Err e))
   cause_shown n e reply going none cause step = (let m = mallocs_at n reply none step in go m.answer m.step m.reply_is)
     where
-      go : (a : Result Handle SliceRefusal) → Does old.heap (Malloc n a) new.heap → reply ≡ said (slice_malloc_text a)
+      go : (a : Result Handle SliceRefusal) → DoesEvent old.heap (Malloc n a) new.heap → reply ≡ said (slice_malloc_text a)
           → reply ≡ said (slice_malloc_text (Err e))
       go (Ok h) d is = absurd (given_or_refused (plan_in old.heap) going.ready.rules.plan (working_in old.heap).state going.ready.rules.consistent.kept
           (record { number = h.0; length = n }) (working_in new.heap).state d.happens.gives e cause)
@@ -113,7 +113,7 @@ module _ (old new : SliceRun) (id : ℕ) where
           (one_cause (plan_in old.heap) (working_in old.heap).state n f e d.happens.0 cause)
 
   -- if the reply to a malloc is `busy`, a job is pending: from the model's law `a_malloc_is_busy_only_with_a_job`
-  pub busy_malloc_cause : ((plan : Plan) (s : Sliced) (n : ℕ) → IsPlan plan → IsKept plan s → LacksSlot plan s n → s.job ≢ Idle)
+  pub busy_malloc_cause : ((plan : Plan) (s : Sliced) (n : ℕ) → IsPlan plan → IsKept plan s → LacksUsableSlot plan s n → s.job ≢ Idle)
       → (n : ℕ) → IsGoingSliced old → SliceStep old (command.Malloc id n) (said (codes "busy")) new → old.heap.job ≢ Idle
   busy_malloc_cause law n going step = go (get old.ids id) refl step
     where

@@ -19,12 +19,12 @@ use Rattle.slice_model.specs.declared.answers.SliceRefusal.{SliceRefusal}
 use Rattle.slice_model.specs.declared.job_slot.JobSlot.{JobSlot}
 use Rattle.slice_model.specs.Runs.{Event, Free, Malloc, Step, Write}
 use Rattle.slice_model.specs.State.{Clear, Idle, IsKept, Job, Move, Sliced, job_slot, left_of, with_slot}
-use Rattle.slice_model.specs.Steps.{AddsObject, IsRefusedBy}
+use Rattle.slice_model.specs.Steps.{AddsSlicedObject, IsSlicedRefusedBy}
 use Rattle.slice_model.proofs.CallerLemmas.{given_or_refused, kept_begun, lacking_is_no_place, no_place_is_lacking, objects_sliced}
 use Rattle.sliced_heap.specs.Access.{access_fault}
 use Rattle.sliced_heap.specs.Shown.{SlicedState, plan_in, working_in}
 use Rattle.script_laws.specs.ObjectRun.{WritesId}
-use Rattle.slice_session.specs.SliceRun.{Does, IsGoingSliced, SliceRun, SliceStep, StepsSliced, slice_free_text, slice_malloc_text, sliced_calls}
+use Rattle.slice_session.specs.SliceRun.{DoesEvent, IsGoingSliced, SliceRun, SliceStep, StepsSliced, slice_free_text, slice_malloc_text, sliced_calls}
 use Rattle.run_model.specs.Steps.{Stays}
 use Rattle.slice_session.proofs.RunInvariant.{sliced_keeps, begins_going, play_seen}
 use Rattle.run_model.specs.ById.{objects_by_id}
@@ -111,7 +111,7 @@ module _ (s : SliceRun) (going : IsGoingSliced s) where
     within_so : pages_needed_with p (objects m) n ≤ s.heap.profile.pages → space_test ≡ false
     within_so within = lt_no s.heap.profile.pages (pages_needed_with p (by_id s) n) (let e = needed_is in omega arith)
 
-    refusal_shown : (e : SliceRefusal) → IsRefusedBy (plan_in s.heap) state n e → slice_refusal (shown s) n ≡ Some e
+    refusal_shown : (e : SliceRefusal) → IsSlicedRefusedBy (plan_in s.heap) state n e → slice_refusal (shown s) n ≡ Some e
     refusal_shown refusal.Size why = λ i. refusal_by (lt_yes s.heap.profile.page_words (need n) why i) proxy_test space_test busy_test
     refusal_shown refusal.Proxy why = λ i. refusal_by (fits_so why.fits i)
         (eq_yes (len (by_id s)) s.heap.profile.proxies (len_is ∙ why.all) i) space_test busy_test
@@ -129,7 +129,7 @@ module _ (s : SliceRun) (going : IsGoingSliced s) where
         let yes = lt_yes s.heap.profile.pages (needed_beside (shown s) n) (omega arith) in
         λ i. refusal_by (fits_so why.fits i) (few_so why.few i) (within_so why.within i) (yes i)
 
-    given_shown : (h : ℕ) (new : Sliced) → AddsObject (plan_in s.heap) state (record { number = h; length = n }) new → slice_refusal (shown s) n ≡ None
+    given_shown : (h : ℕ) (new : Sliced) → AddsSlicedObject (plan_in s.heap) state (record { number = h; length = n }) new → slice_refusal (shown s) n ≡ None
     given_shown h new g =
         let kept = going.ready.rules.consistent.kept in
         let plan = going.ready.rules.plan in
@@ -153,12 +153,12 @@ module _ (s : SliceRun) (going : IsGoingSliced s) where
         let no' = lt_no s.heap.profile.pages (needed_beside (shown s) n) room in
         λ i. refusal_by (fits_so g.fits i) (few_so g.few i) (within_so within i) (no' i)
 
-    pub answer_shown : (answer : Result Handle SliceRefusal) (new : SlicedState) → Does s.heap (Malloc n answer) new → slice_refusal (shown s) n ≡ refused answer
+    pub answer_shown : (answer : Result Handle SliceRefusal) (new : SlicedState) → DoesEvent s.heap (Malloc n answer) new → slice_refusal (shown s) n ≡ refused answer
     answer_shown (Ok h) new d = given_shown h.0 (working_in new).state d.happens.gives
     answer_shown (Err e) new d = refusal_shown e d.happens.0
 
 -- the heap that a run shows after a call has the settings and the quantum of the heap before it
-pub stays_shown : (old new : SliceRun) (event : Event) → Does old.heap event new.heap
+pub stays_shown : (old new : SliceRun) (event : Event) → DoesEvent old.heap event new.heap
     → shown new ≡ state_shown old.heap.profile old.heap.quantum (by_id new) (working_in new.heap).state
 stays_shown old new event d = λ i. state_shown (d.stays.profile i) (d.stays.quantum i) (by_id new) (working_in new.heap).state
 
@@ -180,7 +180,7 @@ module _ (old new : SliceRun) (going : IsGoingSliced old) (later : IsGoingSliced
   counted_new same quantum c = subst (λ (f : Profile). live (plan_by f q).paging (by_id new) c ≡ live (plan_by f q).paging (objects new.heap.held) c) same
       (counted new later c)
 
-  malloc_is : (id n : ℕ) (answer : Result Handle SliceRefusal) → Does old.heap (Malloc n answer) new.heap
+  malloc_is : (id n : ℕ) (answer : Result Handle SliceRefusal) → DoesEvent old.heap (Malloc n answer) new.heap
       → by_id new ≡ put_unless (refused answer) (by_id old) id (replicate n 0) → shown new ≡ after_malloc None (refused answer) t id n
   malloc_is id n (Ok h) d left = stays_shown old new (Malloc n (Ok h)) d
       ∙ sym (malloc_noted s q going.ready.rules.plan (by_id new) (working_in old.heap).state (working_in new.heap).state going.ready.rules.consistent.kept
@@ -212,7 +212,7 @@ module _ (old new : SliceRun) (going : IsGoingSliced old) (later : IsGoingSliced
       go (Clear k) ne = (job_of (plan_by s q).paging old.heap.held k, refl)
       go (Move h k) ne = (job_of (plan_by s q).paging old.heap.held k, refl)
 
-  freed_is : (id h : ℕ) (v : List ℕ) → get (objects old.heap.held) h ≡ Some v → (d : Does old.heap (Free h None) new.heap)
+  freed_is : (id h : ℕ) (v : List ℕ) → get (objects old.heap.held) h ≡ Some v → (d : DoesEvent old.heap (Free h None) new.heap)
       → by_id new ≡ remove (by_id old) id → shown new ≡ after_free (Some v) None t id
   freed_is id h v there d left =
       let r = d.happens.removes in
@@ -235,7 +235,7 @@ module _ (old new : SliceRun) (going : IsGoingSliced old) (later : IsGoingSliced
         job = Some (record { class = class_for (plan_by s q).paging (length (bytes_are i)); done = 0; filled = false });
       })))
 
-  free_shown : (id h : ℕ) (v : List ℕ) → get (objects old.heap.held) h ≡ Some v → (answer : Option SliceFault) → Does old.heap (Free h answer) new.heap
+  free_shown : (id h : ℕ) (v : List ℕ) → get (objects old.heap.held) h ≡ Some v → (answer : Option SliceFault) → DoesEvent old.heap (Free h answer) new.heap
       → by_id new ≡ taken_unless answer (by_id old) id → (answer ≡ slice_fault (Some v) t.job) × (shown new ≡ after_free (Some v) t.job t id)
   free_shown id h v there None d left =
       let idle = job_is_none d.happens.removes.idle in
@@ -283,7 +283,7 @@ module _ (old new : SliceRun) (going : IsGoingSliced old) (later : IsGoingSliced
       })) (on_same k.class (page_of (plan_by s q).paging k.address))
 
   write_shown : (h from : ℕ) (bytes : List ℕ) (answer : Result Unit AccessFault)
-      → Does old.heap (Write (record { number = h; from = from }) bytes (access_fault answer)) new.heap → shown new ≡ with_objects t (by_id new)
+      → DoesEvent old.heap (Write (record { number = h; from = from }) bytes (access_fault answer)) new.heap → shown new ≡ with_objects t (by_id new)
   write_shown h from bytes (Ok u) d =
       let w = d.happens in
       let job = same_job h w.object (written w.object.bytes from bytes) w.found (length-written w.object.bytes from bytes w.fits) w.state in

@@ -16,8 +16,8 @@ use Rattle.slice_model.specs.Ordered.{HappensInOrder}
 use Rattle.slice_model.specs.declared.answers.SliceFault.{SliceFault}
 use Rattle.slice_model.specs.declared.answers.SliceRefusal.{SliceRefusal}
 use Rattle.sliced_heap.specs.Access.{access_fault}
-use Rattle.sliced_heap.specs.Shown.{KeepsRules, SlicedState, plan_in, working_in}
-use Rattle.slice_session.specs.SliceRun.{Does, IsReadySliced, OthersSliced, SliceRun, SliceStep, sliced_calls}
+use Rattle.sliced_heap.specs.Shown.{KeepsSlicedRules, SlicedState, plan_in, working_in}
+use Rattle.slice_session.specs.SliceRun.{DoesEvent, IsReadySliced, OthersSliced, SliceRun, SliceStep, sliced_calls}
 use Rattle.run_model.specs.Replies.{peek_text}
 use Rattle.script_laws.proofs.CallerLemmas.{HasCalls, can_go_on, CanGoOn}
 use Rattle.slice_session.specs.Playing.{BeginsSliced, BeginsSlices, IsQuantum, first_heap}
@@ -187,7 +187,7 @@ module _ (plan : Plan) (ok : IsPlan plan) (m : Held) (j : Job) (kept : IsKept pl
 abbrev working_with : SlicedState → Sliced → List ℕ → Order → SlicedState
 working_with s w words o = record s { held = w.held; job = w.job; words = words; order = o }
 
-module _ (s : SlicedState) (rules : KeepsRules s) where
+module _ (s : SlicedState) (rules : KeepsSlicedRules s) where
   abbrev plan : Plan
   plan = plan_in s
 
@@ -197,7 +197,7 @@ module _ (s : SlicedState) (rules : KeepsRules s) where
   kept : IsKept (plan_in s) (working_in s).state
   kept = rules.consistent.kept
 
-  stands : (event : Event) → HappensInOrder (plan_in s) (working_in s) event (working_in s) s.order s.order → Does s event s
+  stands : (event : Event) → HappensInOrder (plan_in s) (working_in s) event (working_in s) s.order s.order → DoesEvent s event s
   stands event ordered = record {
     happens = order_happens (plan_in s) (working_in s) event (working_in s) s.order s.order ordered;
     ordered = ordered;
@@ -206,14 +206,14 @@ module _ (s : SlicedState) (rules : KeepsRules s) where
 
   does : (event : Event) (w : Sliced) (words : List ℕ) (o : Order)
       → HappensInOrder (plan_in s) (working_in s) event (record { state = w; words = words }) s.order o
-      → length words ≡ length s.words → Does s event (working_with s w words o)
+      → length words ≡ length s.words → DoesEvent s event (working_with s w words o)
   does event w words o ordered long = record {
     happens = order_happens (plan_in s) (working_in s) event (record { state = w; words = words }) s.order o ordered;
     ordered = ordered;
     stays = record { is_open = refl; profile = refl; quantum = refl; region = long };
   }
 
-  pub malloc_there : (n : ℕ) → (answer : Result Handle SliceRefusal) × (new : SlicedState) × Does s (Malloc n answer) new
+  pub malloc_there : (n : ℕ) → (answer : Result Handle SliceRefusal) × (new : SlicedState) × DoesEvent s (Malloc n answer) new
   malloc_there n = elim (answered plan rules.plan state kept n) [
     | inl (e, cause) ↦ (Err e, s, stands (Malloc n (Err e)) ((cause, refl), refl))
     | inr (h, new, g) ↦ (
@@ -230,7 +230,7 @@ module _ (s : SlicedState) (rules : KeepsRules s) where
         ))
   ]
 
-  pub free_there : (h : ℕ) → (answer : Option SliceFault) × (new : SlicedState) × Does s (Free h answer) new
+  pub free_there : (h : ℕ) → (answer : Option SliceFault) × (new : SlicedState) × DoesEvent s (Free h answer) new
   free_there h = elim (free_answered plan rules.plan state kept h) [
     | inl (e, cause) ↦ (Some e, s, stands (Free h (Some e)) ((cause, refl), refl))
     | inr (new, r) ↦ (
@@ -250,7 +250,7 @@ module _ (s : SlicedState) (rules : KeepsRules s) where
         ))
   ]
 
-  pub step_there : (new : SlicedState) × Does s Step new
+  pub step_there : (new : SlicedState) × DoesEvent s Step new
   step_there =
       let can = can_slice plan rules.plan state kept s.order rules.order in
       let w = does_there plan rules.plan s.words rules.region s.held s.job kept in (
@@ -259,7 +259,7 @@ module _ (s : SlicedState) (rules : KeepsRules s) where
       )
 
   pub write_there : (h from : ℕ) (bytes : List ℕ) → AreBytes bytes
-      → (answer : Result Unit AccessFault) × (new : SlicedState) × Does s (Write (record { number = h; from = from }) bytes (access_fault answer)) new
+      → (answer : Result Unit AccessFault) × (new : SlicedState) × DoesEvent s (Write (record { number = h; from = from }) bytes (access_fault answer)) new
   write_there h from bytes are = elim (there_or_not s.held h) [
     | inr none ↦ (
       Err access.Unknown,

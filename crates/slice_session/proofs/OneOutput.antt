@@ -9,7 +9,7 @@ use Rattle.slice_model.specs.State.{Plan, left_of}
 use Rattle.slice_model.specs.Runs.{HeapWithWords}
 use Rattle.slice_model.proofs.CallerLemmas.{one_free, one_malloc, one_slice, one_write}
 use Rattle.sliced_heap.specs.Access.{access_fault}
-use Rattle.sliced_heap.specs.Shown.{SlicedState, StaysOpen, plan_in, working_in}
+use Rattle.sliced_heap.specs.Shown.{SlicedState, StaysSlicedOpen, plan_in, working_in}
 use Rattle.slice_session.specs.Playing.{BeginsSliced, BeginsSlices, RunsSliced, SlicePlay, run_of_play, slices}
 use Rattle.script_laws.specs.ObjectRun.{FreesId, MallocsId, WritesId, ids_without}
 use Rattle.slice_session.specs.SliceRun.{IsGoingSliced, SliceRun, SliceStep, StepsSliced}
@@ -19,7 +19,7 @@ use Rattle.slice_session.specs.SliceRun.{slice_free_text, slice_malloc_text, sli
 use Rattle.slice_session.proofs.RunInvariant.{begins_going, play_seen, sliced_keeps}
 use Rattle.script_laws.proofs.CallerLemmas.{still_going}
 
-same_heap : (old a b : SlicedState) → StaysOpen old a → StaysOpen old b → working_in a ≡ working_in b → a.order ≡ b.order → b ≡ a
+same_heap : (old a b : SlicedState) → StaysSlicedOpen old a → StaysSlicedOpen old b → working_in a ≡ working_in b → a.order ≡ b.order → b ≡ a
 same_heap old a b x y w order = λ i. record {
   is_open = (y.is_open ∙ sym x.is_open) i;
   profile = (y.profile ∙ sym x.profile) i;
@@ -51,7 +51,7 @@ module _ (old new next : SliceRun) (going : IsGoingSliced old) where
   abbrev plan : Plan
   plan = plan_in old.heap
 
-  words_long : StaysOpen old.heap new.heap → StaysOpen old.heap next.heap → length new.heap.words ≡ length next.heap.words
+  words_long : StaysSlicedOpen old.heap new.heap → StaysSlicedOpen old.heap next.heap → length new.heap.words ≡ length next.heap.words
   words_long a b = a.region ∙ sym b.region
 
   malloc_once : (id n : ℕ) (reply other : Reply) → MallocsId sliced_calls old id n reply new → MallocsId sliced_calls old id n other next → Same reply other

@@ -5,7 +5,7 @@ use Rattle.run_model.proofs.CallerLemmas.{run_seen}
 use Rattle.script_loop.specs.Semantics.{RunBy, snapshot}
 use Rattle.script_loop.specs.Applying.{TurnsInPart, Applies, BuildsReply}
 use Rattle.slice_session.specs.Playing.{BeginsSlices, RunsSliced, SlicePlay, run_of_play, slices, BeginsSliced, IsQuantum, first_heap, sliced}
-use Rattle.slice_session.specs.SliceRun.{SliceStep, Does, IsReadySliced, OthersSliced, SliceRun, slice_free_text, slice_malloc_text, sliced_calls, IsGoingSliced, slice_run}
+use Rattle.slice_session.specs.SliceRun.{SliceStep, DoesEvent, IsReadySliced, OthersSliced, SliceRun, slice_free_text, slice_malloc_text, sliced_calls, IsGoingSliced, slice_run}
 use Rattle.script_laws.proofs.CallerLemmas.{FreesOn, IsAccessFault, KeepsObjects, MallocsOn, WritesOn, still_going}
 use Rattle.script_laws.specs.IdBytes.{is_ok}
 use Rattle.slice_model.specs.Runs.{Event, HappensOnMap, IsConsistent, IsOutOfReach, Malloc, Free, Step, Write}
@@ -15,7 +15,7 @@ use Rattle.slice_model.specs.declared.answers.SliceRefusal.{SliceRefusal}
 use Rattle.slice_model.specs.Ordered.{IsOrderBeside}
 use Rattle.slice_model.proofs.CallerLemmas.{call_on_map, order_kept}
 use Rattle.sliced_heap.specs.Access.{access_fault}
-use Rattle.sliced_heap.specs.Shown.{SlicedState, plan_in, working_in, KeepsRules, opened_state}
+use Rattle.sliced_heap.specs.Shown.{SlicedState, plan_in, working_in, KeepsSlicedRules, opened_state}
 use Rattle.sliced_heap.proofs.CallerLemmas.{plan_stays}
 use Rattle.std.proofs.lemmas.List.{length-replicate}
 use Rattle.cf_base.specs.declared.settings.Settings.{Settings}
@@ -48,7 +48,7 @@ abbrev region_of : Profile → ℕ
 region_of p = p.pages * p.page_words
 
 -- a call changes the map of objects as the model says, and leaves the heap open, with its rules
-pub on_map : (old new : SlicedState) → IsReadySliced old → (event : Event) → Does old event new
+pub on_map : (old new : SlicedState) → IsReadySliced old → (event : Event) → DoesEvent old event new
     → HappensOnMap (objects old.held) event (objects new.held) × IsReadySliced new
 on_map old new ready event d =
     let rules = ready.rules in
@@ -139,7 +139,7 @@ begins_going quantum p s b = record {
 
 -- the run begins, if the heap was opened with the settings of a `heap` line
 pub opened_begins : (ids : Ids) (heap : SlicedState) (settings : Settings) (quantum : ℕ) → ids ≡ empty → heap ≡ opened_state settings quantum
-    → KeepsRules heap → BeginsSliced quantum (profile_of settings) (slice_run ids heap)
+    → KeepsSlicedRules heap → BeginsSliced quantum (profile_of settings) (slice_run ids heap)
 opened_begins ids heap settings quantum fresh is rules = record { ids = fresh; heap = is; rules = rules }
 
 -- without objects and without a job, words of zeros are consistent: a law of the model
@@ -147,7 +147,7 @@ abbrev pub EmptyLaw : Type 0
 EmptyLaw = (plan : Plan) (n : ℕ) → IsConsistent plan (record { state = record { held = empty; job = Idle }; words = replicate n 0 })
 
 -- the rules of a heap that was just opened
-pub first_rules : EmptyLaw → (quantum : ℕ) (p : Profile) → IsQuantum quantum → AreInRange p → KeepsRules (first_heap quantum p)
+pub first_rules : EmptyLaw → (quantum : ℕ) (p : Profile) → IsQuantum quantum → AreInRange p → KeepsSlicedRules (first_heap quantum p)
 first_rules law quantum p q can = record {
   plan = record {
     paging = first_paged (record p { k = 1 }) Words can.page_size (omega arith);
@@ -183,7 +183,7 @@ malloc_step old new id n reply none m =
     subst (λ o. MatchOption o (MallocsId sliced_calls old id n reply new) (λ h. Stays old (codes "live") reply new)) (sym none) m
 
 -- the text of the reply to `s`
-pub speaks_left : (ids : Ids) (old new : SlicedState) (line : List ℕ) → Does old Step new
+pub speaks_left : (ids : Ids) (old new : SlicedState) (line : List ℕ) → DoesEvent old Step new
     → line ≡ with_number (codes "left ") (left_of (plan_in new) (working_in new).state) → length line < line_capacity
     → BuildsReply SliceStep (slice_run ids old) command.Slice (slice_run ids new) line
 speaks_left ids old new line does is room = record { turn = record { does = does; ids = refl; reply_is = ap said is }; room = room }

@@ -17,7 +17,7 @@ use Rattle.script_laws.proofs.CallerLemmas.{figures_are}
 use Rattle.cf_base.specs.declared.kind.Layout.TheVariants.{Words}
 use Rattle.page_model.specs.Paging.{first_bounds, paging_of}
 use Rattle.page_model.specs.Steps.{Moves, zeros_at}
-use Rattle.slice_model.specs.Steps.{AddsObject, GoesOn, IsDone, IsSlice, SliceOf, LeavesJob, done_after, fresh_slot}
+use Rattle.slice_model.specs.Steps.{AddsSlicedObject, GoesOn, IsDone, IsSlice, SliceOf, LeavesJob, done_after, fresh_slot}
 use Rattle.script_laws.specs.ById.{ById, begun}
 use Rattle.slice_session.specs.ShownSlices.{ShownJob, ShownSlices, after_slice, are_full, job_noted, job_sliced, noted, words_of_job}
 
@@ -269,7 +269,7 @@ module _ (s : Profile) (quantum : ℕ) (ok : IsPlan (plan_by s quantum)) where
   full_shown o m counted k done filled = λ i. nat_eq ((counted k.class i + cond (eq_yes k.class k.class refl i) 1 0) % slots_of paging k.class) 0
 
   -- the heap that is shown after a malloc
-  pub malloc_noted : (o : Objects) (old new : Sliced) → IsKept (plan_by s quantum) old → (asked : Request) → AddsObject (plan_by s quantum) old asked new
+  pub malloc_noted : (o : Objects) (old new : Sliced) → IsKept (plan_by s quantum) old → (asked : Request) → AddsSlicedObject (plan_by s quantum) old asked new
       → AreCounted o new.held
       → noted (record { heap = heap_with s o; quantum = quantum; job = job_shown (plan_by s quantum).paging old.held (job_slot old.job) })
       ≡ state_shown s quantum o new

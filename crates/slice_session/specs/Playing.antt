@@ -9,7 +9,7 @@ use Rattle.run_model.specs.Plays.{PlayRun}
 use Rattle.script_loop.specs.Semantics.{Semantics}
 use Rattle.script_loop.specs.Applying.{TurnsInPart}
 use Rattle.slice_model.specs.State.{Idle}
-use Rattle.sliced_heap.specs.Shown.{KeepsRules, SlicedState, closed_state}
+use Rattle.sliced_heap.specs.Shown.{KeepsSlicedRules, SlicedState, closed_sliced}
 use Rattle.slice_session.specs.SliceRun.{IsGoingSliced, SliceRun, SliceStep, slice_run}
 
 -- the open heap after a `heap` line with the settings p: without objects and without a job, with these settings, but always the bound 1
@@ -28,7 +28,7 @@ first_heap quantum p = record {
 pub record BeginsSliced (quantum : ℕ) (p : Profile) (new : SliceRun) : Type 0 where
   pub ids : new.ids ≡ empty
   pub heap : new.heap ≡ first_heap quantum p
-  pub rules : KeepsRules new.heap
+  pub rules : KeepsSlicedRules new.heap
 
 -- the run begins as in `BeginsSliced`, and the reply to the `heap` line is `ok`
 abbrev pub BeginsSlices : ℕ → Profile → Reply → SliceRun → Type 0
@@ -41,7 +41,7 @@ RunsSliced quantum = PlayRun (BeginsSlices quantum) SliceStep
 
 -- an allocation failed at the `heap` line: the heap is closed, and the session is unchanged
 pub record LacksSliced (old new : SliceRun) : Type 0 where
-  pub closed : new.heap ≡ closed_state
+  pub closed : new.heap ≡ closed_sliced
   pub ids : new.ids ≡ old.ids
 
 -- The semantics of a session over a sliced heap, for the script loop. Its field `plan` is the quantum of the heap, in words.

@@ -15,7 +15,7 @@ use Rattle.slice_model.specs.declared.answers.SliceFault.TheVariants as fault
 use Rattle.slice_model.specs.declared.answers.SliceRefusal.{SliceRefusal}
 use Rattle.slice_model.specs.declared.answers.SliceRefusal.TheVariants as refusal
 use Rattle.sliced_heap.specs.Access.{access_fault}
-use Rattle.sliced_heap.specs.Shown.{KeepsRules, SlicedState, StaysOpen, plan_in, working_in}
+use Rattle.sliced_heap.specs.Shown.{KeepsSlicedRules, SlicedState, StaysSlicedOpen, plan_in, working_in}
 
 -- the live ids with the handles that they name, and the heap
 abbrev pub SliceRun : Type 0
@@ -41,19 +41,19 @@ slice_free_text (Some fault.Busy) = codes "busy"
 
 -- The heap did this call, `event`: its objects, job and words change as in `Happens`, its order as in `HappensInOrder`, and it stays open with its settings
 -- and its quantum.
-pub record Does (old : SlicedState) (event : Event) (new : SlicedState) : Type 0 where
+pub record DoesEvent (old : SlicedState) (event : Event) (new : SlicedState) : Type 0 where
   pub happens : Happens (plan_in old) (working_in old) event (working_in new)
   pub ordered : HappensInOrder (plan_in old) (working_in old) event (working_in new) old.order new.order
-  pub stays : StaysOpen old new
+  pub stays : StaysSlicedOpen old new
 
 -- the heap is open and keeps its rules
 pub record IsReadySliced (s : SlicedState) : Type 0 where
   pub opened : IsTrue s.is_open
-  pub rules : KeepsRules s
+  pub rules : KeepsSlicedRules s
 
 -- `s`: the heap does a slice of the pending job, if there is one; the reply is `left` and the words that a job then has still to do, 0 if none is pending
 pub record StepsSliced (old : SliceRun) (reply : Reply) (new : SliceRun) : Type 0 where
-  pub does : Does old.heap Step new.heap
+  pub does : DoesEvent old.heap Step new.heap
   pub ids : new.ids ≡ old.ids
   pub reply_is : reply ≡ said (with_number (codes "left ") (left_of (plan_in new.heap) (working_in new.heap).state))
 
@@ -68,9 +68,9 @@ abbrev pub sliced_calls : Calls SlicedState SliceRefusal SliceFault
 sliced_calls = record {
   is_ready = IsReadySliced;
   objects = λ s. objects s.held;
-  mallocs = λ old bytes answer new. Does old (Malloc bytes answer) new;
-  frees = λ old h fault new. Does old (Free h fault) new;
-  writes = λ old position bytes answer new. Does old (Write (record { number = position.number; from = position.from }) bytes (access_fault answer)) new;
+  mallocs = λ old bytes answer new. DoesEvent old (Malloc bytes answer) new;
+  frees = λ old h fault new. DoesEvent old (Free h fault) new;
+  writes = λ old position bytes answer new. DoesEvent old (Write (record { number = position.number; from = position.from }) bytes (access_fault answer)) new;
   malloc_text = slice_malloc_text;
   free_text = slice_free_text;
   others = OthersSliced;

@@ -10,7 +10,7 @@ ghost use Rattle.script_laws.specs.ObjectRun.{object_bytes};
 ghost use Rattle.run_model.specs.Replies.{peek_text};
 ghost use Rattle.script_laws.specs.IdBytes.{read_shown};
 ghost use Rattle.script_loop.specs.Applying.{BuildsReply};
-ghost use Rattle.sliced_heap.specs.Shown.{KeepsRules};
+ghost use Rattle.sliced_heap.specs.Shown.{KeepsSlicedRules};
 ghost use Rattle.step_ledger.specs.Counting.{RoseAtMost};
 ghost use Rattle.slice_session.specs.SliceRun.{SliceStep, slice_free_text, slice_malloc_text, slice_run, sliced_calls};
 
@@ -124,7 +124,7 @@ pub(crate) fn read(
     steps: &mut Steps,
 ) -> Outcome
     requires open { IsTrue heap.now.is_open }
-    requires rules { KeepsRules heap.now }
+    requires rules { KeepsSlicedRules heap.now }
     requires few { length buffer.old ≤ 4096 }
     requires empty { line.old ≡ [] }
     ensures text { line.new ≡ read_shown (object_bytes sliced_calls (slice_run ids.now heap.now) id) at (length buffer.old) }

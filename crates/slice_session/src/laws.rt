@@ -10,7 +10,7 @@ ghost use Rattle.script_loop.specs.Consequences.{IsPrefixBy};
 ghost use Rattle.script_loop.specs.ScriptOutcome.{Effects, WroteInPart, items_within};
 ghost use Rattle.script_loop.specs.Semantics.{RunBy};
 ghost use Rattle.slice_model.specs.State.{Idle};
-ghost use Rattle.slice_model.specs.Steps.{IsFaultOf, IsRefusedBy};
+ghost use Rattle.slice_model.specs.Steps.{IsFaultOf, IsSlicedRefusedBy};
 ghost use Rattle.slice_model.specs.declared.answers.SliceFault.{SliceFault};
 ghost use Rattle.slice_model.specs.declared.answers.SliceRefusal.{SliceRefusal};
 ghost use Rattle.sliced_heap.specs.Shown.{plan_in, working_in};
@@ -44,9 +44,9 @@ pub fn reads_give_what_was_written()
 pub fn replies_show_their_causes()
     ensures malloc { (old new : SliceRun) (id n : ℕ) (e : SliceRefusal) → get old.ids id ≡ None
         → SliceStep old (Malloc id n) (said (slice_malloc_text (Err e))) new
-        → IsRefusedBy (plan_in old.heap) (working_in old.heap).state n e × (new ≡ old) }
+        → IsSlicedRefusedBy (plan_in old.heap) (working_in old.heap).state n e × (new ≡ old) }
     ensures refused { (old new : SliceRun) (id n : ℕ) (e : SliceRefusal) (reply : Reply) → IsGoingSliced old → get old.ids id ≡ None
-        → IsRefusedBy (plan_in old.heap) (working_in old.heap).state n e → SliceStep old (Malloc id n) reply new
+        → IsSlicedRefusedBy (plan_in old.heap) (working_in old.heap).state n e → SliceStep old (Malloc id n) reply new
         → reply ≡ said (slice_malloc_text (Err e)) }
     ensures free { (old new : SliceRun) (id h : ℕ) (e : SliceFault) → get old.ids id ≡ Some h
         → SliceStep old (Free id) (said (slice_free_text (Some e))) new

@@ -13,7 +13,7 @@ use Rattle.page_model.specs.Held.{Objects, Placed, objects}
 use Rattle.page_model.specs.Paging.{Paging, class_for, slot_words}
 use Rattle.page_model.proofs.CallerLemmas.{asked_added, asked_taken, bytes_held, len-objects, slot_fits, taken_added, taken_taken}
 use Rattle.sliced_heap.specs.Heap.{Heap}
-use Rattle.sliced_heap.specs.Layout.{IsValid, paging_at, state_of}
+use Rattle.sliced_heap.specs.Layout.{IsValid, sliced_paging, sliced_state_of}
 use Rattle.sliced_heap.proofs.Facts.{held_len, paging_ok}
 use Rattle.sliced_heap.proofs.Headers.{bytes_few, in_class}
 
@@ -36,27 +36,27 @@ module _ (p : Paging) (o : Objects) (q : ℕ) (v u : List ℕ) (some : get o q �
 
 module _ (h : Heap) (k : IsValid h) where
   -- an object has the bytes of a page at most, and so has its slot
-  small : (q : ℕ) (v : List ℕ) → get (objects (state_of h).held) q ≡ Some v
-      → (length v ≤ 131072) × (slot_words (paging_at h) (class_for (paging_at h) (length v)) ≤ 16384)
-  small q v e = by_object (get (state_of h).held q) refl
+  small : (q : ℕ) (v : List ℕ) → get (objects (sliced_state_of h).held) q ≡ Some v
+      → (length v ≤ 131072) × (slot_words (sliced_paging h) (class_for (sliced_paging h) (length v)) ≤ 16384)
+  small q v e = by_object (get (sliced_state_of h).held q) refl
     where
-      shown : get (objects (state_of h).held) q ≡ option_map (λ (x : Placed). x.bytes) (get (state_of h).held q)
-      shown = get-map_values (λ (x : Placed). x.bytes) (state_of h).held q
+      shown : get (objects (sliced_state_of h).held) q ≡ option_map (λ (x : Placed). x.bytes) (get (sliced_state_of h).held q)
+      shown = get-map_values (λ (x : Placed). x.bytes) (sliced_state_of h).held q
 
-      by_object : (o : Option Placed) → get (state_of h).held q ≡ o
-          → (length v ≤ 131072) × (slot_words (paging_at h) (class_for (paging_at h) (length v)) ≤ 16384)
+      by_object : (o : Option Placed) → get (sliced_state_of h).held q ≡ o
+          → (length v ≤ 131072) × (slot_words (sliced_paging h) (class_for (sliced_paging h) (length v)) ≤ 16384)
       by_object None f = absurd (let z : None ≡ Some v = sym (shown ∙ ap (option_map (λ (x : Placed). x.bytes)) f) ∙ e in cc)
       by_object (Some x) f =
           let z : Some x.bytes ≡ Some v = sym (shown ∙ ap (option_map (λ (x : Placed). x.bytes)) f) ∙ e in
           let is : x.bytes ≡ v = cc in
           let few = bytes_few h k q x f in
-          let fits = slot_fits (paging_at h) (paging_ok h k) (class_at (paging_at h) x) (in_class h k q x f) in
+          let fits = slot_fits (sliced_paging h) (paging_ok h k) (class_at (sliced_paging h) x) (in_class h k q x f) in
           let page = k.serve.part.tables.table.small in
-          subst (λ v. (length v ≤ 131072) × (slot_words (paging_at h) (class_for (paging_at h) (length v)) ≤ 16384)) is (omega arith, omega arith)
+          subst (λ v. (length v ≤ 131072) × (slot_words (sliced_paging h) (class_for (sliced_paging h) (length v)) ≤ 16384)) is (omega arith, omega arith)
 
-  few_objects : len (objects (state_of h).held) ≤ 65536
+  few_objects : len (objects (sliced_state_of h).held) ≤ 65536
   few_objects =
-      let l = len-objects (state_of h).held in
+      let l = len-objects (sliced_state_of h).held in
       let e = held_len h k in
       let f = k.handles.few in
       let n = k.numbers in
@@ -66,7 +66,7 @@ module _ (h : Heap) (k : IsValid h) where
   pub asked_room : h.asked ≤ 131072 * 65536
   unfolding asked_bytes
   asked_room =
-      let a = sum_at_most length 131072 (objects (state_of h).held) (λ q v e. (small q v e).0) in
+      let a = sum_at_most length 131072 (objects (sliced_state_of h).held) (λ q v e. (small q v e).0) in
       let e = k.asked_all in
       let l = few_objects in
       omega arith
@@ -74,15 +74,15 @@ module _ (h : Heap) (k : IsValid h) where
   pub taken_room : h.taken ≤ 131072 * 65536
   unfolding taken_bytes
   taken_room =
-      let a = sum_at_most (λ v. slot_words (paging_at h) (class_for (paging_at h) (length v))) 16384 (objects (state_of h).held) (λ q v e. (small q v e).1) in
+      let a = sum_at_most (λ v. slot_words (sliced_paging h) (class_for (sliced_paging h) (length v))) 16384 (objects (sliced_state_of h).held) (λ q v e. (small q v e).1) in
       let e = k.taken_all in
       let l = few_objects in
       omega arith
 
   -- an object that is taken out
-  module _ (q : ℕ) (x : Placed) (there : get (state_of h).held q ≡ Some x) where
-    pub asked_less : h.asked ≡ asked_bytes (remove (objects (state_of h).held) q) + length x.bytes
-    asked_less = k.asked_all ∙ sym (asked_taken (objects (state_of h).held) q x.bytes (bytes_held (state_of h).held q x there))
+  module _ (q : ℕ) (x : Placed) (there : get (sliced_state_of h).held q ≡ Some x) where
+    pub asked_less : h.asked ≡ asked_bytes (remove (objects (sliced_state_of h).held) q) + length x.bytes
+    asked_less = k.asked_all ∙ sym (asked_taken (objects (sliced_state_of h).held) q x.bytes (bytes_held (sliced_state_of h).held q x there))
 
-    pub taken_less : h.taken ≡ taken_bytes (paging_at h) (remove (objects (state_of h).held) q) + 8 * slot_words (paging_at h) (class_at (paging_at h) x)
-    taken_less = k.taken_all ∙ sym (taken_taken (paging_at h) (objects (state_of h).held) q x.bytes (bytes_held (state_of h).held q x there))
+    pub taken_less : h.taken ≡ taken_bytes (sliced_paging h) (remove (objects (sliced_state_of h).held) q) + 8 * slot_words (sliced_paging h) (class_at (sliced_paging h) x)
+    taken_less = k.taken_all ∙ sym (taken_taken (sliced_paging h) (objects (sliced_state_of h).held) q x.bytes (bytes_held (sliced_state_of h).held q x there))

@@ -7,17 +7,17 @@ use Rattle.page_model.specs.Held.{Placed}
 use Rattle.slice_model.specs.State.{Idle}
 use Rattle.slice_model.specs.Words.{word_at}
 use Rattle.sliced_heap.specs.Heap.{Heap}
-use Rattle.sliced_heap.specs.Layout.{IsValid, paging_at, state_of}
+use Rattle.sliced_heap.specs.Layout.{IsValid, sliced_paging, sliced_state_of}
 use Rattle.page_model.specs.Paging.{class_for, classes}
 use Rattle.page_slots.proofs.CallerLemmas.{class_is, class_some}
 use Rattle.sliced_heap.proofs.Facts.{has_place, paging_ok, table_is}
 use Rattle.sliced_heap.proofs.Headers.{head_length, holds, in_class, inside}
 
-pub found : (h : Heap) (k : IsValid h) (q a : ℕ) → get h.proxies.places q ≡ Some a → (x : Placed) × (get (state_of h).held q ≡ Some x) × (x.place ≡ a)
+pub found : (h : Heap) (k : IsValid h) (q a : ℕ) → get h.proxies.places q ≡ Some a → (x : Placed) × (get (sliced_state_of h).held q ≡ Some x) × (x.place ≡ a)
 found h k q a known = has_place h k q a known
 
 module _ (h : Heap) (k : IsValid h) (idle : h.job ≡ Idle) (q a : ℕ) (known : get h.proxies.places q ≡ Some a) where
-  abbrev w : (x : Placed) × (get (state_of h).held q ≡ Some x) × (x.place ≡ a)
+  abbrev w : (x : Placed) × (get (sliced_state_of h).held q ≡ Some x) × (x.place ≡ a)
   w = found h k q a known
 
   pub place_in : a < length h.words
@@ -33,7 +33,7 @@ module _ (h : Heap) (k : IsValid h) (idle : h.job ≡ Idle) (q a : ℕ) (known :
 
     pub has_class : None ≡ class_of h.classes.sizes size → ⊥
     has_class = class_some (paging_ok h k) (table_is h k) size
-        (subst (λ n. class_for (paging_at h) n < classes (paging_at h)) (sym length_shown) (in_class h k q w.0 w.1))
+        (subst (λ n. class_for (sliced_paging h) n < classes (sliced_paging h)) (sym length_shown) (in_class h k q w.0 w.1))
 
-    pub class_found : (c : ℕ) → Some c ≡ class_of h.classes.sizes size → class_at (paging_at h) (found h k q a known).0 ≡ c
-    class_found c is = ap (class_for (paging_at h)) (sym length_shown) ∙ (class_is (paging_ok h k) (table_is h k) size c is).1
+    pub class_found : (c : ℕ) → Some c ≡ class_of h.classes.sizes size → class_at (sliced_paging h) (found h k q a known).0 ≡ c
+    class_found c is = ap (class_for (sliced_paging h)) (sym length_shown) ∙ (class_is (paging_ok h k) (table_is h k) size c is).1

@@ -22,7 +22,7 @@ use Rattle.slice_model.specs.Steps.{fresh_slot}
 use Rattle.slice_model.specs.Words.{HasWords}
 use Rattle.slice_model.proofs.CallerLemmas.{no_placeholder, other_than, placeholder_class, words_to_clear}
 use Rattle.sliced_heap.specs.Heap.{Heap}
-use Rattle.sliced_heap.specs.Layout.{IsValid, opens, order_in, paging_at, plan_of, state_of, tables_in}
+use Rattle.sliced_heap.specs.Layout.{IsValid, opens, plan_of, sliced_order_in, sliced_paging, sliced_state_of, sliced_tables_in}
 use Rattle.sliced_heap.specs.Steps.{StartsClearing}
 use Rattle.sliced_heap.proofs.ByteCounts.{asked_less, taken_less}
 use Rattle.sliced_heap.proofs.Counts.{needed_more, needed_taken}
@@ -59,14 +59,14 @@ pub record IsFreed (h n : Heap) (q size a c : ℕ) : Type 0 where
   }
   pub handles : AreBelowLimit n.proxies
 
-module _ (h : Heap) (k : IsValid h) (idle : h.job ≡ Idle) (q : ℕ) (x : Placed) (there : get (state_of h).held q ≡ Some x) where
+module _ (h : Heap) (k : IsValid h) (idle : h.job ≡ Idle) (q : ℕ) (x : Placed) (there : get (sliced_state_of h).held q ≡ Some x) where
   abbrev m : Held
-  m = (state_of h).held
+  m = (sliced_state_of h).held
 
   abbrev c : ℕ
-  c = class_at (paging_at h) x
+  c = class_at (sliced_paging h) x
 
-  left : get (objects (state_of h).held) q ≡ Some x.bytes
+  left : get (objects (sliced_state_of h).held) q ≡ Some x.bytes
   left = bytes_held m q x there
 
   listed : c < length h.live
@@ -75,57 +75,57 @@ module _ (h : Heap) (k : IsValid h) (idle : h.job ≡ Idle) (q : ℕ) (x : Place
   objects_are : objects (remove m q) ≡ remove (objects m) q
   objects_are = map_values-remove (λ (x : Placed). x.bytes) m q
 
-  live_less : (d : ℕ) → live (paging_at h) (remove (objects m) q) d + one (nat_eq c d) ≡ live (paging_at h) (objects m) d
-  live_less d = live_taken (paging_at h) (objects m) q x.bytes d left
+  live_less : (d : ℕ) → live (sliced_paging h) (remove (objects m) q) d + one (nat_eq c d) ≡ live (sliced_paging h) (objects m) d
+  live_less d = live_taken (sliced_paging h) (objects m) q x.bytes d left
 
-  pub live_some : 1 ≤ get_or h.live (class_at (paging_at h) x) 0
+  pub live_some : 1 ≤ get_or h.live (class_at (sliced_paging h) x) 0
   live_some =
       let l = live_less c in
       let y : one (nat_eq c c) ≡ 1 = ap one (eq_yes c c refl) in
       let e = k.counted c (in_class h k q x there) in
       omega arith
 
-  live_here : live (paging_at h) (remove (objects m) q) c ≡ get_or h.live c 0 - 1
+  live_here : live (sliced_paging h) (remove (objects m) q) c ≡ get_or h.live c 0 - 1
   live_here =
       let l = live_less c in
       let y : one (nat_eq c c) ≡ 1 = ap one (eq_yes c c refl) in
       let e = k.counted c (in_class h k q x there) in
       omega arith
 
-  slots_are : slots h.classes.page_words h.classes.sizes c ≡ slots_of (paging_at h) c
+  slots_are : slots h.classes.page_words h.classes.sizes c ≡ slots_of (sliced_paging h) c
   slots_are = ap (λ (t : ClassTable). slots t.page_words t.sizes c) k.table
 
-  needed_less : h.needed ≡ pages_needed (paging_at h) (remove (objects m) q) + opens (slots h.classes.page_words h.classes.sizes c) (get_or h.live c 0 - 1)
+  needed_less : h.needed ≡ pages_needed (sliced_paging h) (remove (objects m) q) + opens (slots h.classes.page_words h.classes.sizes c) (get_or h.live c 0 - 1)
   needed_less =
-      k.needed ∙ needed_taken (paging_at h) (objects m) q x.bytes left
-      ∙ needed_more (paging_at h) (paging_ok h k) (remove (objects m) q) (length x.bytes) (in_class h k q x there)
-      ∙ ap (λ l. pages_needed (paging_at h) (remove (objects m) q) + opens (slots_of (paging_at h) c) l) live_here
-      ∙ ap (λ s. pages_needed (paging_at h) (remove (objects m) q) + opens s (get_or h.live c 0 - 1)) (sym slots_are)
+      k.needed ∙ needed_taken (sliced_paging h) (objects m) q x.bytes left
+      ∙ needed_more (sliced_paging h) (paging_ok h k) (remove (objects m) q) (length x.bytes) (in_class h k q x there)
+      ∙ ap (λ l. pages_needed (sliced_paging h) (remove (objects m) q) + opens (slots_of (sliced_paging h) c) l) live_here
+      ∙ ap (λ s. pages_needed (sliced_paging h) (remove (objects m) q) + opens s (get_or h.live c 0 - 1)) (sym slots_are)
 
-  pub needed_some : opens (slots h.classes.page_words h.classes.sizes (class_at (paging_at h) x)) (get_or h.live (class_at (paging_at h) x) 0 - 1) ≤ h.needed
+  pub needed_some : opens (slots h.classes.page_words h.classes.sizes (class_at (sliced_paging h) x)) (get_or h.live (class_at (sliced_paging h) x) 0 - 1) ≤ h.needed
   needed_some = (let e = needed_less in omega arith)
 
   pub asked_some : length x.bytes ≤ h.asked
   asked_some = (let e = asked_less h k q x there in omega arith)
 
-  words_are : get_or h.classes.sizes c 0 ≡ slot_words (paging_at h) c
+  words_are : get_or h.classes.sizes c 0 ≡ slot_words (sliced_paging h) c
   words_are = ap (λ (t : ClassTable). get_or t.sizes c 0) k.table
 
-  pub taken_some : 8 * get_or h.classes.sizes (class_at (paging_at h) x) 0 ≤ h.taken
+  pub taken_some : 8 * get_or h.classes.sizes (class_at (sliced_paging h) x) 0 ≤ h.taken
   taken_some = (let e = taken_less h k q x there in let w = words_are in omega arith)
 
-  module _ (n : Heap) (g : IsFreed h n q (length x.bytes) x.place (class_at (paging_at h) x)) where
+  module _ (n : Heap) (g : IsFreed h n q (length x.bytes) x.place (class_at (sliced_paging h) x)) where
     abbrev s : Sliced
     s = record { held = remove m q; job = Clear (fresh_slot x.place c) }
 
     at_idle : IsKept (plan_of h) (record { held = m; job = Idle })
     at_idle = subst (λ j. IsKept (plan_of h) (record { held = m; job = j })) idle k.kept
 
-    words_idle : HasWords (paging_at h) (record { held = m; job = Idle }) h.words
-    words_idle = subst (λ j. HasWords (paging_at h) (record { held = m; job = j }) h.words) idle k.words
+    words_idle : HasWords (sliced_paging h) (record { held = m; job = Idle }) h.words
+    words_idle = subst (λ j. HasWords (sliced_paging h) (record { held = m; job = j }) h.words) idle k.words
 
-    stands_idle : Occupies (paging_at h) m (tables_in h)
-    stands_idle = subst (λ j. Occupies (paging_at h) (occupied (plan_of h) (record { held = m; job = j })) (tables_in h)) idle k.occupied
+    stands_idle : Occupies (sliced_paging h) m (sliced_tables_in h)
+    stands_idle = subst (λ j. Occupies (sliced_paging h) (occupied (plan_of h) (record { held = m; job = j })) (sliced_tables_in h)) idle k.occupied
 
     becomes : Becomes h n s
     becomes = record {
@@ -135,29 +135,29 @@ module _ (h : Heap) (k : IsValid h) (idle : h.job ≡ Idle) (q : ℕ) (x : Place
       job = ap (λ (z : Heap). z.job) g.rest;
       long = ap (λ (z : Heap). length z.words) g.rest;
       kept = kept_vacant (plan_of h) (plan_ok h k) m at_idle q x there;
-      words = subst (HasWords (paging_at h) s) (sym (ap (λ (z : Heap). z.words) g.rest)) (words_to_clear (paging_at h) m h.words words_idle q x there);
+      words = subst (HasWords (sliced_paging h) s) (sym (ap (λ (z : Heap). z.words) g.rest)) (words_to_clear (sliced_paging h) m h.words words_idle q x there);
       bytes = λ r y there'. held_bytes h k r y (some_removed m q r y there').1;
       addresses = ap (λ (z : Heap). z.proxies.places) g.rest ∙ ap (λ n. remove n q) (places_are h k) ∙ sym (map_values-remove (λ (x : Placed). x.place) m q);
       limit = ap (λ (z : Heap). z.proxies.limit) g.rest;
       handles = g.handles;
-      serve = subst (FitPages (paging_at h)) (sym (ap tables_in g.rest)) k.serve;
-      occupied = subst (Occupies (paging_at h) (occupied (plan_of h) s)) (sym (ap tables_in g.rest))
-          (stood_in (paging_at h) m (tables_in h) stands_idle q x there h.settings.proxies (no_placeholder (plan_of h) m k.kept.numbers)
-          (replicate (8 * (slot_words (paging_at h) c - 1)) 0)
-          (placeholder_class (paging_at h) (paging_ok h k) (fresh_slot x.place c) (in_class h k q x there)));
+      serve = subst (FitPages (sliced_paging h)) (sym (ap sliced_tables_in g.rest)) k.serve;
+      occupied = subst (Occupies (sliced_paging h) (occupied (plan_of h) s)) (sym (ap sliced_tables_in g.rest))
+          (stood_in (sliced_paging h) m (sliced_tables_in h) stands_idle q x there h.settings.proxies (no_placeholder (plan_of h) m k.kept.numbers)
+          (replicate (8 * (slot_words (sliced_paging h) c - 1)) 0)
+          (placeholder_class (sliced_paging h) (paging_ok h k) (fresh_slot x.place c) (in_class h k q x there)));
       live_long = ap (λ (z : Heap). length z.live) g.rest ∙ length-set h.live c (get_or h.live c 0 - 1) ∙ k.live_long;
       counted = λ d lt. (
           let l = live_less d in
           let was = k.counted d lt in
           let now = ap (λ (z : Heap). get_or z.live d 0) g.rest in
           let less = counted_out h.live c d listed live_some in
-          let all : live (paging_at h) (objects (remove m q)) d ≡ live (paging_at h) (remove (objects m) q) d = ap (λ o. live (paging_at h) o d) objects_are in
+          let all : live (sliced_paging h) (objects (remove m q)) d ≡ live (sliced_paging h) (remove (objects m) q) d = ap (λ o. live (sliced_paging h) o d) objects_are in
           omega arith);
       needed = (
           let e = needed_less in
           let now = ap (λ (z : Heap). z.needed) g.rest in
-          let all : pages_needed (paging_at h) (objects (remove m q)) ≡ pages_needed (paging_at h) (remove (objects m) q) =
-          ap (pages_needed (paging_at h)) objects_are in
+          let all : pages_needed (sliced_paging h) (objects (remove m q)) ≡ pages_needed (sliced_paging h) (remove (objects m) q) =
+          ap (pages_needed (sliced_paging h)) objects_are in
           omega arith);
       within = (let now = ap (λ (z : Heap). z.needed) g.rest in let w = k.within in omega arith);
       asked = (
@@ -169,14 +169,14 @@ module _ (h : Heap) (k : IsValid h) (idle : h.job ≡ Idle) (q : ℕ) (x : Place
           let e = taken_less h k q x there in
           let w = words_are in
           let now = ap (λ (z : Heap). z.taken) g.rest in
-          let all = ap (taken_bytes (paging_at h)) objects_are in
+          let all = ap (taken_bytes (sliced_paging h)) objects_are in
           omega arith);
     }
 
     pub forgotten_valid : IsValid n
     forgotten_valid = becomes_valid h n k s becomes
 
-    pub forgets : StartsClearing h q (fresh_slot x.place (class_at (paging_at h) x)) n
+    pub forgets : StartsClearing h q (fresh_slot x.place (class_at (sliced_paging h) x)) n
     forgets = record {
       object = x;
       found = there;
@@ -186,12 +186,12 @@ module _ (h : Heap) (k : IsValid h) (idle : h.job ≡ Idle) (q : ℕ) (x : Place
       words = ap (λ (z : Heap). z.words) g.rest;
       plan = becomes_plan h n k s becomes;
       quantum = ap (λ (z : Heap). z.quantum) g.rest;
-      order = ap order_in g.rest;
+      order = ap sliced_order_in g.rest;
     }
 
 -- the lemmas above together, for the length, the address a and the class c as the code computes them
-pub forgets_at : (h : Heap) (k : IsValid h) → h.job ≡ Idle → (q : ℕ) (x : Placed) → get (state_of h).held q ≡ Some x → (size a c : ℕ) → length x.bytes ≡ size
-    → x.place ≡ a → class_at (paging_at h) x ≡ c → (n : Heap) → IsFreed h n q size a c → StartsClearing h q (fresh_slot a c) n × IsValid n
+pub forgets_at : (h : Heap) (k : IsValid h) → h.job ≡ Idle → (q : ℕ) (x : Placed) → get (sliced_state_of h).held q ≡ Some x → (size a c : ℕ) → length x.bytes ≡ size
+    → x.place ≡ a → class_at (sliced_paging h) x ≡ c → (n : Heap) → IsFreed h n q size a c → StartsClearing h q (fresh_slot a c) n × IsValid n
 forgets_at h k idle q x there size a c long at is n =
     subst (λ size. IsFreed h n q size a c → StartsClearing h q (fresh_slot a c) n × IsValid n) long
     (subst (λ a. IsFreed h n q (length x.bytes) a c → StartsClearing h q (fresh_slot a c) n × IsValid n) at

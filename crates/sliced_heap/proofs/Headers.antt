@@ -10,27 +10,27 @@ use Rattle.page_model.proofs.CallerLemmas.{class_holds, slot_fits}
 use Rattle.slice_model.specs.Words.{word_at}
 use Rattle.slice_model.proofs.CallerLemmas.{object_slot, object_within}
 use Rattle.sliced_heap.specs.Heap.{Heap}
-use Rattle.sliced_heap.specs.Layout.{IsValid, paging_at, plan_of, state_of}
+use Rattle.sliced_heap.specs.Layout.{IsValid, plan_of, sliced_paging, sliced_state_of}
 use Rattle.sliced_heap.proofs.Facts.{paging_ok, plan_ok}
 
-module _ (h : Heap) (k : IsValid h) (q : ℕ) (x : Placed) (there : get (state_of h).held q ≡ Some x) where
+module _ (h : Heap) (k : IsValid h) (q : ℕ) (x : Placed) (there : get (sliced_state_of h).held q ≡ Some x) where
   pub number_low : q < 2 ^ 32
   number_low = (let lt = k.kept.numbers q x there in let few = h.settings.few_proxies in omega arith)
 
-  pub in_class : class_at (paging_at h) x < classes (paging_at h)
-  in_class = (object_slot (plan_of h) (plan_ok h k) (state_of h).held h.job k.kept q x there).class
+  pub in_class : class_at (sliced_paging h) x < classes (sliced_paging h)
+  in_class = (object_slot (plan_of h) (plan_ok h k) (sliced_state_of h).held h.job k.kept q x there).class
 
-  pub holds : need (length x.bytes) ≤ slot_for (paging_at h) (length x.bytes)
-  holds = class_holds (paging_at h) (paging_ok h k) (length x.bytes) in_class
+  pub holds : need (length x.bytes) ≤ slot_for (sliced_paging h) (length x.bytes)
+  holds = class_holds (sliced_paging h) (paging_ok h k) (length x.bytes) in_class
 
   -- the object's slot is in the region
-  pub inside : x.place + slot_for (paging_at h) (length x.bytes) ≤ length h.words
-  inside = (let l = object_within (plan_of h) (plan_ok h k) (state_of h).held h.job k.kept q x there in let long = k.words_long in omega arith)
+  pub inside : x.place + slot_for (sliced_paging h) (length x.bytes) ≤ length h.words
+  inside = (let l = object_within (plan_of h) (plan_ok h k) (sliced_state_of h).held h.job k.kept q x there in let long = k.words_long in omega arith)
 
   pub bytes_few : length x.bytes ≤ 131072
   bytes_few =
       let o = holds in
-      let fits = slot_fits (paging_at h) (paging_ok h k) (class_at (paging_at h) x) in_class in
+      let fits = slot_fits (sliced_paging h) (paging_ok h k) (class_at (sliced_paging h) x) in_class in
       let small = k.serve.part.tables.table.small in
       omega arith
 

@@ -1,4 +1,4 @@
--- For the objects that contracts show of an open heap (`state_of`): the region's words, as they are when the pending job is done, and the addresses by number
+-- For the objects that contracts show of an open heap (`sliced_state_of`): the region's words, as they are when the pending job is done, and the addresses by number
 -- determine all objects.
 use Rattle.std.proofs.Common.{◌≡◌, ℕ, ◌+◌, ◌-◌, ◌*◌, ◌<◌, ◌≤◌, List, Option, Some, None, length, get_or, arith, refl, sym, ◌∙◌, ap, subst}
 use Rattle.std.specs.Prelude.{option_map}

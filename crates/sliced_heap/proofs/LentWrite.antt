@@ -9,7 +9,7 @@ use Rattle.region.specs.Overwriting.{Overwrites}
 use Rattle.slice_model.specs.State.{Idle}
 use Rattle.sliced_heap.specs.Halves.{halves_of, place_of_word, together}
 use Rattle.sliced_heap.specs.Heap.{Heap}
-use Rattle.sliced_heap.specs.Layout.{IsValid, state_of}
+use Rattle.sliced_heap.specs.Layout.{IsValid, sliced_state_of}
 use Rattle.sliced_heap.specs.Writes.{WritesByPlaces, word_from}
 use Rattle.sliced_heap.proofs.AccessLemmas.{written_held, written_valid}
 use Rattle.sliced_heap.proofs.OnePart.{part_writes}
@@ -22,7 +22,7 @@ if_same false n = refl
 alone : (a : ℕ) → word_from a ≡ place_of_word (together a)
 alone a = λ t i. sym (if_same (nat_le 0 i) (a + i)) t
 
-module _ (h : Heap) (k : IsValid h) (idle : h.job ≡ Idle) (q : ℕ) (x : Placed) (there : get (state_of h).held q ≡ Some x) (at : ℕ) (bytes : List ℕ)
+module _ (h : Heap) (k : IsValid h) (idle : h.job ≡ Idle) (q : ℕ) (x : Placed) (there : get (sliced_state_of h).held q ≡ Some x) (at : ℕ) (bytes : List ℕ)
     (are : AreBytes bytes) (some : length bytes ≢ 0) (fits : at + length bytes ≤ length x.bytes) (n : Heap) (rest : n ≡ record h { words = n.words })
     (o : Overwrites h.words n.words (record { from = x.place + 1 + at / 8; count = (at % 8 + length bytes + 7) / 8 }) (at % 8) bytes) where
   by_places : WritesByPlaces h.words n.words (place_of_word (halves_of h.job q x.place)) at bytes
@@ -32,5 +32,5 @@ module _ (h : Heap) (k : IsValid h) (idle : h.job ≡ Idle) (q : ℕ) (x : Place
   pub lent_valid : IsValid n
   lent_valid = written_valid h k q x there at bytes are fits n rest o.long by_places
 
-  pub lent_held : (state_of n).held ≡ insert (state_of h).held q (record { place = x.place; bytes = written x.bytes at bytes })
+  pub lent_held : (sliced_state_of n).held ≡ insert (sliced_state_of h).held q (record { place = x.place; bytes = written x.bytes at bytes })
   lent_held = written_held h k q x there at bytes are fits n rest o.long by_places

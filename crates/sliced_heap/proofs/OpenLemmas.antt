@@ -27,7 +27,7 @@ use Rattle.page_slots.proofs.CallerLemmas.{first_occupied, first_table, new_serv
 use Rattle.slice_model.specs.State.{Sliced, IsKept, Idle, occupied}
 use Rattle.slice_model.specs.Words.{HasWords}
 use Rattle.sliced_heap.specs.Heap.{Heap}
-use Rattle.sliced_heap.specs.Layout.{IsNew, IsValid, words_after_job, order_in, paging_at, paging_for, plan_of, state_of, tables_in}
+use Rattle.sliced_heap.specs.Layout.{IsNew, IsValid, words_after_job, sliced_order_in, sliced_paging, paging_for, plan_of, sliced_state_of, sliced_tables_in}
 
 -- the fields of a heap that was just opened
 pub record IsFirst (s : Settings) (n : ℕ) (h : Heap) : Type 0 where
@@ -40,7 +40,7 @@ pub record IsFirst (s : Settings) (n : ℕ) (h : Heap) : Type 0 where
   pub none_asked : h.asked ≡ 0
   pub none_taken : h.taken ≡ 0
   pub words : h.words ≡ replicate (h.settings.pages * h.settings.page_words) 0
-  pub tables : tables_in h ≡ new_tables h.settings.pages (length h.classes.sizes)
+  pub tables : sliced_tables_in h ≡ new_tables h.settings.pages (length h.classes.sizes)
   pub proxies : h.proxies ≡ no_proxies h.settings.proxies
   pub handles : AreBelowLimit h.proxies
   pub job : h.job ≡ Idle
@@ -49,36 +49,36 @@ module _ (s : Settings) (n : ℕ) (h : Heap) (f : IsFirst s n h) where
   abbrev first : Sliced
   first = record { held = empty; job = Idle }
 
-  state_is : state_of h ≡ first
+  state_is : sliced_state_of h ≡ first
   state_is =
-      ap (λ (x : Proxies). record { held = held_at (words_after_job (paging_at h) h.job x.places h.words) x.places; job = h.job }) f.proxies
+      ap (λ (x : Proxies). record { held = held_at (words_after_job (sliced_paging h) h.job x.places h.words) x.places; job = h.job }) f.proxies
       ∙ ap (λ m. record { held = m; job = h.job })
-      (map_values-empty (λ a. record { place = a; bytes = bytes_at (words_after_job (paging_at h) h.job empty h.words) a }))
+      (map_values-empty (λ a. record { place = a; bytes = bytes_at (words_after_job (sliced_paging h) h.job empty h.words) a }))
       ∙ ap (λ j. record { held = empty; job = j }) f.job
 
-  objects_are : objects (state_of h).held ≡ empty
+  objects_are : objects (sliced_state_of h).held ≡ empty
   objects_are = ap (λ (z : Sliced). objects z.held) state_is ∙ no_objects
 
-  many : length h.classes.sizes ≡ classes (paging_at h)
+  many : length h.classes.sizes ≡ classes (sliced_paging h)
   many = ap (λ (t : ClassTable). length t.sizes) f.table
 
-  few : classes (paging_at h) ≤ 67
+  few : classes (sliced_paging h) ≤ 67
   few = (are_sizes h.settings.page_words Words h.settings.page_size).few
 
-  serve : FitPages (paging_at h) (tables_in h)
+  serve : FitPages (sliced_paging h) (sliced_tables_in h)
   serve =
       let small = h.settings.small_region in
-      new_serve (paging_at h) (length h.classes.sizes) (tables_in h) (first_table h.settings.page_words Words h.settings.page_size) (omega arith) many
+      new_serve (sliced_paging h) (length h.classes.sizes) (sliced_tables_in h) (first_table h.settings.page_words Words h.settings.page_size) (omega arith) many
       f.tables
 
   kept_first : IsKept (plan_of h) first
   kept_first = record {
     numbers = λ q x e. absurd (let none : get {X = Placed} {R = nat_cmp} empty q ≡ None = get-empty nat_cmp q in let z : Some x ≡ None = sym e ∙ none in cc);
     job = tt;
-    sound = sound_empty (paging_at h);
+    sound = sound_empty (sliced_paging h);
   }
 
-  words_first : HasWords (paging_at h) first h.words
+  words_first : HasWords (sliced_paging h) first h.words
   words_first = record {
     held = λ q x e. absurd (let none : get {X = Placed} {R = nat_cmp} empty q ≡ None = get-empty nat_cmp q in let z : Some x ≡ None = sym e ∙ none in cc);
     done = λ k e i lt. absurd (let z : None ≡ Some k = e in cc);
@@ -97,12 +97,12 @@ module _ (s : Settings) (n : ℕ) (h : Heap) (f : IsFirst s n h) where
     quantum = f.quantum;
     words_long = ap length f.words ∙ length-replicate {A = ℕ} (h.settings.pages * h.settings.page_words) 0;
     kept = subst (IsKept (plan_of h)) (sym state_is) kept_first;
-    words = subst (λ z. HasWords (paging_at h) z h.words) (sym state_is) words_first;
+    words = subst (λ z. HasWords (sliced_paging h) z h.words) (sym state_is) words_first;
     serve = serve;
     occupied =
-        let o = first_occupied (length h.classes.sizes) h.settings.pages (paging_at h) _ _ in
-        let l : Occupies (paging_at h) empty (tables_in h) = subst (Occupies (paging_at h) empty) (sym f.tables) o in
-        subst (λ z. Occupies (paging_at h) (occupied (plan_of h) z) (tables_in h)) (sym state_is) l;
+        let o = first_occupied (length h.classes.sizes) h.settings.pages (sliced_paging h) _ _ in
+        let l : Occupies (sliced_paging h) empty (sliced_tables_in h) = subst (Occupies (sliced_paging h) empty) (sym f.tables) o in
+        subst (λ z. Occupies (sliced_paging h) (occupied (plan_of h) z) (sliced_tables_in h)) (sym state_is) l;
     numbers = ap (λ (x : Proxies). x.limit) f.proxies;
     handles = f.handles;
     live_long = ap length f.live ∙ length-replicate {A = ℕ} 128 0;
@@ -110,18 +110,18 @@ module _ (s : Settings) (n : ℕ) (h : Heap) (f : IsFirst s n h) where
         let l = few in
         let here : c < 128 = omega arith in
         ap (λ b. get_or b c 0) f.live ∙ get_or-replicate {A = ℕ} 128 c 0 0 here
-        ∙ sym (ap (λ o. live (paging_at h) o c) objects_are ∙ none_live (paging_at h) c));
-    needed = f.needed ∙ sym (ap (pages_needed (paging_at h)) objects_are ∙ none_needed (paging_at h));
+        ∙ sym (ap (λ o. live (sliced_paging h) o c) objects_are ∙ none_live (sliced_paging h) c));
+    needed = f.needed ∙ sym (ap (pages_needed (sliced_paging h)) objects_are ∙ none_needed (sliced_paging h));
     within = (let e = f.needed in omega arith);
     asked_all = f.none_asked ∙ sym (ap asked_bytes objects_are ∙ none_asked);
-    taken_all = f.none_taken ∙ sym (ap (taken_bytes (paging_at h)) objects_are ∙ none_taken (paging_at h));
+    taken_all = f.none_taken ∙ sym (ap (taken_bytes (sliced_paging h)) objects_are ∙ none_taken (sliced_paging h));
   }
 
   -- the order lists pages and numbers in rising order
-  order_first : order_in h ≡ first_order (paging_at h) h.settings.proxies
+  order_first : sliced_order_in h ≡ first_order (sliced_paging h) h.settings.proxies
   order_first =
-      let lists : partly_full_lists (classes (paging_at h)) h.lists ≡ replicate (classes (paging_at h)) [] =
-      ap (λ (t : Tables). partly_full_lists (classes (paging_at h)) t.lists) f.tables ∙ open_empty (classes (paging_at h)) (length h.classes.sizes) h.settings.pages in
+      let lists : partly_full_lists (classes (sliced_paging h)) h.lists ≡ replicate (classes (sliced_paging h)) [] =
+      ap (λ (t : Tables). partly_full_lists (classes (sliced_paging h)) t.lists) f.tables ∙ open_empty (classes (sliced_paging h)) (length h.classes.sizes) h.settings.pages in
       let pool = ap (λ (t : Tables). t.pool.free) f.tables in
       let spare = ap (λ (x : Proxies). x.free) f.proxies in
       λ i. record { pool = pool i; not_full = lists i; spare = spare i }

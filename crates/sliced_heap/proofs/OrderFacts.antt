@@ -10,7 +10,7 @@ use Rattle.slice_model.specs.State.{Plan, job_slot, placeholder, with_slot}
 use Rattle.slice_model.specs.Ordered.{IsOrderBeside, numbers_beside}
 use Rattle.slice_model.proofs.CallerLemmas.{get_beside, no_placeholder}
 use Rattle.sliced_heap.specs.Heap.{Heap}
-use Rattle.sliced_heap.specs.Layout.{IsValid, order_in, plan_of, state_of}
+use Rattle.sliced_heap.specs.Layout.{IsValid, plan_of, sliced_order_in, sliced_state_of}
 use Rattle.sliced_heap.proofs.Facts.{held_len, no_place, paging_ok}
 
 -- the spare numbers are those that neither an object nor the placeholder of a job has
@@ -24,13 +24,13 @@ module _ (plan : Plan) (m : Held) (none : get m plan.proxies ≡ None) (spare : 
   all_beside None all = all
   all_beside (Some k) all = (let more = len_fresh m plan.proxies (placeholder plan.paging k) none in omega arith)
 
-pub order_ok : (h : Heap) → IsValid h → IsOrderBeside (plan_of h) (state_of h) (order_in h)
+pub order_ok : (h : Heap) → IsValid h → IsOrderBeside (plan_of h) (sliced_state_of h) (sliced_order_in h)
 order_ok h k =
     let many = k.numbers in
-    let none = no_placeholder (plan_of h) (state_of h).held k.kept.numbers in
+    let none = no_placeholder (plan_of h) (sliced_state_of h).held k.kept.numbers in
     order_is (paging_ok h k) k.serve k.occupied (numbers_beside (plan_of h) (job_slot h.job)) h.proxies.free
-    (free_beside (plan_of h) (state_of h).held none h.proxies.free (job_slot h.job)
+    (free_beside (plan_of h) (sliced_state_of h).held none h.proxies.free (job_slot h.job)
     (λ q among. (let lt = k.handles.free_below q among in omega arith, no_place h k q (k.handles.not_live q among))))
     k.handles.once
-    (all_beside (plan_of h) (state_of h).held none h.proxies.free (job_slot h.job)
+    (all_beside (plan_of h) (sliced_state_of h).held none h.proxies.free (job_slot h.job)
     (let all = k.handles.counted in let l = held_len h k in omega arith))

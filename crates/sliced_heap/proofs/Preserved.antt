@@ -11,7 +11,7 @@ use Rattle.proxy_table.specs.Proxies.{AreBelowLimit}
 use Rattle.slice_model.specs.State.{Sliced, IsKept, occupied}
 use Rattle.slice_model.specs.Words.{HasWords}
 use Rattle.sliced_heap.specs.Heap.{Heap}
-use Rattle.sliced_heap.specs.Layout.{IsValid, paging_at, plan_of, state_of, tables_in}
+use Rattle.sliced_heap.specs.Layout.{IsValid, plan_of, sliced_paging, sliced_state_of, sliced_tables_in}
 use Rattle.sliced_heap.proofs.Facts.{plan_ok}
 use Rattle.sliced_heap.proofs.HeldFromWords.{held_shown}
 
@@ -23,19 +23,19 @@ pub record Becomes (h n : Heap) (s : Sliced) : Type 0 where
   pub job : n.job ≡ s.job
   pub long : length n.words ≡ length h.words
   pub kept : IsKept (plan_of h) s
-  pub words : HasWords (paging_at h) s n.words
+  pub words : HasWords (sliced_paging h) s n.words
   pub bytes : (q : ℕ) (x : Placed) → get s.held q ≡ Some x → AreBytes x.bytes
   pub addresses : n.proxies.places ≡ places s.held
   pub limit : n.proxies.limit ≡ h.proxies.limit
   pub handles : AreBelowLimit n.proxies
-  pub serve : FitPages (paging_at h) (tables_in n)
-  pub occupied : Occupies (paging_at h) (occupied (plan_of h) s) (tables_in n)
+  pub serve : FitPages (sliced_paging h) (sliced_tables_in n)
+  pub occupied : Occupies (sliced_paging h) (occupied (plan_of h) s) (sliced_tables_in n)
   pub live_long : length n.live ≡ 128
-  pub counted : (c : ℕ) → c < classes (paging_at h) → get_or n.live c 0 ≡ live (paging_at h) (objects s.held) c
-  pub needed : n.needed ≡ pages_needed (paging_at h) (objects s.held)
+  pub counted : (c : ℕ) → c < classes (sliced_paging h) → get_or n.live c 0 ≡ live (sliced_paging h) (objects s.held) c
+  pub needed : n.needed ≡ pages_needed (sliced_paging h) (objects s.held)
   pub within : n.needed ≤ h.settings.pages
   pub asked : n.asked ≡ asked_bytes (objects s.held)
-  pub taken : n.taken ≡ taken_bytes (paging_at h) (objects s.held)
+  pub taken : n.taken ≡ taken_bytes (sliced_paging h) (objects s.held)
 
 -- heap n with the job of the state s; the settings, the quantum and the classes are those of heap h
 abbrev with_rest : Heap → Heap → Sliced → Heap
@@ -52,7 +52,7 @@ module _ (h n : Heap) (k : IsValid h) (s : Sliced) (b : Becomes h n s) where
   good : AreStorable s.held
   good q x there = (let lt = b.kept.numbers q x there in let few = h.settings.few_proxies in omega arith, b.bytes q x there)
 
-  state_is : state_of (with_rest h n s) ≡ s
+  state_is : sliced_state_of (with_rest h n s) ≡ s
   state_is = ap (λ m. record { held = m; job = s.job })
       (held_shown (plan_of h) (plan_ok h k) s.held s.job b.kept n.proxies.places b.addresses n.words (b.long ∙ k.words_long) b.words good)
 
@@ -62,24 +62,24 @@ module _ (h n : Heap) (k : IsValid h) (s : Sliced) (b : Becomes h n s) where
     quantum = k.quantum;
     words_long = b.long ∙ k.words_long;
     kept = subst (IsKept (plan_of h)) (sym state_is) b.kept;
-    words = subst (λ z. HasWords (paging_at h) z n.words) (sym state_is) b.words;
+    words = subst (λ z. HasWords (sliced_paging h) z n.words) (sym state_is) b.words;
     serve = b.serve;
-    occupied = subst (λ z. Occupies (paging_at h) (occupied (plan_of h) z) (tables_in n)) (sym state_is) b.occupied;
+    occupied = subst (λ z. Occupies (sliced_paging h) (occupied (plan_of h) z) (sliced_tables_in n)) (sym state_is) b.occupied;
     numbers = b.limit ∙ k.numbers;
     handles = b.handles;
     live_long = b.live_long;
-    counted = λ c lt. b.counted c lt ∙ ap (λ (z : Sliced). live (paging_at h) (objects z.held) c) (sym state_is);
-    needed = b.needed ∙ ap (λ (z : Sliced). pages_needed (paging_at h) (objects z.held)) (sym state_is);
+    counted = λ c lt. b.counted c lt ∙ ap (λ (z : Sliced). live (sliced_paging h) (objects z.held) c) (sym state_is);
+    needed = b.needed ∙ ap (λ (z : Sliced). pages_needed (sliced_paging h) (objects z.held)) (sym state_is);
     within = b.within;
     asked_all = b.asked ∙ ap (λ (z : Sliced). asked_bytes (objects z.held)) (sym state_is);
-    taken_all = b.taken ∙ ap (λ (z : Sliced). taken_bytes (paging_at h) (objects z.held)) (sym state_is);
+    taken_all = b.taken ∙ ap (λ (z : Sliced). taken_bytes (sliced_paging h) (objects z.held)) (sym state_is);
   }
 
   pub becomes_valid : IsValid n
   becomes_valid = subst IsValid (sym is_rest) rest_valid
 
-  pub becomes_state : state_of n ≡ s
-  becomes_state = ap state_of is_rest ∙ state_is
+  pub becomes_state : sliced_state_of n ≡ s
+  becomes_state = ap sliced_state_of is_rest ∙ state_is
 
   pub becomes_plan : plan_of n ≡ plan_of h
   becomes_plan = ap plan_of is_rest

@@ -20,7 +20,7 @@ use Rattle.step_ledger.specs.Counting.{RoseBy}
 use Rattle.step_ledger.proofs.CallerLemmas.{rose_both, rose_by}
 use Rattle.sliced_heap.specs.Costs.{end_cost, part_cost}
 use Rattle.sliced_heap.specs.Heap.{Heap}
-use Rattle.sliced_heap.specs.Layout.{IsValid, order_in, paging_at, plan_of, state_of, tables_in, working_of}
+use Rattle.sliced_heap.specs.Layout.{IsValid, plan_of, sliced_order_in, sliced_paging, sliced_state_of, sliced_tables_in, working_of}
 use Rattle.sliced_heap.proofs.Facts.{held_bytes, places_are, plan_ok}
 use Rattle.sliced_heap.proofs.HeldFromWords.{AreEnded}
 use Rattle.sliced_heap.proofs.Preserved.{Becomes, becomes_state, becomes_valid}
@@ -43,17 +43,17 @@ pub record KeepsTables (h n : Heap) : Type 0 where
   pub needed : n.needed ≡ h.needed
   pub asked : n.asked ≡ h.asked
   pub taken : n.taken ≡ h.taken
-  pub tables : tables_in n ≡ tables_in h
+  pub tables : sliced_tables_in n ≡ sliced_tables_in h
   pub proxies : n.proxies ≡ h.proxies
   pub long : length n.words ≡ length h.words
 
 -- the heap n is valid if its job j has the same slot as before, and its words are right for j
 module _ (h n : Heap) (k : IsValid h) (same : KeepsTables h n) (j : Job) (is : n.job ≡ j)
-    (kept : IsKept (plan_of h) (record { held = (state_of h).held; job = j }))
-    (words : HasWords (paging_at h) (record { held = (state_of h).held; job = j }) n.words)
-    (slot : occupied (plan_of h) (record { held = (state_of h).held; job = j }) ≡ occupied (plan_of h) (state_of h)) where
+    (kept : IsKept (plan_of h) (record { held = (sliced_state_of h).held; job = j }))
+    (words : HasWords (sliced_paging h) (record { held = (sliced_state_of h).held; job = j }) n.words)
+    (slot : occupied (plan_of h) (record { held = (sliced_state_of h).held; job = j }) ≡ occupied (plan_of h) (sliced_state_of h)) where
   abbrev s : Sliced
-  s = record { held = (state_of h).held; job = j }
+  s = record { held = (sliced_state_of h).held; job = j }
 
   becomes : Becomes h n s
   becomes = record {
@@ -68,8 +68,8 @@ module _ (h n : Heap) (k : IsValid h) (same : KeepsTables h n) (j : Job) (is : n
     addresses = ap (λ z. z.places) same.proxies ∙ places_are h k;
     limit = ap (λ z. z.limit) same.proxies;
     handles = subst AreBelowLimit (sym same.proxies) k.handles;
-    serve = subst (FitPages (paging_at h)) (sym same.tables) k.serve;
-    occupied = subst (λ o. Occupies (paging_at h) o (tables_in n)) (sym slot) (subst (Occupies (paging_at h) (occupied (plan_of h) (state_of h)))
+    serve = subst (FitPages (sliced_paging h)) (sym same.tables) k.serve;
+    occupied = subst (λ o. Occupies (sliced_paging h) o (sliced_tables_in n)) (sym slot) (subst (Occupies (sliced_paging h) (occupied (plan_of h) (sliced_state_of h)))
         (sym same.tables) k.occupied);
     live_long = ap length same.live ∙ k.live_long;
     counted = λ c lt. ap (λ l. get_or l c 0) same.live ∙ k.counted c lt;
@@ -82,30 +82,30 @@ module _ (h n : Heap) (k : IsValid h) (same : KeepsTables h n) (j : Job) (is : n
   pub job_valid : IsValid n
   job_valid = becomes_valid h n k s becomes
 
-  pub job_state : state_of n ≡ record { held = (state_of h).held; job = j }
+  pub job_state : sliced_state_of n ≡ record { held = (sliced_state_of h).held; job = j }
   job_state = becomes_state h n k s becomes
 
 -- a slice leads from heap h, whose job is j with slot g, to heap n
 module _ (h n : Heap) (k : IsValid h) (same : KeepsTables h n) (j : Job) (at : h.job ≡ j) (g : JobSlot) (slot : job_slot j ≡ Some g) where
   abbrev m : Held
-  m = (state_of h).held
+  m = (sliced_state_of h).held
 
   kept_at : IsKept (plan_of h) (record { held = m; job = j })
   kept_at = subst (λ j. IsKept (plan_of h) (record { held = m; job = j })) at k.kept
 
-  words_at : HasWords (paging_at h) (record { held = m; job = j }) h.words
-  words_at = subst (λ j. HasWords (paging_at h) (record { held = m; job = j }) h.words) at k.words
+  words_at : HasWords (sliced_paging h) (record { held = m; job = j }) h.words
+  words_at = subst (λ j. HasWords (sliced_paging h) (record { held = m; job = j }) h.words) at k.words
 
   slot_at : job_slot h.job ≡ Some g
   slot_at = ap job_slot at ∙ slot
 
   -- the slice does the words that the quantum allows
-  module _ (does : DoesWords (state_of h).held j (min h.quantum (slot_words (paging_at h) g.class - g.done)) h.words n.words) where
+  module _ (does : DoesWords (sliced_state_of h).held j (min h.quantum (slot_words (sliced_paging h) g.class - g.done)) h.words n.words) where
     does_slice : DoesWords m j (words_of_slice (plan_of h) (job_slot j)) h.words n.words
     does_slice = subst (λ o. DoesWords m j (words_of_slice (plan_of h) o) h.words n.words) (sym slot) does
 
     -- some words of the job are left after the slice
-    module _ (left : done_after (plan_of h) g < slot_words (paging_at h) g.class) (is : n.job ≡ advanced j (done_after (plan_of h) g)) where
+    module _ (left : done_after (plan_of h) g < slot_words (sliced_paging h) g.class) (is : n.job ≡ advanced j (done_after (plan_of h) g)) where
       goes : IsSlice (plan_of h) (record { held = m; job = j }) (record { held = m; job = advanced j (done_after (plan_of h) g) })
       goes = subst (λ o. SliceOf (plan_of h) (record { held = m; job = j }) o (record { held = m; job = advanced j (done_after (plan_of h) g) })) (sym slot)
           (inl (record { left = left; whole = refl }))
@@ -114,11 +114,11 @@ module _ (h n : Heap) (k : IsValid h) (same : KeepsTables h n) (j : Job) (at : h
       kept_on = kept_slice (plan_of h) (plan_ok h k) (record { held = m; job = j })
           (record { held = m; job = advanced j (done_after (plan_of h) g) }) kept_at goes
 
-      words_on : HasWords (paging_at h) (record { held = m; job = advanced j (done_after (plan_of h) g) }) n.words
+      words_on : HasWords (sliced_paging h) (record { held = m; job = advanced j (done_after (plan_of h) g) }) n.words
       words_on = words_sliced (plan_of h) (plan_ok h k) h.words n.words m j kept_at words_at
           (record { held = m; job = advanced j (done_after (plan_of h) g) }) goes does_slice
 
-      same_slot : occupied (plan_of h) (record { held = m; job = advanced j (done_after (plan_of h) g) }) ≡ occupied (plan_of h) (state_of h)
+      same_slot : occupied (plan_of h) (record { held = m; job = advanced j (done_after (plan_of h) g) }) ≡ occupied (plan_of h) (sliced_state_of h)
       same_slot = slot_stays (plan_of h) m j (done_after (plan_of h) g) ∙ ap (λ j. with_slot (plan_of h) m (job_slot j)) (sym at)
 
       pub on_valid : IsValid n
@@ -131,30 +131,30 @@ module _ (h n : Heap) (k : IsValid h) (same : KeepsTables h n) (j : Job) (at : h
           does_slice
 
     -- all words of the job are done, and heap z is the one after `end`
-    module _ (all : done_after (plan_of h) g ≡ slot_words (paging_at h) g.class) (z : Heap)
-        (ends : EndsJob (paging_at h) (state_of h).held (record g { done = 0 }) (state_of z)) (same_words : z.words ≡ n.words) where
+    module _ (all : done_after (plan_of h) g ≡ slot_words (sliced_paging h) g.class) (z : Heap)
+        (ends : EndsJob (sliced_paging h) (sliced_state_of h).held (record g { done = 0 }) (sliced_state_of z)) (same_words : z.words ≡ n.words) where
       pub end_slices : Slices (plan_of h) (working_of h) (working_of z)
       end_slices = slices_at (plan_of h) (working_of h) j at (working_of z)
-          (subst (λ o. SliceOf (plan_of h) (record { held = m; job = j }) o (state_of z)) (sym slot) (inr (record { all = all; ends = from_fresh ends })))
+          (subst (λ o. SliceOf (plan_of h) (record { held = m; job = j }) o (sliced_state_of z)) (sym slot) (inr (record { all = all; ends = from_fresh ends })))
           (subst (DoesWords m j (words_of_slice (plan_of h) (job_slot j)) h.words) (sym same_words) does_slice)
         where
-          from_fresh : EndsJob (paging_at h) m (record g { done = 0 }) (state_of z) → EndsJob (paging_at h) m g (state_of z)
+          from_fresh : EndsJob (sliced_paging h) m (record g { done = 0 }) (sliced_state_of z) → EndsJob (sliced_paging h) m g (sliced_state_of z)
           from_fresh (inl over) = inl over
           from_fresh (inr c) = inr (record { two = c.two; object = c.object; beside = c.beside; carries = c.carries })
 
   -- when all words are done, the job becomes one that clears the same slot with no word done yet: the heap is still valid
-  module _ (ended : AreEnded (paging_at h) (state_of h).held g n.words) (is : n.job ≡ Clear (record g { done = 0 })) where
-    under : IsUnderWay (paging_at h) g
-    under = job_class (paging_at h) m j kept_at.job g slot
+  module _ (ended : AreEnded (sliced_paging h) (sliced_state_of h).held g n.words) (is : n.job ≡ Clear (record g { done = 0 })) where
+    under : IsUnderWay (sliced_paging h) g
+    under = job_class (sliced_paging h) m j kept_at.job g slot
 
     kept_vacant : IsKept (plan_of h) (record { held = m; job = Clear (record g { done = 0 }) })
     kept_vacant = record {
       numbers = kept_at.numbers;
       job = (let u = under.under_way in record { class = under.class; under_way = omega arith });
-      sound = subst (λ o. IsSound (paging_at h) (with_slot (plan_of h) m o)) slot kept_at.sound;
+      sound = subst (λ o. IsSound (sliced_paging h) (with_slot (plan_of h) m o)) slot kept_at.sound;
     }
 
-    words_vacant : HasWords (paging_at h) (record { held = m; job = Clear (record g { done = 0 }) }) n.words
+    words_vacant : HasWords (sliced_paging h) (record { held = m; job = Clear (record g { done = 0 }) }) n.words
     words_vacant = record {
       held = ended.idle.held;
       done = λ f e i lt. absurd (
@@ -165,13 +165,13 @@ module _ (h n : Heap) (k : IsValid h) (same : KeepsTables h n) (j : Job) (at : h
       zeros = λ w out beyond. ended.idle.zeros w out (λ f e. absurd (let e' : None ≡ Some f = e in cc));
     }
 
-    same_slot_vacant : occupied (plan_of h) (record { held = m; job = Clear (record g { done = 0 }) }) ≡ occupied (plan_of h) (state_of h)
+    same_slot_vacant : occupied (plan_of h) (record { held = m; job = Clear (record g { done = 0 }) }) ≡ occupied (plan_of h) (sliced_state_of h)
     same_slot_vacant = ap (with_slot (plan_of h) m) (sym slot_at)
 
     pub vacant_valid : IsValid n
     vacant_valid = job_valid h n k same (Clear (record g { done = 0 })) is kept_vacant words_vacant same_slot_vacant
 
-    pub vacant_state : state_of n ≡ record { held = (state_of h).held; job = Clear (record g { done = 0 }) }
+    pub vacant_state : sliced_state_of n ≡ record { held = (sliced_state_of h).held; job = Clear (record g { done = 0 }) }
     vacant_state = job_state h n k same (Clear (record g { done = 0 })) is kept_vacant words_vacant same_slot_vacant
 
 -- how the end of a job changes the order does not depend on `done`
@@ -184,19 +184,19 @@ same_end plan m g was now (Move q f) is = record { object = is.object; found = i
 -- A slice of n words of the job j, whose slot is g, which leaves the words w.
 module _ (h : Heap) (k : IsValid h) (j : Job) (at : h.job ≡ j) (g : JobSlot) (slot : job_slot j ≡ Some g) (w : List ℕ) (long : length w ≡ length h.words)
     (n : ℕ)
-    (n_is : n ≡ min h.quantum (get_or h.classes.sizes g.class 0 - g.done)) (does : DoesWords (state_of h).held j n h.words w)
-    (ended : g.done + n ≡ slot_words (paging_at h) g.class → AreEnded (paging_at h) (state_of h).held g w) where
-  sizes_are : get_or h.classes.sizes g.class 0 ≡ slot_words (paging_at h) g.class
+    (n_is : n ≡ min h.quantum (get_or h.classes.sizes g.class 0 - g.done)) (does : DoesWords (sliced_state_of h).held j n h.words w)
+    (ended : g.done + n ≡ slot_words (sliced_paging h) g.class → AreEnded (sliced_paging h) (sliced_state_of h).held g w) where
+  sizes_are : get_or h.classes.sizes g.class 0 ≡ slot_words (sliced_paging h) g.class
   sizes_are = ap (λ (t : ClassTable). get_or t.sizes g.class 0) k.table
 
-  under_way : g.done < slot_words (paging_at h) g.class
-  under_way = (job_class (paging_at h) (state_of h).held j (subst (λ j. IsJobOf (paging_at h) (state_of h).held j) at k.kept.job) g slot).under_way
+  under_way : g.done < slot_words (sliced_paging h) g.class
+  under_way = (job_class (sliced_paging h) (sliced_state_of h).held j (subst (λ j. IsJobOf (sliced_paging h) (sliced_state_of h).held j) at k.kept.job) g slot).under_way
 
-  count_is : n ≡ min h.quantum (slot_words (paging_at h) g.class - g.done)
+  count_is : n ≡ min h.quantum (slot_words (sliced_paging h) g.class - g.done)
   count_is = n_is ∙ ap (λ s. min h.quantum (s - g.done)) sizes_are
 
-  does_so : DoesWords (state_of h).held j (min h.quantum (slot_words (paging_at h) g.class - g.done)) h.words w
-  does_so = subst (λ n. DoesWords (state_of h).held j n h.words w) count_is does
+  does_so : DoesWords (sliced_state_of h).held j (min h.quantum (slot_words (sliced_paging h) g.class - g.done)) h.words w
+  does_so = subst (λ n. DoesWords (sliced_state_of h).held j n h.words w) count_is does
 
   done_is : g.done + n ≡ done_after (plan_of h) g
   done_is = ap (λ n. g.done + n) count_is
@@ -220,16 +220,16 @@ module _ (h : Heap) (k : IsValid h) (j : Job) (at : h.job ≡ j) (g : JobSlot) (
 
   -- some words are left after the slice
   module _ (left : g.done + n < get_or h.classes.sizes g.class 0) where
-    left_so : done_after (plan_of h) g < slot_words (paging_at h) g.class
+    left_so : done_after (plan_of h) g < slot_words (sliced_paging h) g.class
     left_so = (let e = sizes_are in let d = done_is in omega arith)
 
     -- the slice takes a step for each of its words
-    pub part_goes : (a b : ℕ) → RoseBy a b n → RoseBy a b (part_cost (plan_of h) (state_of h).held g)
+    pub part_goes : (a b : ℕ) → RoseBy a b n → RoseBy a b (part_cost (plan_of h) (sliced_state_of h).held g)
     part_goes a b rose =
         let c = count_is in
         let s = sizes_are in
-        let on = words_left h.quantum (slot_words (paging_at h) g.class - g.done) (end_cost (plan_of h) (state_of h).held g) (omega arith) in
-        rose_by a b n (part_cost (plan_of h) (state_of h).held g) (omega arith) rose
+        let on = words_left h.quantum (slot_words (sliced_paging h) g.class - g.done) (end_cost (plan_of h) (sliced_state_of h).held g) (omega arith) in
+        rose_by a b n (part_cost (plan_of h) (sliced_state_of h).held g) (omega arith) rose
 
     pub goes_on_valid : IsValid (record h { words = w; job = advanced j (g.done + n) })
     goes_on_valid = on_valid h (record h { words = w; job = advanced j (g.done + n) }) k (same_tables (advanced j (g.done + n))) j at g slot does_so left_so
@@ -239,20 +239,20 @@ module _ (h : Heap) (k : IsValid h) (j : Job) (at : h.job ≡ j) (g : JobSlot) (
     goes_on = on_slices h (record h { words = w; job = advanced j (g.done + n) }) k (same_tables (advanced j (g.done + n))) j at g slot does_so left_so
         (ap (advanced j) done_is)
 
-    pub goes_in_order : SlicesInOrder (plan_of h) (working_of h) (working_of (record h { words = w; job = advanced j (g.done + n) })) (order_in h)
-        (order_in (record h { words = w; job = advanced j (g.done + n) }))
+    pub goes_in_order : SlicesInOrder (plan_of h) (working_of h) (working_of (record h { words = w; job = advanced j (g.done + n) })) (sliced_order_in h)
+        (sliced_order_in (record h { words = w; job = advanced j (g.done + n) }))
     goes_in_order = record {
       slices = goes_on;
-      follows = subst (λ o. SliceFollows (plan_of h) (state_of h).held o (advanced j (g.done + n)) (order_in h) (order_in h)) (sym held_slot)
+      follows = subst (λ o. SliceFollows (plan_of h) (sliced_state_of h).held o (advanced j (g.done + n)) (sliced_order_in h) (sliced_order_in h)) (sym held_slot)
           (record { goes_on = λ _. refl; ends = λ all. absurd (let l = left_so in omega arith) });
     }
 
   -- all words are done after the slice
   module _ (past : get_or h.classes.sizes g.class 0 ≤ g.done + n) where
-    all : g.done + n ≡ slot_words (paging_at h) g.class
+    all : g.done + n ≡ slot_words (sliced_paging h) g.class
     all = (let e = sizes_are in let c = count_is in let u = under_way in omega arith)
 
-    pub all_zeros : (i : ℕ) → i < slot_words (paging_at h) g.class → get_or w (g.address + i) 0 ≡ 0
+    pub all_zeros : (i : ℕ) → i < slot_words (sliced_paging h) g.class → get_or w (g.address + i) 0 ≡ 0
     all_zeros = (ended all).zeros
 
     pub vacated_valid : IsValid (record h { words = w; job = Clear (record g { done = 0 }) })
@@ -261,43 +261,43 @@ module _ (h : Heap) (k : IsValid h) (j : Job) (at : h.job ≡ j) (g : JobSlot) (
 
     -- the slice takes a step for each word left, and those of the end of the job
     pub part_ends : (a b c : ℕ) → RoseBy a b n
-        → RoseBy b c (end_cost (plan_of h) (state_of (record h { words = w; job = Clear (record g { done = 0 }) })).held (record g { done = 0 }))
-        → RoseBy a c (part_cost (plan_of h) (state_of h).held g)
+        → RoseBy b c (end_cost (plan_of h) (sliced_state_of (record h { words = w; job = Clear (record g { done = 0 }) })).held (record g { done = 0 }))
+        → RoseBy a c (part_cost (plan_of h) (sliced_state_of h).held g)
     part_ends a b c words rest =
         let is = count_is in
         let total = all in
-        let last = words_last h.quantum (slot_words (paging_at h) g.class - g.done) (end_cost (plan_of h) (state_of h).held g) (omega arith) in
-        let same : end_cost (plan_of h) (state_of (record h { words = w; job = Clear (record g { done = 0 }) })).held (record g { done = 0 })
-        ≡ end_cost (plan_of h) (state_of h).held g =
+        let last = words_last h.quantum (slot_words (sliced_paging h) g.class - g.done) (end_cost (plan_of h) (sliced_state_of h).held g) (omega arith) in
+        let same : end_cost (plan_of h) (sliced_state_of (record h { words = w; job = Clear (record g { done = 0 }) })).held (record g { done = 0 })
+        ≡ end_cost (plan_of h) (sliced_state_of h).held g =
         ap (λ (y : Sliced). end_cost (plan_of h) y.held (record g { done = 0 }))
         (vacant_state h (record h { words = w; job = Clear (record g { done = 0 }) }) k (same_tables (Clear (record g { done = 0 }))) j at g slot (ended all) refl) in
-        rose_by a c _ (part_cost (plan_of h) (state_of h).held g) (omega arith) (rose_both a b c n _ words rest)
+        rose_by a c _ (part_cost (plan_of h) (sliced_state_of h).held g) (omega arith) (rose_both a b c n _ words rest)
 
-    pub goes_to_end : (z : Heap) → EndsJob (paging_at h) (state_of (record h { words = w; job = Clear (record g { done = 0 }) })).held (record g { done = 0 })
-        (state_of z)
+    pub goes_to_end : (z : Heap) → EndsJob (sliced_paging h) (sliced_state_of (record h { words = w; job = Clear (record g { done = 0 }) })).held (record g { done = 0 })
+        (sliced_state_of z)
         → z.words ≡ w → Slices (plan_of h) (working_of h) (working_of z)
     goes_to_end z ends same =
         end_slices h (record h { words = w; job = Clear (record g { done = 0 }) }) k (same_tables (Clear (record g { done = 0 }))) j at g slot does_so
         (sym done_is ∙ all) z
-        (subst (λ m. EndsJob (paging_at h) m (record g { done = 0 }) (state_of z))
+        (subst (λ m. EndsJob (sliced_paging h) m (record g { done = 0 }) (sliced_state_of z))
         (ap (λ (y : Sliced). y.held) (vacant_state h (record h { words = w; job = Clear (record g { done = 0 }) }) k
         (same_tables (Clear (record g { done = 0 }))) j at g slot
         (ended all) refl)) ends) same
 
     pub ends_in_order : (z : Heap)
-        → EndsJob (paging_at h) (state_of (record h { words = w; job = Clear (record g { done = 0 }) })).held (record g { done = 0 }) (state_of z)
-        → EndFollows (plan_of h) (state_of (record h { words = w; job = Clear (record g { done = 0 }) })).held (record g { done = 0 }) z.job (order_in h) (order_in z)
-        → z.words ≡ w → SlicesInOrder (plan_of h) (working_of h) (working_of z) (order_in h) (order_in z)
+        → EndsJob (sliced_paging h) (sliced_state_of (record h { words = w; job = Clear (record g { done = 0 }) })).held (record g { done = 0 }) (sliced_state_of z)
+        → EndFollows (plan_of h) (sliced_state_of (record h { words = w; job = Clear (record g { done = 0 }) })).held (record g { done = 0 }) z.job (sliced_order_in h) (sliced_order_in z)
+        → z.words ≡ w → SlicesInOrder (plan_of h) (working_of h) (working_of z) (sliced_order_in h) (sliced_order_in z)
     ends_in_order z ends follows same =
-        let held : (state_of (record h { words = w; job = Clear (record g { done = 0 }) })).held ≡ (state_of h).held =
+        let held : (sliced_state_of (record h { words = w; job = Clear (record g { done = 0 }) })).held ≡ (sliced_state_of h).held =
         ap (λ (y : Sliced). y.held) (vacant_state h (record h { words = w; job = Clear (record g { done = 0 }) }) k
         (same_tables (Clear (record g { done = 0 }))) j at g slot (ended all) refl) in
-        let last : EndFollows (plan_of h) (state_of h).held (record g { done = 0 }) z.job (order_in h) (order_in z) =
-        subst (λ m. EndFollows (plan_of h) m (record g { done = 0 }) z.job (order_in h) (order_in z)) held follows in
+        let last : EndFollows (plan_of h) (sliced_state_of h).held (record g { done = 0 }) z.job (sliced_order_in h) (sliced_order_in z) =
+        subst (λ m. EndFollows (plan_of h) m (record g { done = 0 }) z.job (sliced_order_in h) (sliced_order_in z)) held follows in
         record {
           slices = goes_to_end z ends same;
-          follows = subst (λ o. SliceFollows (plan_of h) (state_of h).held o z.job (order_in h) (order_in z)) (sym held_slot) (record {
+          follows = subst (λ o. SliceFollows (plan_of h) (sliced_state_of h).held o z.job (sliced_order_in h) (sliced_order_in z)) (sym held_slot) (record {
             goes_on = λ left. absurd (let a = all in let d = done_is in omega arith);
-            ends = λ _. same_end (plan_of h) (state_of h).held g (order_in h) (order_in z) z.job last;
+            ends = λ _. same_end (plan_of h) (sliced_state_of h).held g (sliced_order_in h) (sliced_order_in z) z.job last;
           });
         }

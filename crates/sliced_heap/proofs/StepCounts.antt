@@ -18,10 +18,10 @@ use Rattle.slice_model.specs.declared.job_slot.JobSlot.{JobSlot}
 use Rattle.slice_model.specs.State.{Job, Plan, Sliced, Idle, Clear, Move, occupied, placeholder, with_slot}
 use Rattle.step_ledger.specs.Counting.{RoseAtMost, RoseBy}
 use Rattle.sliced_heap.specs.declared.open_heap.OpenHeap.{OpenHeap}
-use Rattle.sliced_heap.specs.Heap.{seen}
-use Rattle.sliced_heap.specs.Layout.{order_in, plan_of, state_of}
-use Rattle.sliced_heap.specs.Shown.{SlicedState, shown}
-use Rattle.sliced_heap.specs.Costs.{end_cost, free_cost, job_cost, malloc_cost, must_move, part_cost, removing_cost, slice_cost, words_steps}
+use Rattle.sliced_heap.specs.Heap.{sliced_seen}
+use Rattle.sliced_heap.specs.Layout.{plan_of, sliced_order_in, sliced_state_of}
+use Rattle.sliced_heap.specs.Shown.{SlicedState, sliced_shown}
+use Rattle.sliced_heap.specs.Costs.{end_cost, job_cost, must_move, part_cost, removing_cost, slice_cost, sliced_free_cost, sliced_malloc_cost, words_steps}
 
 module _ (p : Paging) (m : Held) (x : Placed) where
   abbrev here : ℕ
@@ -105,7 +105,7 @@ end_within plan m k = by (must_move plan.paging (with_slot plan m (Some k)) (pla
 part_within : (plan : Plan) (m : Held) (k : JobSlot) → part_cost plan m k ≤ plan.quantum + 14
 part_within plan m k = words_within plan.quantum (slot_words plan.paging k.class - k.done) (end_cost plan m k) 14 (end_within plan m k)
 
-malloc_within : (plan : Plan) (s : Sliced) (o : Order) (bytes : ℕ) (r : Result Handle SliceRefusal) → malloc_cost plan s o bytes r ≤ 17
+malloc_within : (plan : Plan) (s : Sliced) (o : Order) (bytes : ℕ) (r : Result Handle SliceRefusal) → sliced_malloc_cost plan s o bytes r ≤ 17
 malloc_within plan s o bytes (Ok h) = (let t = take_few plan.paging (occupied plan s) o (class_for plan.paging bytes) in omega arith)
 malloc_within plan s o bytes (Err refusal.Size) = omega arith
 malloc_within plan s o bytes (Err refusal.Proxy) = omega arith
@@ -134,7 +134,7 @@ removing_within plan s o x =
     by true n v w = omega arith
     by false n v w = omega arith
 
-free_within : (plan : Plan) (s : Sliced) (o : Order) (h : ℕ) (f : Option SliceFault) → free_cost plan s o h f ≤ 23 + plan.quantum
+free_within : (plan : Plan) (s : Sliced) (o : Order) (h : ℕ) (f : Option SliceFault) → sliced_free_cost plan s o h f ≤ 23 + plan.quantum
 free_within plan s o h (Some e) = omega arith
 free_within plan s o h None = by (get s.held h)
   where
@@ -147,16 +147,16 @@ rose_within : (a b m n : ℕ) → m ≤ n → RoseBy a b m → RoseAtMost a b n
 rose_within a b m n le rose = (let k = rose.kept in let l = rose.bound in record { kept = omega arith; bound = omega arith })
 
 -- the bounds of the public calls, where s is the state that contracts show of the open heap o
-module _ (o : OpenHeap) (s : SlicedState) (is : shown (Some o) ≡ s) (a b : ℕ) where
+module _ (o : OpenHeap) (s : SlicedState) (is : sliced_shown (Some o) ≡ s) (a b : ℕ) where
   pub malloc_bound : (bytes : ℕ) (r : Result Handle SliceRefusal)
-      → RoseBy a b (malloc_cost (plan_of (seen o)) (state_of (seen o)) (order_in (seen o)) bytes r) → RoseAtMost a b 17
-  malloc_bound bytes r = rose_within a b _ 17 (malloc_within (plan_of (seen o)) (state_of (seen o)) (order_in (seen o)) bytes r)
+      → RoseBy a b (sliced_malloc_cost (plan_of (sliced_seen o)) (sliced_state_of (sliced_seen o)) (sliced_order_in (sliced_seen o)) bytes r) → RoseAtMost a b 17
+  malloc_bound bytes r = rose_within a b _ 17 (malloc_within (plan_of (sliced_seen o)) (sliced_state_of (sliced_seen o)) (sliced_order_in (sliced_seen o)) bytes r)
 
-  pub free_bound : (h : ℕ) (f : Option SliceFault) → RoseBy a b (free_cost (plan_of (seen o)) (state_of (seen o)) (order_in (seen o)) h f)
+  pub free_bound : (h : ℕ) (f : Option SliceFault) → RoseBy a b (sliced_free_cost (plan_of (sliced_seen o)) (sliced_state_of (sliced_seen o)) (sliced_order_in (sliced_seen o)) h f)
       → RoseAtMost a b (23 + s.quantum)
   free_bound h f rose = subst (λ (s : SlicedState). RoseAtMost a b (23 + s.quantum)) is
-      (rose_within a b _ _ (free_within (plan_of (seen o)) (state_of (seen o)) (order_in (seen o)) h f) rose)
+      (rose_within a b _ _ (free_within (plan_of (sliced_seen o)) (sliced_state_of (sliced_seen o)) (sliced_order_in (sliced_seen o)) h f) rose)
 
-  pub slice_bound : RoseBy a b (slice_cost (plan_of (seen o)) (state_of (seen o))) → RoseAtMost a b (15 + s.quantum)
+  pub slice_bound : RoseBy a b (slice_cost (plan_of (sliced_seen o)) (sliced_state_of (sliced_seen o))) → RoseAtMost a b (15 + s.quantum)
   slice_bound rose = subst (λ (s : SlicedState). RoseAtMost a b (15 + s.quantum)) is
-      (rose_within a b _ _ (slice_within (plan_of (seen o)) (state_of (seen o))) rose)
+      (rose_within a b _ _ (slice_within (plan_of (sliced_seen o)) (sliced_state_of (sliced_seen o))) rose)

@@ -9,7 +9,7 @@ use Rattle.slice_model.specs.Runs.{Position, IsOutOfReach}
 use Rattle.sliced_heap.specs.Halves.{halves_of}
 use Rattle.sliced_heap.specs.declared.halves.Halves.{Halves}
 use Rattle.sliced_heap.specs.Heap.{Heap}
-use Rattle.sliced_heap.specs.Layout.{state_of}
+use Rattle.sliced_heap.specs.Layout.{sliced_state_of}
 
 -- the model's result of a read, from the result of the function and the bytes then in the caller's buffer: those bytes, or the fault
 abbrev pub bytes_or_fault : {T : Type 0} → Result T AccessFault → List ℕ → Result (List ℕ) AccessFault
@@ -22,27 +22,27 @@ access_fault (Ok u) = None
 access_fault (Err e) = Some e
 
 -- in heap h object `position.number` is live and has `count` bytes from byte `position.from` on, and its words lie in the halves s
-pub record HoldsBytesAt (h : Heap) (position : Position) (count : ℕ) (s : Halves) : Type 0 where
+pub record HoldsSlicedBytes (h : Heap) (position : Position) (count : ℕ) (s : Halves) : Type 0 where
   pub object : Placed
-  pub found : get (state_of h).held position.number ≡ Some object
+  pub found : get (sliced_state_of h).held position.number ≡ Some object
   pub within : position.from + count ≤ length object.bytes
   pub halves : s ≡ halves_of h.job position.number object.place
 
 -- what `find` returns for object `position.number` and `count` bytes from byte `position.from` on: the halves in which its words lie, or a fault with its cause
-abbrev pub IsFound : Heap → Position → ℕ → Result Halves AccessFault → Type 0
-IsFound h position count (Ok s) = HoldsBytesAt h position count s
-IsFound h position count (Err e) = IsOutOfReach (objects (state_of h).held) position count e
+abbrev pub IsSlicedFound : Heap → Position → ℕ → Result Halves AccessFault → Type 0
+IsSlicedFound h position count (Ok s) = HoldsSlicedBytes h position count s
+IsSlicedFound h position count (Err e) = IsOutOfReach (objects (sliced_state_of h).held) position count e
 
 -- the steps of `find`: the proxy and, if the object is live, its header
-abbrev pub find_steps : Result Halves AccessFault → ℕ
-find_steps (Ok s) = 2
-find_steps (Err access.Unknown) = 1
-find_steps (Err access.Range) = 2
+abbrev pub sliced_find_steps : Result Halves AccessFault → ℕ
+sliced_find_steps (Ok s) = 2
+sliced_find_steps (Err access.Unknown) = 1
+sliced_find_steps (Err access.Range) = 2
 
 -- the address of object n of the objects m; none if it is not live
 abbrev pub place_in : Held → ℕ → Option ℕ
 place_in m n = option_map (λ (x : Placed). x.place) (get m n)
 
 -- the number of bytes of object n of the objects m; none if it is not live
-abbrev pub length_in : Held → ℕ → Option ℕ
-length_in m n = option_map (λ (x : Placed). length x.bytes) (get m n)
+abbrev pub sliced_length_in : Held → ℕ → Option ℕ
+sliced_length_in m n = option_map (λ (x : Placed). length x.bytes) (get m n)

@@ -18,12 +18,12 @@ use Rattle.slice_model.specs.declared.answers.SliceRefusal.TheVariants as refusa
 
 -- A malloc of `bytes` bytes: finding the class, taking its next slot, binding a proxy (2), and writing the header. A refused malloc only finds the class, and
 -- for `Busy` also looks for a slot (2).
-abbrev pub malloc_cost : Plan → Sliced → Order → ℕ → Result Handle SliceRefusal → ℕ
-malloc_cost plan s o bytes (Ok h) = 4 + steps_to_take plan.paging (occupied plan s) o (class_for plan.paging bytes)
-malloc_cost plan s o bytes (Err refusal.Size) = 1
-malloc_cost plan s o bytes (Err refusal.Proxy) = 1
-malloc_cost plan s o bytes (Err refusal.Space) = 1
-malloc_cost plan s o bytes (Err refusal.Busy) = 3
+abbrev pub sliced_malloc_cost : Plan → Sliced → Order → ℕ → Result Handle SliceRefusal → ℕ
+sliced_malloc_cost plan s o bytes (Ok h) = 4 + steps_to_take plan.paging (occupied plan s) o (class_for plan.paging bytes)
+sliced_malloc_cost plan s o bytes (Err refusal.Size) = 1
+sliced_malloc_cost plan s o bytes (Err refusal.Proxy) = 1
+sliced_malloc_cost plan s o bytes (Err refusal.Space) = 1
+sliced_malloc_cost plan s o bytes (Err refusal.Busy) = 3
 
 -- whether a free of the object x of the arrangement m must move another object into its slot: the test of `MustMove`
 abbrev pub must_move : Paging → Held → Placed → Bool
@@ -73,17 +73,17 @@ abbrev pub freed_cost : Plan → Sliced → Order → ℕ → ℕ
 freed_cost plan s o h = elim (get s.held h) [ None ↦ 0 | Some x ↦ removing_cost plan s o x ]
 
 -- a free of object h: reading its proxy, and removing it with the first slice of the job; if refused, only the proxy
-abbrev pub free_cost : Plan → Sliced → Order → ℕ → Option SliceFault → ℕ
-free_cost plan s o h None = 1 + freed_cost plan s o h
-free_cost plan s o h (Some e) = 1
+abbrev pub sliced_free_cost : Plan → Sliced → Order → ℕ → Option SliceFault → ℕ
+sliced_free_cost plan s o h None = 1 + freed_cost plan s o h
+sliced_free_cost plan s o h (Some e) = 1
 
 -- a read or a write of `count` bytes from byte `from` on: the proxy, the header, and the words that hold one of the bytes
-abbrev pub access_steps : {T : Type 0} → Result T AccessFault → ℕ → ℕ → ℕ
-access_steps (Ok u) from count = 2 + words_touched from count
-access_steps (Err access.Unknown) from count = 1
-access_steps (Err access.Range) from count = 2
+abbrev pub sliced_access_steps : {T : Type 0} → Result T AccessFault → ℕ → ℕ → ℕ
+sliced_access_steps (Ok u) from count = 2 + words_touched from count
+sliced_access_steps (Err access.Unknown) from count = 1
+sliced_access_steps (Err access.Range) from count = 2
 
 -- the length of an object: the proxy and, if the object is live, the header
-abbrev pub length_steps : {T : Type 0} → Option T → ℕ
-length_steps (Some n) = 2
-length_steps None = 1
+abbrev pub sliced_length_steps : {T : Type 0} → Option T → ℕ
+sliced_length_steps (Some n) = 2
+sliced_length_steps None = 1

@@ -15,18 +15,18 @@ abbrev pub class_figures : Plan → Sliced → ℕ → Figures
 class_figures plan s c = record (figures_of plan.paging (occupied plan s) c) { live = live plan.paging (objects s.held) c }
 
 -- the figures of class c in the state s; none if there is no such class
-abbrev pub figures_in : Plan → Sliced → ℕ → Option Figures
-figures_in plan s c = if nat_lt c (classes plan.paging) then Some (class_figures plan s c) else None
+abbrev pub sliced_figures_in : Plan → Sliced → ℕ → Option Figures
+sliced_figures_in plan s c = if nat_lt c (classes plan.paging) then Some (class_figures plan s c) else None
 
 -- the figures of the whole heap in the state s: those of the objects and the job's placeholder, but the live objects and the bytes asked are the objects' alone
-abbrev pub totals_in : Plan → Sliced → Totals
-totals_in plan s = record (totals_of plan.paging (occupied plan s)) { live = len s.held; asked = asked_bytes (objects s.held) }
+abbrev pub sliced_totals_in : Plan → Sliced → Totals
+sliced_totals_in plan s = record (totals_of plan.paging (occupied plan s)) { live = len s.held; asked = asked_bytes (objects s.held) }
 
 -- the words of the slot of object n of the objects m, which a free of n clears; none if n is not live
 abbrev pub slot_words_in : Plan → Held → ℕ → Option ℕ
 slot_words_in plan m n = option_map (λ (x : Placed). slot_words plan.paging (class_at plan.paging x)) (get m n)
 
 -- the steps of a call for the words of an object's slot: the proxy and, if the object is live, the header and the class
-abbrev pub slot_words_steps : {T : Type 0} → Option T → ℕ
-slot_words_steps (Some n) = 3
-slot_words_steps None = 1
+abbrev pub sliced_words_steps : {T : Type 0} → Option T → ℕ
+sliced_words_steps (Some n) = 3
+sliced_words_steps None = 1

@@ -35,8 +35,8 @@ job_of (pending.Clear k) = Clear k
 job_of (pending.Move h k) = Move h.0 k
 
 -- the open heap of the code as the record that the definitions use
-abbrev pub seen : OpenHeap → Heap
-seen h = record {
+abbrev pub sliced_seen : OpenHeap → Heap
+sliced_seen h = record {
   settings = h.settings;
   quantum = h.quantum;
   classes = h.tables.classes;

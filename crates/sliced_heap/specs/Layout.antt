@@ -33,8 +33,8 @@ abbrev pub paging_for : Settings → Paging
 paging_for s = paging_of (profile_at s) Words (first_bounds (profile_at s) Words)
 
 -- the pages and classes of an open heap
-abbrev pub paging_at : Heap → Paging
-paging_at h = paging_for h.settings
+abbrev pub sliced_paging : Heap → Paging
+sliced_paging h = paging_for h.settings
 
 -- the model's settings of an open heap: its pages and classes, its proxies and its quantum
 abbrev pub plan_of : Heap → Plan
@@ -53,20 +53,20 @@ words_after_job p (Clear k) places words = cleared words (k.address + k.done) (s
 words_after_job p (Move q k) places words = words_after_move p k (get places q) words
 
 -- the model's state: the objects, whose bytes are read from the words as they will be when the job is done (`words_after_job`), and the job
-abbrev pub state_of : Heap → Sliced
-state_of h = record { held = held_at (words_after_job (paging_at h) h.job h.proxies.places h.words) h.proxies.places; job = h.job }
+abbrev pub sliced_state_of : Heap → Sliced
+sliced_state_of h = record { held = held_at (words_after_job (sliced_paging h) h.job h.proxies.places h.words) h.proxies.places; job = h.job }
 
 -- the model's state, and the words as they are now: a pending job has changed only some of those of its slot
 abbrev pub working_of : Heap → HeapWithWords
-working_of h = record { state = state_of h; words = h.words }
+working_of h = record { state = sliced_state_of h; words = h.words }
 
 -- the heap's tables of used slots, page lists and free pages
-abbrev pub tables_in : Heap → Tables
-tables_in h = tables h.maps h.lists h.pool
+abbrev pub sliced_tables_in : Heap → Tables
+sliced_tables_in h = tables h.maps h.lists h.pool
 
 -- the order: what the heap uses next, by its tables and its list of spare numbers
-abbrev pub order_in : Heap → Order
-order_in h = order_of (classes (paging_at h)) (tables_in h) h.proxies.free
+abbrev pub sliced_order_in : Heap → Order
+sliced_order_in h = order_of (classes (sliced_paging h)) (sliced_tables_in h) h.proxies.free
 
 -- the number of pages, 1 or 0, that one more object adds to those of n objects, with m slots to a page
 abbrev pub opens : ℕ → ℕ → ℕ
@@ -81,22 +81,22 @@ pub record IsValid (h : Heap) : Type 0 where
   pub table : h.classes ≡ table_of h.settings.page_words Words
   pub quantum : 1 ≤ h.quantum
   pub words_long : length h.words ≡ h.settings.pages * h.settings.page_words
-  pub kept : IsKept (plan_of h) (state_of h)
-  pub words : HasWords (paging_at h) (state_of h) h.words
-  pub serve : FitPages (paging_at h) (tables_in h)
-  pub occupied : Occupies (paging_at h) (occupied (plan_of h) (state_of h)) (tables_in h)
+  pub kept : IsKept (plan_of h) (sliced_state_of h)
+  pub words : HasWords (sliced_paging h) (sliced_state_of h) h.words
+  pub serve : FitPages (sliced_paging h) (sliced_tables_in h)
+  pub occupied : Occupies (sliced_paging h) (occupied (plan_of h) (sliced_state_of h)) (sliced_tables_in h)
   pub numbers : h.proxies.limit ≡ h.settings.proxies
   pub handles : AreBelowLimit h.proxies
   pub live_long : length h.live ≡ 128
-  pub counted : (c : ℕ) → c < classes (paging_at h) → slice_index h.live c ≡ live (paging_at h) (objects (state_of h).held) c
-  pub needed : h.needed ≡ pages_needed (paging_at h) (objects (state_of h).held)
+  pub counted : (c : ℕ) → c < classes (sliced_paging h) → slice_index h.live c ≡ live (sliced_paging h) (objects (sliced_state_of h).held) c
+  pub needed : h.needed ≡ pages_needed (sliced_paging h) (objects (sliced_state_of h).held)
   pub within : h.needed ≤ h.settings.pages
-  pub asked_all : h.asked ≡ asked_bytes (objects (state_of h).held)
-  pub taken_all : h.taken ≡ taken_bytes (paging_at h) (objects (state_of h).held)
+  pub asked_all : h.asked ≡ asked_bytes (objects (sliced_state_of h).held)
+  pub taken_all : h.taken ≡ taken_bytes (sliced_paging h) (objects (sliced_state_of h).held)
 
 -- h is a heap that was just opened with the settings s and slices of at most n words: it has no object and no job, and all its words are 0
 pub record IsNew (s : Settings) (n : ℕ) (h : Heap) : Type 0 where
   pub settings : h.settings ≡ s
   pub quantum : h.quantum ≡ n
   pub working : working_of h ≡ record { state = record { held = empty; job = Idle }; words = replicate (s.pages * s.page_words) 0 }
-  pub order : order_in h ≡ first_order (paging_for s) s.proxies
+  pub order : sliced_order_in h ≡ first_order (paging_for s) s.proxies

@@ -15,8 +15,8 @@ use Rattle.slice_model.specs.Ordered.{IsOrderBeside}
 use Rattle.slice_model.specs.Runs.{IsConsistent, HeapWithWords}
 use Rattle.slice_model.specs.declared.job_slot.JobSlot.{JobSlot}
 use Rattle.sliced_heap.specs.declared.open_heap.OpenHeap.{OpenHeap}
-use Rattle.sliced_heap.specs.Heap.{seen}
-use Rattle.sliced_heap.specs.Layout.{IsValid, order_in, paging_for, profile_at, state_of}
+use Rattle.sliced_heap.specs.Heap.{sliced_seen}
+use Rattle.sliced_heap.specs.Layout.{IsValid, paging_for, profile_at, sliced_order_in, sliced_state_of}
 
 -- the state of a sliced heap, closed or open
 pub record SlicedState : Type 0 where
@@ -35,8 +35,8 @@ pub record SlicedState : Type 0 where
   pub order : Order
 
 -- the state of a closed heap
-abbrev pub closed_state : SlicedState
-closed_state = record { is_open = false; profile = no_profile; quantum = 0; held = map.empty; job = Idle; words = []; order = record { pool = []; not_full = []; spare = [] } }
+abbrev pub closed_sliced : SlicedState
+closed_sliced = record { is_open = false; profile = no_profile; quantum = 0; held = map.empty; job = Idle; words = []; order = record { pool = []; not_full = []; spare = [] } }
 
 -- the settings of the state s as the model has them: pages and classes, proxies, quantum
 abbrev pub plan_in : SlicedState → Plan
@@ -60,7 +60,7 @@ opened_state s quantum = record {
 
 -- The rules that each open heap keeps: its settings are valid; its objects, its job and its words fit each other; the region has the words of all pages;
 -- and the order lists the free pages, partly full pages and spare numbers that the objects and the job leave.
-pub record KeepsRules (s : SlicedState) : Type 0 where
+pub record KeepsSlicedRules (s : SlicedState) : Type 0 where
   pub plan : IsPlan (plan_in s)
   pub consistent : IsConsistent (plan_in s) (working_in s)
   pub region : length s.words ≡ s.profile.pages * s.profile.page_words
@@ -68,29 +68,29 @@ pub record KeepsRules (s : SlicedState) : Type 0 where
 
 -- a heap that was in the state `old` is in the state `new`: it is open if and only if it was, and has the same settings, quantum and number
 -- of words
-pub record StaysOpen (old new : SlicedState) : Type 0 where
+pub record StaysSlicedOpen (old new : SlicedState) : Type 0 where
   pub is_open : new.is_open ≡ old.is_open
   pub profile : new.profile ≡ old.profile
   pub quantum : new.quantum ≡ old.quantum
   pub region : length new.words ≡ length old.words
 
 -- the state that contracts show of a `SlicedHeap` with this open heap in it; the closed state if there is none
-abbrev pub shown : Option OpenHeap → SlicedState
-shown None = closed_state
-shown (Some h) = record {
+abbrev pub sliced_shown : Option OpenHeap → SlicedState
+sliced_shown None = closed_sliced
+sliced_shown (Some h) = record {
   is_open = true;
   profile = profile_at h.settings;
   quantum = h.quantum;
-  held = (state_of (seen h)).held;
-  job = (seen h).job;
+  held = (sliced_state_of (sliced_seen h)).held;
+  job = (sliced_seen h).job;
   words = h.region;
-  order = order_in (seen h);
+  order = sliced_order_in (sliced_seen h);
 }
 
 -- the invariant of a heap that may be closed
-abbrev pub IsValidIn : Option OpenHeap → Type 0
-IsValidIn None = Unit {0}
-IsValidIn (Some h) = IsValid (seen h)
+abbrev pub IsValidSlicedIn : Option OpenHeap → Type 0
+IsValidSlicedIn None = Unit {0}
+IsValidSlicedIn (Some h) = IsValid (sliced_seen h)
 
 -- From here on: the state as nested pairs, which the trait `Model` needs. A job is a pair of the moving object's number, if there is one, and the slot.
 abbrev pub JobParts : Type 0
@@ -123,12 +123,12 @@ abbrev pub job_code : Coded Job
 job_code = code_by JobParts (coded_option (coded× (coded_option coded_ℕ) (coded× coded_ℕ (coded× coded_ℕ coded_ℕ)))) parts_of_job job_of_parts job_again
 
 -- the state as nested pairs, in the order of its fields
-abbrev pub StateParts : Type 0
-StateParts = Bool × (Profile × (ℕ × (Held × (Job × (List ℕ × Order)))))
+abbrev pub SlicedParts : Type 0
+SlicedParts = Bool × (Profile × (ℕ × (Held × (Job × (List ℕ × Order)))))
 
 -- the conversion of the state to nested pairs and back
 abbrev pub sliced_code : Coded SlicedState
-sliced_code = code_by StateParts (coded× coded_bool (coded× profile_code (coded× coded_ℕ
+sliced_code = code_by SlicedParts (coded× coded_bool (coded× profile_code (coded× coded_ℕ
     (coded× (map.code coded_ℕ placed_code) (coded× job_code (coded× (coded_list coded_ℕ) order_code))))))
     (λ s. (s.is_open, (s.profile, (s.quantum, (s.held, (s.job, (s.words, s.order)))))))
     (λ q. record {

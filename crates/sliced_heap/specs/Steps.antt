@@ -13,7 +13,7 @@ use Rattle.slice_model.specs.State.{occupied, placeholder, Clear, Move}
 use Rattle.slice_model.specs.Steps.{BeginsMove, IsBeside, fresh_slot}
 use Rattle.slice_model.specs.declared.answers.SliceFault.{SliceFault}
 use Rattle.sliced_heap.specs.Heap.{Heap}
-use Rattle.sliced_heap.specs.Layout.{order_in, paging_at, plan_of, state_of}
+use Rattle.sliced_heap.specs.Layout.{plan_of, sliced_order_in, sliced_paging, sliced_state_of}
 
 -- the fault of a free from the function's result; None if it was not refused
 abbrev pub fault_in : {T : Type 0} → Result T SliceFault → Option SliceFault
@@ -23,36 +23,36 @@ fault_in (Err e) = Some e
 -- what `start_clearing` does: object q is removed, and its slot k is what the new job clears; no word of the region changes
 pub record StartsClearing (old : Heap) (q : ℕ) (k : JobSlot) (new : Heap) : Type 0 where
   pub object : Placed
-  pub found : get (state_of old).held q ≡ Some object
-  pub slot : k ≡ fresh_slot object.place (class_at (paging_at old) object)
-  pub state : state_of new ≡ record { held = remove (state_of old).held q; job = Clear k }
+  pub found : get (sliced_state_of old).held q ≡ Some object
+  pub slot : k ≡ fresh_slot object.place (class_at (sliced_paging old) object)
+  pub state : sliced_state_of new ≡ record { held = remove (sliced_state_of old).held q; job = Clear k }
   pub job : new.job ≡ Clear k
   pub words : new.words ≡ old.words
   pub plan : plan_of new ≡ plan_of old
   pub quantum : new.quantum ≡ old.quantum
-  pub order : order_in new ≡ record (order_in old) { spare = q ∷ (order_in old).spare }
+  pub order : sliced_order_in new ≡ record (sliced_order_in old) { spare = q ∷ (sliced_order_in old).spare }
 
 -- What `fill` does with slot k if it must be filled. The object that the order lists next to move is on another page of the class, a partly full one. It
 -- gets the slot's address, and the new job moves it there. No word of the region changes. Each page holds as many objects as before, the placeholder among
 -- them (`counts`), and freeing the slot that the object leaves takes 2 steps less than finding and freeing it (`leaves`).
 pub record IsFilled (old : Heap) (k : JobSlot) (new : Heap) : Type 0 where
-  pub must : MustMove (paging_at old) (occupied (plan_of old) (state_of old)) (placeholder (paging_at old) k)
+  pub must : MustMove (sliced_paging old) (occupied (plan_of old) (sliced_state_of old)) (placeholder (sliced_paging old) k)
   pub object : ℕ
-  pub beside : IsBeside (paging_at old) (state_of old).held k.address k.class object
-  pub next : IsNextToMove (paging_at old) (occupied (plan_of old) (state_of old)) (order_in old) k.class beside.object
-  pub carries : BeginsMove (state_of old).held object k.address k.class (state_of new)
+  pub beside : IsBeside (sliced_paging old) (sliced_state_of old).held k.address k.class object
+  pub next : IsNextToMove (sliced_paging old) (occupied (plan_of old) (sliced_state_of old)) (sliced_order_in old) k.class beside.object
+  pub carries : BeginsMove (sliced_state_of old).held object k.address k.class (sliced_state_of new)
   pub words : new.words ≡ old.words
   pub plan : plan_of new ≡ plan_of old
   pub quantum : new.quantum ≡ old.quantum
-  pub order : order_in new ≡ order_in old
-  pub counts : (c page : ℕ) → objects_on (paging_at old) (occupied (plan_of new) (state_of new)) c page
-      ≡ objects_on (paging_at old) (occupied (plan_of old) (state_of old)) c page
-  pub leaves : steps_to_fill (paging_at old) (occupied (plan_of old) (state_of old)) (order_in old) k.class
-      ≡ 2 + steps_to_drop (paging_at old) (occupied (plan_of old) (state_of old)) k.class (page_of (paging_at old) beside.object.place)
+  pub order : sliced_order_in new ≡ sliced_order_in old
+  pub counts : (c page : ℕ) → objects_on (sliced_paging old) (occupied (plan_of new) (sliced_state_of new)) c page
+      ≡ objects_on (sliced_paging old) (occupied (plan_of old) (sliced_state_of old)) c page
+  pub leaves : steps_to_fill (sliced_paging old) (occupied (plan_of old) (sliced_state_of old)) (sliced_order_in old) k.class
+      ≡ 2 + steps_to_drop (sliced_paging old) (occupied (plan_of old) (sliced_state_of old)) k.class (page_of (sliced_paging old) beside.object.place)
 
 -- what `fill` does with slot k if it need not be filled: nothing
 pub record StaysVacant (old : Heap) (k : JobSlot) (new : Heap) : Type 0 where
-  pub stays : ¬ MustMove (paging_at old) (occupied (plan_of old) (state_of old)) (placeholder (paging_at old) k)
+  pub stays : ¬ MustMove (sliced_paging old) (occupied (plan_of old) (sliced_state_of old)) (placeholder (sliced_paging old) k)
   pub same : new ≡ old
 
 -- what `fill` does with slot k, by its result: true if it fills the slot

@@ -4,10 +4,10 @@ ghost use Rattle.std.specs.Prelude.{◌≡◌, if◌then◌else◌, is_some, len
 ghost use Rattle.step_ledger.specs.Counting.{RoseBy};
 ghost use Rattle.slice_model.specs.Runs.{Happens, Read, Write};
 ghost use Rattle.sliced_heap.specs.Halves.{halves_of};
-ghost use Rattle.sliced_heap.specs.Access.{IsFound, access_fault, bytes_or_fault, find_steps, length_in, place_in};
-ghost use Rattle.sliced_heap.specs.Costs.{access_steps, length_steps};
-ghost use Rattle.sliced_heap.specs.Heap.{job_of, seen};
-ghost use Rattle.sliced_heap.specs.Layout.{IsValid, order_in, plan_of, state_of, working_of};
+ghost use Rattle.sliced_heap.specs.Access.{IsSlicedFound, access_fault, bytes_or_fault, place_in, sliced_find_steps, sliced_length_in};
+ghost use Rattle.sliced_heap.specs.Costs.{sliced_access_steps, sliced_length_steps};
+ghost use Rattle.sliced_heap.specs.Heap.{job_of, sliced_seen};
+ghost use Rattle.sliced_heap.specs.Layout.{IsValid, plan_of, sliced_order_in, sliced_state_of, working_of};
 
 use crate::halves::{Halves, read_halves, read_word, write_halves};
 use crate::open_heap::{OpenHeap, Pending};
@@ -32,8 +32,8 @@ impl OpenHeap {
     /// In a sliced heap, the address of object `h`, to which a job that moves the object moves it, or `None` if the
     /// handle is not live.
     pub fn place(&self, h: Handle, steps: &mut Steps) -> Option<u32>
-        requires { IsValid (seen self.now) }
-        ensures value { result ≡ place_in (state_of (seen self.now)).held h.0 }
+        requires { IsValid (sliced_seen self.now) }
+        ensures value { result ≡ place_in (sliced_state_of (sliced_seen self.now)).held h.0 }
         ensures steps { RoseBy steps.old steps.new 1 }
     {
         self.proxies.lookup(h, steps)
@@ -41,9 +41,9 @@ impl OpenHeap {
 
     /// In a sliced heap, the length of object `h` in bytes, or `None` if the handle is not live.
     pub fn length(&self, h: Handle, steps: &mut Steps) -> Option<u32>
-        requires { IsValid (seen self.now) }
-        ensures value { result ≡ length_in (state_of (seen self.now)).held h.0 }
-        ensures steps { RoseBy steps.old steps.new (length_steps result) }
+        requires { IsValid (sliced_seen self.now) }
+        ensures value { result ≡ sliced_length_in (sliced_state_of (sliced_seen self.now)).held h.0 }
+        ensures steps { RoseBy steps.old steps.new (sliced_length_steps result) }
     {
         let Some(place) = self.proxies.lookup(h, steps) else {
             return None;
@@ -61,11 +61,11 @@ impl OpenHeap {
         out: &mut [u8],
         steps: &mut Steps,
     ) -> Result<(), AccessFault>
-        requires { IsValid (seen self.now) }
-        ensures step { Happens (plan_of (seen self.now)) (working_of (seen self.now)) (Read (record { number = h.0; from = at }) (length out.old)
-            (bytes_or_fault result out.new)) (working_of (seen self.now)) }
+        requires { IsValid (sliced_seen self.now) }
+        ensures step { Happens (plan_of (sliced_seen self.now)) (working_of (sliced_seen self.now)) (Read (record { number = h.0; from = at }) (length out.old)
+            (bytes_or_fault result out.new)) (working_of (sliced_seen self.now)) }
         ensures refused { IsErr result → out.new ≡ out.old }
-        ensures steps { RoseBy steps.old steps.new (access_steps result at (length out.old)) }
+        ensures steps { RoseBy steps.old steps.new (sliced_access_steps result at (length out.old)) }
     {
         let len = out.len();
         let halves = self.find(h, at, len, steps)?;
@@ -82,13 +82,13 @@ impl OpenHeap {
         bytes: &[u8],
         steps: &mut Steps,
     ) -> Result<(), AccessFault>
-        requires { IsValid (seen self.old) }
-        ensures step { Happens (plan_of (seen self.old)) (working_of (seen self.old)) (Write (record { number = h.0; from = at }) bytes.now
-            (access_fault result)) (working_of (seen self.new)) }
-        ensures order { order_in (seen self.new) ≡ order_in (seen self.old) }
-        ensures kept { IsValid (seen self.new) }
-        ensures plan { plan_of (seen self.new) ≡ plan_of (seen self.old) }
-        ensures steps { RoseBy steps.old steps.new (access_steps result at (length bytes.now)) }
+        requires { IsValid (sliced_seen self.old) }
+        ensures step { Happens (plan_of (sliced_seen self.old)) (working_of (sliced_seen self.old)) (Write (record { number = h.0; from = at }) bytes.now
+            (access_fault result)) (working_of (sliced_seen self.new)) }
+        ensures order { sliced_order_in (sliced_seen self.new) ≡ sliced_order_in (sliced_seen self.old) }
+        ensures kept { IsValid (sliced_seen self.new) }
+        ensures plan { plan_of (sliced_seen self.new) ≡ plan_of (sliced_seen self.old) }
+        ensures steps { RoseBy steps.old steps.new (sliced_access_steps result at (length bytes.now)) }
     {
         let len = bytes.len();
         let halves = self.find(h, at, len, steps)?;
@@ -106,9 +106,9 @@ impl OpenHeap {
         count: usize,
         steps: &mut Steps,
     ) -> Result<Halves, AccessFault>
-        requires { IsValid (seen self.now) }
-        ensures found { IsFound (seen self.now) (record { number = h.0; from = at }) count result }
-        ensures steps { RoseBy steps.old steps.new (find_steps result) }
+        requires { IsValid (sliced_seen self.now) }
+        ensures found { IsSlicedFound (sliced_seen self.now) (record { number = h.0; from = at }) count result }
+        ensures steps { RoseBy steps.old steps.new (sliced_find_steps result) }
     {
         let Some(place) = self.proxies.lookup(h, steps) else {
             return Err(AccessFault::Unknown);

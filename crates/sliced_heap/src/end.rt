@@ -7,8 +7,8 @@ ghost use Rattle.slice_model.specs.State.{Clear};
 ghost use Rattle.slice_model.specs.Ordered.{EndFollows};
 ghost use Rattle.slice_model.specs.Steps.{EndsJob};
 ghost use Rattle.sliced_heap.specs.Costs.{end_cost};
-ghost use Rattle.sliced_heap.specs.Heap.{job_of, seen};
-ghost use Rattle.sliced_heap.specs.Layout.{IsValid, order_in, paging_at, plan_of, state_of};
+ghost use Rattle.sliced_heap.specs.Heap.{job_of, sliced_seen};
+ghost use Rattle.sliced_heap.specs.Layout.{IsValid, plan_of, sliced_order_in, sliced_paging, sliced_state_of};
 
 use crate::open_heap::{OpenHeap, Pending};
 use slice_model::JobSlot;
@@ -19,17 +19,17 @@ impl OpenHeap {
     /// `done` 0, also if it moved an object. If the slot must be filled (`fill`), the next job moves an object
     /// into it; else the slot becomes free, and no job is pending.
     pub(crate) fn end(&mut self, k: JobSlot, steps: &mut Steps)
-        requires kept { IsValid (seen self.old) }
+        requires kept { IsValid (sliced_seen self.old) }
         requires job { job_of self.old.job ≡ Clear k }
         requires fresh { k.done ≡ 0 }
-        requires zeros { (i : ℕ) → i < slot_words (paging_at (seen self.old)) k.class → slice_index self.old.region (k.address + i) ≡ 0 }
-        ensures ended { EndsJob (paging_at (seen self.old)) (state_of (seen self.old)).held k (state_of (seen self.new)) }
-        ensures ordered { EndFollows (plan_of (seen self.old)) (state_of (seen self.old)).held k (job_of self.new.job)
-            (order_in (seen self.old)) (order_in (seen self.new)) }
-        ensures kept { IsValid (seen self.new) }
+        requires zeros { (i : ℕ) → i < slot_words (sliced_paging (sliced_seen self.old)) k.class → slice_index self.old.region (k.address + i) ≡ 0 }
+        ensures ended { EndsJob (sliced_paging (sliced_seen self.old)) (sliced_state_of (sliced_seen self.old)).held k (sliced_state_of (sliced_seen self.new)) }
+        ensures ordered { EndFollows (plan_of (sliced_seen self.old)) (sliced_state_of (sliced_seen self.old)).held k (job_of self.new.job)
+            (sliced_order_in (sliced_seen self.old)) (sliced_order_in (sliced_seen self.new)) }
+        ensures kept { IsValid (sliced_seen self.new) }
         ensures words { self.new.region ≡ self.old.region }
-        ensures plan { plan_of (seen self.new) ≡ plan_of (seen self.old) }
-        ensures steps { RoseBy steps.old steps.new (end_cost (plan_of (seen self.old)) (state_of (seen self.old)).held k) }
+        ensures plan { plan_of (sliced_seen self.new) ≡ plan_of (sliced_seen self.old) }
+        ensures steps { RoseBy steps.old steps.new (end_cost (plan_of (sliced_seen self.old)) (sliced_state_of (sliced_seen self.old)).held k) }
     {
         if self.fill(k, steps) {
             return;

@@ -7,9 +7,9 @@ ghost use Rattle.page_model.specs.Held.{objects};
 ghost use Rattle.page_model.specs.Paging.{classes, slot_words};
 ghost use Rattle.slice_model.specs.State.{occupied};
 ghost use Rattle.step_ledger.specs.Counting.{RoseBy};
-ghost use Rattle.sliced_heap.specs.Figures.{class_figures, figures_in, slot_words_in, slot_words_steps, totals_in};
-ghost use Rattle.sliced_heap.specs.Heap.{seen};
-ghost use Rattle.sliced_heap.specs.Layout.{IsValid, paging_at, plan_of, state_of};
+ghost use Rattle.sliced_heap.specs.Figures.{class_figures, sliced_figures_in, sliced_totals_in, sliced_words_steps, slot_words_in};
+ghost use Rattle.sliced_heap.specs.Heap.{sliced_seen};
+ghost use Rattle.sliced_heap.specs.Layout.{IsValid, plan_of, sliced_paging, sliced_state_of};
 
 use crate::open_heap::{OpenHeap, Pending};
 use cf_base::{Figures, Handle, Totals};
@@ -19,8 +19,8 @@ use step_ledger::Steps;
 impl OpenHeap {
     /// The figures of class c of a sliced heap; none if there is no such class.
     pub fn figures(&self, c: u32) -> Option<Figures>
-        requires { IsValid (seen self.now) }
-        ensures { result ≡ figures_in (plan_of (seen self.now)) (state_of (seen self.now)) c }
+        requires { IsValid (sliced_seen self.now) }
+        ensures { result ≡ sliced_figures_in (plan_of (sliced_seen self.now)) (sliced_state_of (sliced_seen self.now)) c }
     {
         if c < self.tables.classes.len() {
             Some(self.figures_of(c))
@@ -31,9 +31,9 @@ impl OpenHeap {
 
     /// The figures of class c, which must be one of the sliced heap's classes.
     fn figures_of(&self, c: u32) -> Figures
-        requires kept { IsValid (seen self.now) }
-        requires class { c < classes (paging_at (seen self.now)) }
-        ensures { result ≡ class_figures (plan_of (seen self.now)) (state_of (seen self.now)) c }
+        requires kept { IsValid (sliced_seen self.now) }
+        requires class { c < classes (sliced_paging (sliced_seen self.now)) }
+        ensures { result ≡ class_figures (plan_of (sliced_seen self.now)) (sliced_state_of (sliced_seen self.now)) c }
     {
         let not_full = self.lists.len(c, Which::NotFull);
         Figures {
@@ -47,8 +47,8 @@ impl OpenHeap {
 
     /// The figures of the whole open sliced heap.
     pub fn totals(&self) -> Totals
-        requires { IsValid (seen self.now) }
-        ensures { result ≡ totals_in (plan_of (seen self.now)) (state_of (seen self.now)) }
+        requires { IsValid (sliced_seen self.now) }
+        ensures { result ≡ sliced_totals_in (plan_of (sliced_seen self.now)) (sliced_state_of (sliced_seen self.now)) }
     {
         let free = self.tables.pool.left();
         let used = self.settings.pages - free;
@@ -66,8 +66,8 @@ impl OpenHeap {
 
     /// In a sliced heap, the bytes of the slots that the objects and the pending job have.
     fn taken_with_job(&self) -> u64
-        requires { IsValid (seen self.now) }
-        ensures { result ≡ taken_bytes (paging_at (seen self.now)) (objects (occupied (plan_of (seen self.now)) (state_of (seen self.now)))) }
+        requires { IsValid (sliced_seen self.now) }
+        ensures { result ≡ taken_bytes (sliced_paging (sliced_seen self.now)) (objects (occupied (plan_of (sliced_seen self.now)) (sliced_state_of (sliced_seen self.now)))) }
     {
         match self.job {
             Pending::Idle => self.taken,
@@ -78,18 +78,18 @@ impl OpenHeap {
 
     /// In a sliced heap, the bytes of the objects' slots and of one more slot of class c.
     fn taken_with(&self, c: u32) -> u64
-        requires kept { IsValid (seen self.now) }
-        requires class { c < classes (paging_at (seen self.now)) }
-        ensures { result ≡ self.now.taken + 8 * slot_words (paging_at (seen self.now)) c }
+        requires kept { IsValid (sliced_seen self.now) }
+        requires class { c < classes (sliced_paging (sliced_seen self.now)) }
+        ensures { result ≡ self.now.taken + 8 * slot_words (sliced_paging (sliced_seen self.now)) c }
     {
         self.taken + 8 * u64::from(self.tables.classes.slot_words(c))
     }
 
     /// In a sliced heap, the words of an object's slot, also while a job moves it; none if the handle is not live.
     pub fn slot_words(&self, h: Handle, steps: &mut Steps) -> Option<u32>
-        requires { IsValid (seen self.now) }
-        ensures value { result ≡ slot_words_in (plan_of (seen self.now)) (state_of (seen self.now)).held h.0 }
-        ensures steps { RoseBy steps.old steps.new (slot_words_steps result) }
+        requires { IsValid (sliced_seen self.now) }
+        ensures value { result ≡ slot_words_in (plan_of (sliced_seen self.now)) (sliced_state_of (sliced_seen self.now)).held h.0 }
+        ensures steps { RoseBy steps.old steps.new (sliced_words_steps result) }
     {
         let Some(length) = self.length(h, steps) else {
             return None;
@@ -102,8 +102,8 @@ impl OpenHeap {
 
     /// An open sliced heap's class of an object of `bytes` bytes; none if it needs more than a page. Costs one step.
     pub fn class_of(&self, bytes: u32, steps: &mut Steps) -> Option<u32>
-        requires { IsValid (seen self.now) }
-        ensures value { result ≡ class_of (paging_at (seen self.now)).sizes bytes }
+        requires { IsValid (sliced_seen self.now) }
+        ensures value { result ≡ class_of (sliced_paging (sliced_seen self.now)).sizes bytes }
         ensures steps { RoseBy steps.old steps.new 1 }
     {
         self.tables.classes.class_of(bytes, steps)

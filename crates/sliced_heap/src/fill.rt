@@ -9,7 +9,7 @@ ghost use Rattle.page_slots.specs.PageTables.{tables_with};
 ghost use Rattle.page_slots.specs.Release.{IsFiller};
 ghost use Rattle.page_slots.specs.Tables.{AreTables};
 ghost use Rattle.slice_model.specs.State.{Clear};
-ghost use Rattle.sliced_heap.specs.Heap.{job_of, seen};
+ghost use Rattle.sliced_heap.specs.Heap.{job_of, sliced_seen};
 ghost use Rattle.sliced_heap.specs.Layout.{IsValid};
 ghost use Rattle.sliced_heap.specs.Steps.{FillsSlot, StartsMove};
 
@@ -23,11 +23,11 @@ impl OpenHeap {
     /// pages. An object of the class's partly full page then gets the slot's address, and the new job
     /// moves the object there. Returns true if so; else false, and nothing changes.
     pub(crate) fn fill(&mut self, k: JobSlot, steps: &mut Steps) -> bool
-        requires kept { IsValid (seen self.old) }
+        requires kept { IsValid (sliced_seen self.old) }
         requires job { job_of self.old.job ≡ Clear k }
         requires fresh { k.done ≡ 0 }
-        ensures filled { FillsSlot (seen self.old) k result (seen self.new) }
-        ensures kept { IsValid (seen self.new) }
+        ensures filled { FillsSlot (sliced_seen self.old) k result (sliced_seen self.new) }
+        ensures kept { IsValid (sliced_seen self.new) }
         ensures steps { RoseBy steps.old steps.new (if result then 6 else 1) }
     {
         if self
@@ -49,7 +49,7 @@ impl OpenHeap {
         requires within { (a : ℕ) → IsFiller self.old.tables.classes self.old.tables.maps.pages self.old.lists k.class a → a < length self.old.region }
         requires live { (a : ℕ) → IsFiller self.old.tables.classes self.old.tables.maps.pages self.old.lists k.class a
             → IsSome (map.get self.old.proxies.places (slice_index self.old.region a % 2 ^ 32)) }
-        ensures begun { StartsMove (seen self.old) k (seen self.new) }
+        ensures begun { StartsMove (sliced_seen self.old) k (sliced_seen self.new) }
         ensures steps { RoseBy steps.old steps.new 5 }
     {
         let from = self.tables.filler(&self.lists, k.class, steps);

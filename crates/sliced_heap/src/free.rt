@@ -5,11 +5,11 @@ ghost use Rattle.std.specs.FinMap as map;
 ghost use Rattle.cf_base.specs.Classes.{slots};
 ghost use Rattle.step_ledger.specs.Counting.{RoseBy};
 ghost use Rattle.slice_model.specs.Ordered.{FreesInOrder, HappensInOrder};
-ghost use Rattle.slice_model.specs.Runs.{Frees, Free, Happens};
+ghost use Rattle.slice_model.specs.Runs.{FreesWithWords, Free, Happens};
 ghost use Rattle.slice_model.specs.State.{Idle};
-ghost use Rattle.sliced_heap.specs.Costs.{free_cost, freed_cost};
-ghost use Rattle.sliced_heap.specs.Heap.{job_of, seen};
-ghost use Rattle.sliced_heap.specs.Layout.{IsValid, opens, order_in, plan_of, state_of, working_of};
+ghost use Rattle.sliced_heap.specs.Costs.{freed_cost, sliced_free_cost};
+ghost use Rattle.sliced_heap.specs.Heap.{job_of, sliced_seen};
+ghost use Rattle.sliced_heap.specs.Layout.{IsValid, opens, plan_of, sliced_order_in, sliced_state_of, working_of};
 ghost use Rattle.sliced_heap.specs.Steps.{StartsClearing, fault_in};
 
 use crate::open_heap::{OpenHeap, Pending};
@@ -22,14 +22,14 @@ impl OpenHeap {
     /// In a sliced heap, frees the object of handle `h`, and does the first slice of the job that this leaves.
     /// Fails, with nothing changed, with `Unknown` if the handle is not live, else with `Busy` if a job is pending.
     pub fn free(&mut self, h: Handle, steps: &mut Steps) -> Result<(), SliceFault>
-        requires { IsValid (seen self.old) }
-        ensures step { Happens (plan_of (seen self.old)) (working_of (seen self.old)) (Free h.0 (fault_in result)) (working_of (seen self.new)) }
-        ensures ordered { HappensInOrder (plan_of (seen self.old)) (working_of (seen self.old)) (Free h.0 (fault_in result)) (working_of (seen self.new))
-            (order_in (seen self.old)) (order_in (seen self.new)) }
-        ensures kept { IsValid (seen self.new) }
-        ensures plan { plan_of (seen self.new) ≡ plan_of (seen self.old) }
+        requires { IsValid (sliced_seen self.old) }
+        ensures step { Happens (plan_of (sliced_seen self.old)) (working_of (sliced_seen self.old)) (Free h.0 (fault_in result)) (working_of (sliced_seen self.new)) }
+        ensures ordered { HappensInOrder (plan_of (sliced_seen self.old)) (working_of (sliced_seen self.old)) (Free h.0 (fault_in result)) (working_of (sliced_seen self.new))
+            (sliced_order_in (sliced_seen self.old)) (sliced_order_in (sliced_seen self.new)) }
+        ensures kept { IsValid (sliced_seen self.new) }
+        ensures plan { plan_of (sliced_seen self.new) ≡ plan_of (sliced_seen self.old) }
         ensures steps { RoseBy steps.old steps.new
-            (free_cost (plan_of (seen self.old)) (state_of (seen self.old)) (order_in (seen self.old)) h.0 (fault_in result)) }
+            (sliced_free_cost (plan_of (sliced_seen self.old)) (sliced_state_of (sliced_seen self.old)) (sliced_order_in (sliced_seen self.old)) h.0 (fault_in result)) }
     {
         let Some(place) = self.proxies.lookup(h, steps) else {
             return Err(SliceFault::Unknown);
@@ -45,15 +45,15 @@ impl OpenHeap {
     /// Frees the live object `h`, whose address is `place`, while no job is pending. Starts the job that
     /// clears its slot, or one that moves another object into it, and does the job's first slice.
     fn free_live(&mut self, h: Handle, place: u32, steps: &mut Steps)
-        requires kept { IsValid (seen self.old) }
+        requires kept { IsValid (sliced_seen self.old) }
         requires idle { job_of self.old.job ≡ Idle }
         requires known { map.get self.old.proxies.places h.0 ≡ Some place }
-        ensures step { Frees (plan_of (seen self.old)) (working_of (seen self.old)) h.0 (working_of (seen self.new)) }
-        ensures ordered { FreesInOrder (plan_of (seen self.old)) (working_of (seen self.old)) h.0 (working_of (seen self.new))
-            (order_in (seen self.old)) (order_in (seen self.new)) }
-        ensures kept { IsValid (seen self.new) }
-        ensures plan { plan_of (seen self.new) ≡ plan_of (seen self.old) }
-        ensures steps { RoseBy steps.old steps.new (freed_cost (plan_of (seen self.old)) (state_of (seen self.old)) (order_in (seen self.old)) h.0) }
+        ensures step { FreesWithWords (plan_of (sliced_seen self.old)) (working_of (sliced_seen self.old)) h.0 (working_of (sliced_seen self.new)) }
+        ensures ordered { FreesInOrder (plan_of (sliced_seen self.old)) (working_of (sliced_seen self.old)) h.0 (working_of (sliced_seen self.new))
+            (sliced_order_in (sliced_seen self.old)) (sliced_order_in (sliced_seen self.new)) }
+        ensures kept { IsValid (sliced_seen self.new) }
+        ensures plan { plan_of (sliced_seen self.new) ≡ plan_of (sliced_seen self.old) }
+        ensures steps { RoseBy steps.old steps.new (freed_cost (plan_of (sliced_seen self.old)) (sliced_state_of (sliced_seen self.old)) (sliced_order_in (sliced_seen self.old)) h.0) }
     {
         let k = self.start_clearing(h, place, steps);
         // Whichever job it is now, `slice` does its first slice.
@@ -65,11 +65,11 @@ impl OpenHeap {
     /// of live objects and needed pages, and starts the job that clears its slot. Returns that slot. No word
     /// of the region changes yet.
     fn start_clearing(&mut self, h: Handle, place: u32, steps: &mut Steps) -> JobSlot
-        requires kept { IsValid (seen self.old) }
+        requires kept { IsValid (sliced_seen self.old) }
         requires idle { job_of self.old.job ≡ Idle }
         requires known { map.get self.old.proxies.places h.0 ≡ Some place }
-        ensures gone { StartsClearing (seen self.old) h.0 result (seen self.new) }
-        ensures kept { IsValid (seen self.new) }
+        ensures gone { StartsClearing (sliced_seen self.old) h.0 result (sliced_seen self.new) }
+        ensures kept { IsValid (sliced_seen self.new) }
         ensures steps { RoseBy steps.old steps.new 4 }
     {
         let length = Header::unpack(self.region.read(place, steps)).length;

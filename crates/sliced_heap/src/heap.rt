@@ -7,15 +7,15 @@ ghost use Rattle.slice_model.specs.Ordered.{HappensInOrder};
 ghost use Rattle.slice_model.specs.Runs.{Happens, Free, Malloc, Read, Step, Write};
 ghost use Rattle.slice_model.specs.State.{job_slot, left_of};
 ghost use Rattle.step_ledger.specs.Counting.{RoseAtMost, RoseBy};
-ghost use Rattle.sliced_heap.specs.Access.{access_fault, bytes_or_fault, length_in, place_in};
+ghost use Rattle.sliced_heap.specs.Access.{access_fault, bytes_or_fault, place_in, sliced_length_in};
 ghost use Rattle.cf_base.specs.Classes.{class_of};
 ghost use Rattle.cf_base.specs.Settings.{profile_of};
 ghost use Rattle.cf_base.specs.declared.answers.Handle.{Handle};
 ghost use Rattle.sliced_heap.specs.Needed.{sliced_bytes};
-ghost use Rattle.sliced_heap.specs.Costs.{access_steps, free_cost, length_steps, malloc_cost, slice_cost};
-ghost use Rattle.sliced_heap.specs.Figures.{figures_in, slot_words_in, slot_words_steps, totals_in};
+ghost use Rattle.sliced_heap.specs.Costs.{slice_cost, sliced_access_steps, sliced_free_cost, sliced_length_steps, sliced_malloc_cost};
+ghost use Rattle.sliced_heap.specs.Figures.{sliced_figures_in, sliced_totals_in, sliced_words_steps, slot_words_in};
 ghost use Rattle.sliced_heap.specs.Room.{IsRoomAnswer, mover};
-ghost use Rattle.sliced_heap.specs.Shown.{KeepsRules, StaysOpen, closed_state, opened_state, plan_in, working_in};
+ghost use Rattle.sliced_heap.specs.Shown.{KeepsSlicedRules, StaysSlicedOpen, closed_sliced, opened_state, plan_in, working_in};
 ghost use Rattle.sliced_heap.specs.Steps.{fault_in};
 
 use crate::open_heap::OpenHeap;
@@ -42,17 +42,17 @@ impl Model for SlicedHeap {
 
     ghost coded = { sliced_code };
 
-    ghost use Rattle.sliced_heap.specs.Shown.{IsValidIn, shown};
+    ghost use Rattle.sliced_heap.specs.Shown.{IsValidSlicedIn, sliced_shown};
 
-    ghost view = { λ h. shown h.inner };
+    ghost view = { λ h. sliced_shown h.inner };
 
-    ghost invariant = { λ h. IsValidIn h.inner };
+    ghost invariant = { λ h. IsValidSlicedIn h.inner };
 }
 
 impl SlicedHeap {
     /// Returns a closed sliced heap, which has allocated nothing.
     pub fn closed(alloc: Global) -> SlicedHeap
-        ensures { result ≡ closed_state }
+        ensures { result ≡ closed_sliced }
     {
         SlicedHeap { alloc, inner: None }
     }
@@ -66,10 +66,10 @@ impl SlicedHeap {
         OpenHeap::bytes_needed(s)
     }
 
-    /// Returns whether the sliced heap is open. The state of an open heap keeps the rules of `KeepsRules`.
+    /// Returns whether the sliced heap is open. The state of an open heap keeps the rules of `KeepsSlicedRules`.
     pub fn is_open(&self) -> bool
         ensures value { result ≡ self.now.is_open }
-        ensures rules { IsTrue result → KeepsRules self.now }
+        ensures rules { IsTrue result → KeepsSlicedRules self.now }
     {
         self.inner.is_some()
     }
@@ -81,8 +81,8 @@ impl SlicedHeap {
         requires least { 1 ≤ quantum }
         requires most { quantum ≤ 16384 }
         ensures ok { OnOk result (self.new ≡ opened_state s.now quantum) }
-        ensures rules { OnOk result (KeepsRules self.new) }
-        ensures err { OnErr result (self.new ≡ closed_state) }
+        ensures rules { OnOk result (KeepsSlicedRules self.new) }
+        ensures err { OnErr result (self.new ≡ closed_sliced) }
     {
         self.inner = None;
         self.inner = Some(OpenHeap::new(self.alloc, s, quantum)?);
@@ -99,9 +99,9 @@ impl SlicedHeap {
         requires open { IsTrue self.old.is_open }
         ensures step { Happens (plan_in self.old) (working_in self.old) (Malloc bytes result) (working_in self.new) }
         ensures ordered { HappensInOrder (plan_in self.old) (working_in self.old) (Malloc bytes result) (working_in self.new) self.old.order self.new.order }
-        ensures same { StaysOpen self.old self.new }
-        ensures rules { KeepsRules self.new }
-        ensures steps { RoseBy steps.old steps.new (malloc_cost (plan_in self.old) (working_in self.old).state self.old.order bytes result) }
+        ensures same { StaysSlicedOpen self.old self.new }
+        ensures rules { KeepsSlicedRules self.new }
+        ensures steps { RoseBy steps.old steps.new (sliced_malloc_cost (plan_in self.old) (working_in self.old).state self.old.order bytes result) }
         ensures bound { RoseAtMost steps.old steps.new 17 }
     {
         match &mut self.inner {
@@ -132,9 +132,9 @@ impl SlicedHeap {
         requires open { IsTrue self.old.is_open }
         ensures step { Happens (plan_in self.old) (working_in self.old) (Free h.0 (fault_in result)) (working_in self.new) }
         ensures ordered { HappensInOrder (plan_in self.old) (working_in self.old) (Free h.0 (fault_in result)) (working_in self.new) self.old.order self.new.order }
-        ensures same { StaysOpen self.old self.new }
-        ensures rules { KeepsRules self.new }
-        ensures steps { RoseBy steps.old steps.new (free_cost (plan_in self.old) (working_in self.old).state self.old.order h.0 (fault_in result)) }
+        ensures same { StaysSlicedOpen self.old self.new }
+        ensures rules { KeepsSlicedRules self.new }
+        ensures steps { RoseBy steps.old steps.new (sliced_free_cost (plan_in self.old) (working_in self.old).state self.old.order h.0 (fault_in result)) }
         ensures bound { RoseAtMost steps.old steps.new (23 + self.old.quantum) }
     {
         match &mut self.inner {
@@ -150,8 +150,8 @@ impl SlicedHeap {
         requires open { IsTrue self.old.is_open }
         ensures step { Happens (plan_in self.old) (working_in self.old) Step (working_in self.new) }
         ensures ordered { HappensInOrder (plan_in self.old) (working_in self.old) Step (working_in self.new) self.old.order self.new.order }
-        ensures same { StaysOpen self.old self.new }
-        ensures rules { KeepsRules self.new }
+        ensures same { StaysSlicedOpen self.old self.new }
+        ensures rules { KeepsSlicedRules self.new }
         ensures steps { RoseBy steps.old steps.new (slice_cost (plan_in self.old) (working_in self.old).state) }
         ensures bound { RoseAtMost steps.old steps.new (15 + self.old.quantum) }
     {
@@ -210,8 +210,8 @@ impl SlicedHeap {
     /// `SlicedHeap`: the length of object `h` in bytes, also while a job moves it; `None` if the handle is not live.
     pub fn length(&self, h: Handle, steps: &mut Steps) -> Option<u32>
         requires open { IsTrue self.now.is_open }
-        ensures value { result ≡ length_in self.now.held h.0 }
-        ensures steps { RoseBy steps.old steps.new (length_steps result) }
+        ensures value { result ≡ sliced_length_in self.now.held h.0 }
+        ensures steps { RoseBy steps.old steps.new (sliced_length_steps result) }
     {
         match &self.inner {
             Some(open) => open.length(h, steps),
@@ -224,7 +224,7 @@ impl SlicedHeap {
     pub fn slot_words(&self, h: Handle, steps: &mut Steps) -> Option<u32>
         requires open { IsTrue self.now.is_open }
         ensures value { result ≡ slot_words_in (plan_in self.now) self.now.held h.0 }
-        ensures steps { RoseBy steps.old steps.new (slot_words_steps result) }
+        ensures steps { RoseBy steps.old steps.new (sliced_words_steps result) }
     {
         match &self.inner {
             Some(open) => open.slot_words(h, steps),
@@ -248,7 +248,7 @@ impl SlicedHeap {
     /// counts as used, but not as live.
     pub fn figures(&self, c: u32) -> Option<Figures>
         requires open { IsTrue self.now.is_open }
-        ensures { result ≡ figures_in (plan_in self.now) (working_in self.now).state c }
+        ensures { result ≡ sliced_figures_in (plan_in self.now) (working_in self.now).state c }
     {
         match &self.inner {
             Some(open) => open.figures(c),
@@ -260,7 +260,7 @@ impl SlicedHeap {
     /// neither as live nor as asked for.
     pub fn totals(&self) -> Totals
         requires open { IsTrue self.now.is_open }
-        ensures { result ≡ totals_in (plan_in self.now) (working_in self.now).state }
+        ensures { result ≡ sliced_totals_in (plan_in self.now) (working_in self.now).state }
     {
         match &self.inner {
             Some(open) => open.totals(),
@@ -282,7 +282,7 @@ impl SlicedHeap {
         ensures step { Happens (plan_in self.now) (working_in self.now) (Read (record { number = h.0; from = at }) (length out.old)
             (bytes_or_fault result out.new)) (working_in self.now) }
         ensures refused { IsErr result → out.new ≡ out.old }
-        ensures steps { RoseBy steps.old steps.new (access_steps result at (length out.old)) }
+        ensures steps { RoseBy steps.old steps.new (sliced_access_steps result at (length out.old)) }
         ensures bound { RoseAtMost steps.old steps.new (2 + words_touched at (length out.old)) }
     {
         match &self.inner {
@@ -306,9 +306,9 @@ impl SlicedHeap {
             (access_fault result)) (working_in self.new) }
         ensures ordered { HappensInOrder (plan_in self.old) (working_in self.old) (Write (record { number = h.0; from = at }) bytes.now
             (access_fault result)) (working_in self.new) self.old.order self.new.order }
-        ensures same { StaysOpen self.old self.new }
-        ensures rules { KeepsRules self.new }
-        ensures steps { RoseBy steps.old steps.new (access_steps result at (length bytes.now)) }
+        ensures same { StaysSlicedOpen self.old self.new }
+        ensures rules { KeepsSlicedRules self.new }
+        ensures steps { RoseBy steps.old steps.new (sliced_access_steps result at (length bytes.now)) }
         ensures bound { RoseAtMost steps.old steps.new (2 + words_touched at (length bytes.now)) }
     {
         match &mut self.inner {

@@ -10,9 +10,9 @@ ghost use Rattle.page_model.specs.Image.{header_word};
 ghost use Rattle.proxy_table.specs.Proxies.{AreBelowLimit, with_place};
 ghost use Rattle.slice_model.specs.Ordered.{HappensInOrder};
 ghost use Rattle.slice_model.specs.Runs.{Happens, Malloc};
-ghost use Rattle.sliced_heap.specs.Costs.{malloc_cost};
-ghost use Rattle.sliced_heap.specs.Heap.{seen};
-ghost use Rattle.sliced_heap.specs.Layout.{IsValid, opens, order_in, plan_of, state_of, working_of};
+ghost use Rattle.sliced_heap.specs.Costs.{sliced_malloc_cost};
+ghost use Rattle.sliced_heap.specs.Heap.{sliced_seen};
+ghost use Rattle.sliced_heap.specs.Layout.{IsValid, opens, plan_of, sliced_order_in, sliced_state_of, working_of};
 ghost use Rattle.sliced_heap.specs.Room.{IsRoomAnswer};
 
 use crate::open_heap::OpenHeap;
@@ -28,13 +28,13 @@ impl OpenHeap {
     /// if the objects with it need more pages than the heap has, `Busy` if there is no slot for it while a job is
     /// pending.
     pub fn malloc(&mut self, bytes: u32, steps: &mut Steps) -> Result<Handle, SliceRefusal>
-        requires { IsValid (seen self.old) }
-        ensures step { Happens (plan_of (seen self.old)) (working_of (seen self.old)) (Malloc bytes result) (working_of (seen self.new)) }
-        ensures ordered { HappensInOrder (plan_of (seen self.old)) (working_of (seen self.old)) (Malloc bytes result) (working_of (seen self.new))
-            (order_in (seen self.old)) (order_in (seen self.new)) }
-        ensures kept { IsValid (seen self.new) }
-        ensures plan { plan_of (seen self.new) ≡ plan_of (seen self.old) }
-        ensures steps { RoseBy steps.old steps.new (malloc_cost (plan_of (seen self.old)) (state_of (seen self.old)) (order_in (seen self.old)) bytes result) }
+        requires { IsValid (sliced_seen self.old) }
+        ensures step { Happens (plan_of (sliced_seen self.old)) (working_of (sliced_seen self.old)) (Malloc bytes result) (working_of (sliced_seen self.new)) }
+        ensures ordered { HappensInOrder (plan_of (sliced_seen self.old)) (working_of (sliced_seen self.old)) (Malloc bytes result) (working_of (sliced_seen self.new))
+            (sliced_order_in (sliced_seen self.old)) (sliced_order_in (sliced_seen self.new)) }
+        ensures kept { IsValid (sliced_seen self.new) }
+        ensures plan { plan_of (sliced_seen self.new) ≡ plan_of (sliced_seen self.old) }
+        ensures steps { RoseBy steps.old steps.new (sliced_malloc_cost (plan_of (sliced_seen self.old)) (sliced_state_of (sliced_seen self.old)) (sliced_order_in (sliced_seen self.old)) bytes result) }
     {
         let Some(c) = self.tables.classes.class_of(bytes, steps) else {
             return Err(SliceRefusal::Size);
@@ -56,8 +56,8 @@ impl OpenHeap {
     /// Returns what an open sliced heap's malloc of `bytes` bytes would return now, without the handle: `Ok`, or its
     /// refusal. Changes nothing.
     pub fn has_room(&self, bytes: u32, steps: &mut Steps) -> Result<(), SliceRefusal>
-        requires { IsValid (seen self.now) }
-        ensures value { IsRoomAnswer (plan_of (seen self.now)) (state_of (seen self.now)) bytes result }
+        requires { IsValid (sliced_seen self.now) }
+        ensures value { IsRoomAnswer (plan_of (sliced_seen self.now)) (sliced_state_of (sliced_seen self.now)) bytes result }
         ensures steps { RoseBy steps.old steps.new 1 }
     {
         let Some(c) = self.tables.classes.class_of(bytes, steps) else {

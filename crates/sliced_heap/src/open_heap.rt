@@ -6,7 +6,7 @@ ghost use Rattle.cf_base.specs.declared.kind.Layout.TheVariants.{Words};
 ghost use Rattle.class_lists.specs.PageLists.{empty_lists};
 ghost use Rattle.page_slots.specs.PageTables.{AreFirst};
 ghost use Rattle.proxy_table.specs.Proxies.{AreBelowLimit, no_proxies};
-ghost use Rattle.sliced_heap.specs.Heap.{seen};
+ghost use Rattle.sliced_heap.specs.Heap.{sliced_seen};
 ghost use Rattle.sliced_heap.specs.Layout.{IsNew, IsValid};
 ghost use Rattle.sliced_heap.specs.Needed.{sliced_bytes};
 
@@ -59,8 +59,8 @@ impl OpenHeap {
     /// words. No other function of `OpenHeap` allocates. Fails if out of memory.
     pub fn new(alloc: Global, s: &Settings, quantum: u32) -> Result<OpenHeap, OutOfMemory>
         requires least { 1 ≤ quantum }
-        ensures kept { IfOk result (λ h. IsValid (seen h)) }
-        ensures new { IfOk result (λ h. IsNew s.now quantum (seen h)) }
+        ensures kept { IfOk result (λ h. IsValid (sliced_seen h)) }
+        ensures new { IfOk result (λ h. IsNew s.now quantum (sliced_seen h)) }
     {
         let region = Region::new(alloc, s.pages * s.page_words)?;
         let tables = PageTables::new(alloc, s, Layout::Words)?;
@@ -98,8 +98,8 @@ impl OpenHeap {
         requires lists { lists ≡ empty_lists (length tables.classes.sizes) s.now.pages }
         requires proxies { proxies ≡ no_proxies s.now.proxies }
         requires handles { AreBelowLimit proxies }
-        ensures kept { IsValid (seen result) }
-        ensures new { IsNew s.now quantum (seen result) }
+        ensures kept { IsValid (sliced_seen result) }
+        ensures new { IsNew s.now quantum (sliced_seen result) }
     {
         OpenHeap {
             settings: *s,

@@ -6,8 +6,8 @@ ghost use Rattle.slice_model.specs.Ordered.{HappensInOrder, SlicesInOrder};
 ghost use Rattle.slice_model.specs.Runs.{Happens, Slices, Step};
 ghost use Rattle.slice_model.specs.State.{Clear, Move, job_slot, left_of};
 ghost use Rattle.sliced_heap.specs.Costs.{job_cost, part_cost, slice_cost};
-ghost use Rattle.sliced_heap.specs.Heap.{job_of, seen};
-ghost use Rattle.sliced_heap.specs.Layout.{IsValid, order_in, plan_of, state_of, working_of};
+ghost use Rattle.sliced_heap.specs.Heap.{job_of, sliced_seen};
+ghost use Rattle.sliced_heap.specs.Layout.{IsValid, plan_of, sliced_order_in, sliced_state_of, working_of};
 ghost use Rattle.sliced_heap.specs.Room.{mover};
 ghost use Rattle.cf_base.specs.declared.answers.Handle.{Handle};
 
@@ -21,21 +21,21 @@ impl OpenHeap {
     /// In a sliced heap, does one slice of the job, if one is pending. Calls `slice` and does no more, but its
     /// contract states the clauses of the public call `step`. `free` calls `slice` directly.
     pub fn step(&mut self, steps: &mut Steps)
-        requires { IsValid (seen self.old) }
-        ensures step { Happens (plan_of (seen self.old)) (working_of (seen self.old)) Step (working_of (seen self.new)) }
-        ensures ordered { HappensInOrder (plan_of (seen self.old)) (working_of (seen self.old)) Step (working_of (seen self.new))
-            (order_in (seen self.old)) (order_in (seen self.new)) }
-        ensures kept { IsValid (seen self.new) }
-        ensures plan { plan_of (seen self.new) ≡ plan_of (seen self.old) }
-        ensures steps { RoseBy steps.old steps.new (slice_cost (plan_of (seen self.old)) (state_of (seen self.old))) }
+        requires { IsValid (sliced_seen self.old) }
+        ensures step { Happens (plan_of (sliced_seen self.old)) (working_of (sliced_seen self.old)) Step (working_of (sliced_seen self.new)) }
+        ensures ordered { HappensInOrder (plan_of (sliced_seen self.old)) (working_of (sliced_seen self.old)) Step (working_of (sliced_seen self.new))
+            (sliced_order_in (sliced_seen self.old)) (sliced_order_in (sliced_seen self.new)) }
+        ensures kept { IsValid (sliced_seen self.new) }
+        ensures plan { plan_of (sliced_seen self.new) ≡ plan_of (sliced_seen self.old) }
+        ensures steps { RoseBy steps.old steps.new (slice_cost (plan_of (sliced_seen self.old)) (sliced_state_of (sliced_seen self.old))) }
     {
         self.slice(steps);
     }
 
     /// In a sliced heap, the number of words that the pending job has yet to clear or move; 0 if none is pending.
     pub fn left(&self) -> u32
-        requires { IsValid (seen self.now) }
-        ensures { result ≡ left_of (plan_of (seen self.now)) (state_of (seen self.now)) }
+        requires { IsValid (sliced_seen self.now) }
+        ensures { result ≡ left_of (plan_of (sliced_seen self.now)) (sliced_state_of (sliced_seen self.now)) }
     {
         match self.job {
             Pending::Idle => 0,
@@ -67,13 +67,13 @@ impl OpenHeap {
     /// Does one slice of the pending job, whether it clears a slot or moves an object; changes nothing if
     /// none is pending.
     pub(crate) fn slice(&mut self, steps: &mut Steps)
-        requires { IsValid (seen self.old) }
-        ensures step { Slices (plan_of (seen self.old)) (working_of (seen self.old)) (working_of (seen self.new)) }
-        ensures ordered { SlicesInOrder (plan_of (seen self.old)) (working_of (seen self.old)) (working_of (seen self.new))
-            (order_in (seen self.old)) (order_in (seen self.new)) }
-        ensures kept { IsValid (seen self.new) }
-        ensures plan { plan_of (seen self.new) ≡ plan_of (seen self.old) }
-        ensures steps { RoseBy steps.old steps.new (job_cost (plan_of (seen self.old)) (state_of (seen self.old)).held (job_of self.old.job)) }
+        requires { IsValid (sliced_seen self.old) }
+        ensures step { Slices (plan_of (sliced_seen self.old)) (working_of (sliced_seen self.old)) (working_of (sliced_seen self.new)) }
+        ensures ordered { SlicesInOrder (plan_of (sliced_seen self.old)) (working_of (sliced_seen self.old)) (working_of (sliced_seen self.new))
+            (sliced_order_in (sliced_seen self.old)) (sliced_order_in (sliced_seen self.new)) }
+        ensures kept { IsValid (sliced_seen self.new) }
+        ensures plan { plan_of (sliced_seen self.new) ≡ plan_of (sliced_seen self.old) }
+        ensures steps { RoseBy steps.old steps.new (job_cost (plan_of (sliced_seen self.old)) (sliced_state_of (sliced_seen self.old)).held (job_of self.old.job)) }
     {
         match self.job {
             Pending::Idle => {}
@@ -98,14 +98,14 @@ impl OpenHeap {
 
     /// Does a slice of the job that clears slot `k`, and ends the job if its last word is cleared.
     fn clear_slice(&mut self, k: JobSlot, steps: &mut Steps)
-        requires kept { IsValid (seen self.old) }
+        requires kept { IsValid (sliced_seen self.old) }
         requires job { job_of self.old.job ≡ Clear k }
-        ensures step { Slices (plan_of (seen self.old)) (working_of (seen self.old)) (working_of (seen self.new)) }
-        ensures ordered { SlicesInOrder (plan_of (seen self.old)) (working_of (seen self.old)) (working_of (seen self.new))
-            (order_in (seen self.old)) (order_in (seen self.new)) }
-        ensures kept { IsValid (seen self.new) }
-        ensures plan { plan_of (seen self.new) ≡ plan_of (seen self.old) }
-        ensures steps { RoseBy steps.old steps.new (part_cost (plan_of (seen self.old)) (state_of (seen self.old)).held k) }
+        ensures step { Slices (plan_of (sliced_seen self.old)) (working_of (sliced_seen self.old)) (working_of (sliced_seen self.new)) }
+        ensures ordered { SlicesInOrder (plan_of (sliced_seen self.old)) (working_of (sliced_seen self.old)) (working_of (sliced_seen self.new))
+            (sliced_order_in (sliced_seen self.old)) (sliced_order_in (sliced_seen self.new)) }
+        ensures kept { IsValid (sliced_seen self.new) }
+        ensures plan { plan_of (sliced_seen self.new) ≡ plan_of (sliced_seen self.old) }
+        ensures steps { RoseBy steps.old steps.new (part_cost (plan_of (sliced_seen self.old)) (sliced_state_of (sliced_seen self.old)).held k) }
     {
         let n = self.words_of(k);
         clear_next(&mut self.region, k, n, steps);
@@ -122,14 +122,14 @@ impl OpenHeap {
     /// Does a slice of the job that moves object `h` out of slot `k`, and ends the job if the last word
     /// is moved. Each word that it moves becomes 0 in slot `k`.
     fn move_slice(&mut self, h: Handle, k: JobSlot, steps: &mut Steps)
-        requires kept { IsValid (seen self.old) }
+        requires kept { IsValid (sliced_seen self.old) }
         requires job { job_of self.old.job ≡ Move h.0 k }
-        ensures step { Slices (plan_of (seen self.old)) (working_of (seen self.old)) (working_of (seen self.new)) }
-        ensures ordered { SlicesInOrder (plan_of (seen self.old)) (working_of (seen self.old)) (working_of (seen self.new))
-            (order_in (seen self.old)) (order_in (seen self.new)) }
-        ensures kept { IsValid (seen self.new) }
-        ensures plan { plan_of (seen self.new) ≡ plan_of (seen self.old) }
-        ensures steps { RoseBy steps.old steps.new (1 + part_cost (plan_of (seen self.old)) (state_of (seen self.old)).held k) }
+        ensures step { Slices (plan_of (sliced_seen self.old)) (working_of (sliced_seen self.old)) (working_of (sliced_seen self.new)) }
+        ensures ordered { SlicesInOrder (plan_of (sliced_seen self.old)) (working_of (sliced_seen self.old)) (working_of (sliced_seen self.new))
+            (sliced_order_in (sliced_seen self.old)) (sliced_order_in (sliced_seen self.new)) }
+        ensures kept { IsValid (sliced_seen self.new) }
+        ensures plan { plan_of (sliced_seen self.new) ≡ plan_of (sliced_seen self.old) }
+        ensures steps { RoseBy steps.old steps.new (1 + part_cost (plan_of (sliced_seen self.old)) (sliced_state_of (sliced_seen self.old)).held k) }
     {
         let Some(to) = self.proxies.lookup(h, steps) else {
             unreachable!();

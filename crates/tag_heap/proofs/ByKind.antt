@@ -14,7 +14,7 @@ use Rattle.cf_model.specs.Families.{IsTiled, free_lists_of, list_count_of, paged
 use Rattle.cf_model.specs.Ordered.{BlockMallocInOrder, IsOrderedMalloc}
 use Rattle.cf_model.specs.State.{HeapState}
 use Rattle.cf_model.specs.Steps.{frames_left, slot_in}
-use Rattle.tag_heap.specs.Heap.{Heap, order_of, state_of}
+use Rattle.tag_heap.specs.Heap.{Heap, tag_order_of, tag_state_of}
 
 not_paged : paged ≡ tiled → ⊥
 not_paged e = cc
@@ -36,10 +36,10 @@ module _ (k : Kind) (is : IsTiled k) where
 
   -- a malloc in the order of blocks is one in the order of the kind
   pub malloc_by : (old new : Heap) (bytes : ℕ) (answer : Result Handle Refusal)
-      → BlockMallocInOrder (state_of k old) bytes answer (state_of k new) (order_of old) (order_of new)
-      → IsOrderedMalloc (state_of k old) bytes answer (state_of k new)
-  malloc_by old new bytes answer = of_tiled (λ j. BlockMallocInOrder (state_of j old) bytes answer (state_of j new) (order_of old) (order_of new)
-      → IsOrderedMalloc (state_of j old) bytes answer (state_of j new)) (λ r. r) (λ r. r) k is
+      → BlockMallocInOrder (tag_state_of k old) bytes answer (tag_state_of k new) (tag_order_of old) (tag_order_of new)
+      → IsOrderedMalloc (tag_state_of k old) bytes answer (tag_state_of k new)
+  malloc_by old new bytes answer = of_tiled (λ j. BlockMallocInOrder (tag_state_of j old) bytes answer (tag_state_of j new) (tag_order_of old) (tag_order_of new)
+      → IsOrderedMalloc (tag_state_of j old) bytes answer (tag_state_of j new)) (λ r. r) (λ r. r) k is
 
 -- lists by a rule are those of the kind that has the rule
 pub lists_of_kind : (k : Kind) (rule : FreeLists) (count : ℕ) (s : BlocksWithLists) → rule ≡ free_lists_of k → count ≡ list_count_of k → AreListsOf rule count s

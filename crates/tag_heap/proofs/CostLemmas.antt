@@ -15,9 +15,9 @@ use Rattle.cf_model.specs.ExactCosts.{block_malloc_cost}
 use Rattle.cf_model.specs.Families.{free_lists_of, list_count_of}
 use Rattle.cf_model.specs.Ordered.{CarvesInOrder}
 use Rattle.cf_model.specs.State.{HeapState}
-use Rattle.tag_heap.specs.Costs.{malloc_steps}
-use Rattle.tag_heap.specs.Choices.{MallocChooses}
-use Rattle.tag_heap.specs.Heap.{Heap, order_of, state_of}
+use Rattle.tag_heap.specs.Costs.{tag_malloc_steps}
+use Rattle.tag_heap.specs.Choices.{TagMallocChooses}
+use Rattle.tag_heap.specs.Heap.{Heap, tag_order_of, tag_state_of}
 
 -- the cost of a call is the difference of the counts after and before it
 pub cost_is : (old mid count before n : ℕ) → mid ≡ old + n → before ≡ old → count ≡ mid → count - before ≡ n
@@ -25,7 +25,7 @@ cost_is old mid count before n rose a b = omega arith
 
 -- ---- mallocs
 
-pub malloc_few : (answer : Result Handle Refusal) → malloc_steps answer ≤ 25
+pub malloc_few : (answer : Result Handle Refusal) → tag_malloc_steps answer ≤ 25
 malloc_few (Ok q) = omega arith
 malloc_few (Err refusal.Size) = omega arith
 malloc_few (Err refusal.Proxy) = omega arith
@@ -40,14 +40,14 @@ malloc_cost_kept old new cost bytes (Err refusal.Proxy) = refl
 malloc_cost_kept old new cost bytes (Err refusal.Space) = refl
 
 -- what a malloc chooses doesn't depend on that cost either
-pub malloc_choice_kept : (k : Kind) (old new : Heap) (cost bytes : ℕ) (answer : Result Handle Refusal) → MallocChooses k old bytes answer new
-    → MallocChooses k old bytes answer (record new { cost = cost })
-malloc_choice_kept k old new cost bytes (Ok q) made = by_place (place_of (state_of k new) q.0) made
+pub malloc_choice_kept : (k : Kind) (old new : Heap) (cost bytes : ℕ) (answer : Result Handle Refusal) → TagMallocChooses k old bytes answer new
+    → TagMallocChooses k old bytes answer (record new { cost = cost })
+malloc_choice_kept k old new cost bytes (Ok q) made = by_place (place_of (tag_state_of k new) q.0) made
   where
     by_place : (o : Option ℕ)
-        → IfSome o (λ a. CarvesInOrder (state_of k old) (record { number = q.0; length = bytes }) a (state_of k new) (order_of old) (order_of new))
-        → IfSome o (λ a. CarvesInOrder (state_of k old) (record { number = q.0; length = bytes }) a (state_of k (record new { cost = cost })) (order_of old)
-        (order_of new))
+        → IfSome o (λ a. CarvesInOrder (tag_state_of k old) (record { number = q.0; length = bytes }) a (tag_state_of k new) (tag_order_of old) (tag_order_of new))
+        → IfSome o (λ a. CarvesInOrder (tag_state_of k old) (record { number = q.0; length = bytes }) a (tag_state_of k (record new { cost = cost })) (tag_order_of old)
+        (tag_order_of new))
     by_place None made = made
     by_place (Some a) made = record { rest = made.rest; number = made.number; carves = made.carves; left = made.left }
 malloc_choice_kept k old new cost bytes (Err e) made = made

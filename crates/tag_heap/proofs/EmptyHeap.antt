@@ -22,7 +22,7 @@ use Rattle.cf_model.specs.Families.{IsTiled, free_lists_of, list_count_of}
 use Rattle.cf_model.specs.Rules.{KeepsRules, KeepsTiling}
 use Rattle.cf_model.specs.Steps.{IsEmptyHeap, IsOpeningWords, empty_heap, opening_order, ordered_heap}
 use Rattle.cf_model.proofs.CallerLemmas.{no_object, tiled_empty}
-use Rattle.tag_heap.specs.Heap.{Heap, IsValid, order_of, state_of}
+use Rattle.tag_heap.specs.Heap.{Heap, IsValid, tag_order_of, tag_state_of}
 use Rattle.tag_heap.proofs.ByKind.{of_tiled}
 use Rattle.tag_heap.proofs.Preserved.{MeetsInvariantWith, becomes_rules, becomes_valid, held_is, in_range}
 
@@ -78,21 +78,21 @@ module _ (s : Settings) (t : Tagged) (p : Proxies) (blocks : t.blocks ≡ one_fr
   pub fresh_valid : IsValid k fresh
   fresh_valid = becomes_valid fresh empty becomes
 
-  pub fresh_rules : KeepsRules (state_of k fresh)
+  pub fresh_rules : KeepsRules (tag_state_of k fresh)
   fresh_rules = becomes_rules fresh empty becomes is
 
-  fresh_order : order_of fresh ≡ opening_order k (profile_of s)
+  fresh_order : tag_order_of fresh ≡ opening_order k (profile_of s)
   fresh_order = of_tiled (λ j. t.lists ≡ first_lists (free_lists_of j) (list_count_of j) (s.pages * s.page_words)
-      → order_of fresh ≡ opening_order j (profile_of s)) (begins tlsf 336) (begins half_fit 24) k is first
+      → tag_order_of fresh ≡ opening_order j (profile_of s)) (begins tlsf 336) (begins half_fit 24) k is first
     where
       begins : (rule : FreeLists) (count : ℕ) → t.lists ≡ first_lists rule count (s.pages * s.page_words)
-          → order_of fresh ≡ record { pool = []; not_full = first_lists rule count (s.pages * s.page_words); spare = range_with_len 0 s.proxies }
+          → tag_order_of fresh ≡ record { pool = []; not_full = first_lists rule count (s.pages * s.page_words); spare = range_with_len 0 s.proxies }
       begins rule count at_first = λ i. record { pool = []; not_full = at_first i; spare = (none i).free }
 
-  pub fresh_empty : IsEmptyHeap k s (state_of k fresh)
+  pub fresh_empty : IsEmptyHeap k s (tag_state_of k fresh)
   fresh_empty = record {
     words = of_tiled (λ k. IsOpeningWords k (profile_of s) t.words) tt tt k is;
     order = fresh_order;
-    whole = of_tiled (λ k. state_of k fresh ≡ ordered_heap k (profile_of s) t.words (Some (order_of fresh)))
+    whole = of_tiled (λ k. tag_state_of k fresh ≡ ordered_heap k (profile_of s) t.words (Some (tag_order_of fresh)))
         (rw (held_is fresh empty becomes, blocks) refl) (rw (held_is fresh empty becomes, blocks) refl) k is;
   }

@@ -13,7 +13,7 @@ use Rattle.page_model.specs.Figures.{asked_bytes}
 use Rattle.page_model.proofs.CallerLemmas.{len-objects}
 use Rattle.block_model.specs.Tiling.{free_blocks, largest_free, used_blocks}
 use Rattle.cf_model.specs.Answers.{block_totals}
-use Rattle.tag_heap.specs.Heap.{Heap, IsValid, held_in, state_of}
+use Rattle.tag_heap.specs.Heap.{Heap, IsValid, tag_held_in, tag_state_of}
 use Rattle.tag_heap.proofs.Preserved.{held_many, read_is}
 use Rattle.tag_heap.proofs.ReadLemmas.{bytes_few}
 
@@ -26,7 +26,7 @@ pub totals_described : (k : Kind) (h : Heap) → IsValid k h → ◌≡◌ {A = 
   used = used_blocks h.tagged.blocks;
   free = free_blocks h.tagged.blocks;
   largest = largest_free h.tagged.blocks;
-}) (block_totals (state_of k h))
+}) (block_totals (tag_state_of k h))
 totals_described k h v = λ i. record {
   live = sym (held_many h v) i;
   asked = v.asked_all i;
@@ -38,14 +38,14 @@ totals_described k h v = λ i. record {
 }
 
 module _ {k : Kind} (h : Heap) (v : IsValid k h) where
-  object_few : (q : ℕ) (bytes : List ℕ) → get (objects (held_in h)) q ≡ Some bytes → length bytes ≤ 2 ^ 26
-  object_few q bytes e = go (get (held_in h) q) refl
+  object_few : (q : ℕ) (bytes : List ℕ) → get (objects (tag_held_in h)) q ≡ Some bytes → length bytes ≤ 2 ^ 26
+  object_few q bytes e = go (get (tag_held_in h) q) refl
     where
-      go : (o : Option Placed) → get (held_in h) q ≡ o → length bytes ≤ 2 ^ 26
-      go None f = absurd (let z : None ≡ Some bytes = sym (get-map_values (λ (x : Placed). x.bytes) (held_in h) q
+      go : (o : Option Placed) → get (tag_held_in h) q ≡ o → length bytes ≤ 2 ^ 26
+      go None f = absurd (let z : None ≡ Some bytes = sym (get-map_values (λ (x : Placed). x.bytes) (tag_held_in h) q
           ∙ ap (option_map (λ (x : Placed). x.bytes)) f) ∙ e in cc)
       go (Some x) f =
-          let z : Some x.bytes ≡ Some bytes = sym (get-map_values (λ (x : Placed). x.bytes) (held_in h) q ∙ ap (option_map (λ (x : Placed). x.bytes)) f) ∙ e in
+          let z : Some x.bytes ≡ Some bytes = sym (get-map_values (λ (x : Placed). x.bytes) (tag_held_in h) q ∙ ap (option_map (λ (x : Placed). x.bytes)) f) ∙ e in
           let is : x.bytes ≡ bytes = cc in
           let r = read_is h.tagged.words h.proxies.places q x f in
           let few = bytes_few h v q x.place r.place in
@@ -56,8 +56,8 @@ module _ {k : Kind} (h : Heap) (v : IsValid k h) where
   pub asked_few : h.asked ≤ 2 ^ 26 * 65536
   unfolding asked_bytes
   asked_few =
-      let a = sum_at_most length (2 ^ 26) (objects (held_in h)) object_few in
-      let l = len-objects (held_in h) in
+      let a = sum_at_most length (2 ^ 26) (objects (tag_held_in h)) object_few in
+      let l = len-objects (tag_held_in h) in
       let m = held_many h v in
       let b = v.handles.few in
       let e = v.numbers in

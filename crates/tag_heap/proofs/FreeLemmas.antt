@@ -21,7 +21,7 @@ use Rattle.cf_model.specs.Families.{IsTiled, free_lists_of, list_count_of}
 use Rattle.cf_model.specs.Rules.{AreOwned, KeepsRules, content_word}
 use Rattle.cf_model.specs.Steps.{FreesObject, MovesIn, slot_in, tiling_left, call_result}
 use Rattle.cf_model.proofs.CallerLemmas.{owned_free}
-use Rattle.tag_heap.specs.Heap.{Heap, IsValid, held_in, order_of, state_of}
+use Rattle.tag_heap.specs.Heap.{Heap, IsValid, tag_held_in, tag_order_of, tag_state_of}
 use Rattle.tag_heap.proofs.ByKind.{frames_stay, of_tiled}
 use Rattle.tag_heap.proofs.Preserved.{MeetsInvariantWith, are_bytes, becomes_rules, becomes_valid, held_is, places_are}
 use Rattle.tag_heap.proofs.ReadLemmas.{held, object}
@@ -35,7 +35,7 @@ module _ {k : Kind} (h : Heap) (v : IsValid k h) (q a : ℕ) (some : get h.proxi
   old = object h v q a some
 
   abbrev left : Held
-  left = remove (held_in h) q
+  left = remove (tag_held_in h) q
 
   -- the heap without the object
   abbrev pub freed : Heap
@@ -51,15 +51,15 @@ module _ {k : Kind} (h : Heap) (v : IsValid k h) (q a : ℕ) (some : get h.proxi
   length_is : len ≡ length old.bytes
   length_is = len_is ∙ sym (bytes_long h.tagged.words (a + 1))
 
-  found : get (held_in h) q ≡ Some old
+  found : get (tag_held_in h) q ≡ Some old
   found = held h v q a some
 
-  objects_left : objects left ≡ remove (objects (held_in h)) q
-  objects_left = map_values-remove (λ (x : Placed). x.bytes) (held_in h) q
+  objects_left : objects left ≡ remove (objects (tag_held_in h)) q
+  objects_left = map_values-remove (λ (x : Placed). x.bytes) (tag_held_in h) q
 
-  asked_left : asked_bytes (objects left) + length old.bytes ≡ asked_bytes (objects (held_in h))
+  asked_left : asked_bytes (objects left) + length old.bytes ≡ asked_bytes (objects (tag_held_in h))
   asked_left = ap (λ o. asked_bytes o + length old.bytes) objects_left
-      ∙ asked_taken (objects (held_in h)) q old.bytes (get-map_values (λ (x : Placed). x.bytes) (held_in h) q ∙ ap (option_map (λ (x : Placed). x.bytes)) found)
+      ∙ asked_taken (objects (tag_held_in h)) q old.bytes (get-map_values (λ (x : Placed). x.bytes) (tag_held_in h) q ∙ ap (option_map (λ (x : Placed). x.bytes)) found)
 
   used_left : used_words t.blocks + size_at h.tagged.blocks a ≡ used_words h.tagged.blocks
   used_left =
@@ -74,19 +74,19 @@ module _ {k : Kind} (h : Heap) (v : IsValid k h) (q a : ℕ) (some : get h.proxi
   used_enough = (let e = used_left in let s = size_is in let f = v.used_all in omega arith)
 
   contents_left : AreTilingWords (content_word left) t.blocks t.words
-  contents_left = release_words (content_word (held_in h)) (content_word left) h.tagged t a v.tags tags r v.contents (λ b c p away there used i.
+  contents_left = release_words (content_word (tag_held_in h)) (content_word left) h.tagged t a v.tags tags r v.contents (λ b c p away there used i.
       let own = v.owned.live b c p there used in
-      let other : p ≢ q = λ is. away (sym own.2 ∙ ap (λ (x : Placed). x.place) (some_placed own.0 old (sym own.1 ∙ ap (get (held_in h)) is ∙ found))) in
-      rw (get_remove_other (held_in h) q p other) refl)
+      let other : p ≢ q = λ is. away (sym own.2 ∙ ap (λ (x : Placed). x.place) (some_placed own.0 old (sym own.1 ∙ ap (get (tag_held_in h)) is ∙ found))) in
+      rw (get_remove_other (tag_held_in h) q p other) refl)
 
   becomes : MeetsInvariantWith k freed left
   becomes = record {
     tags = tags;
     lists = lists;
     words_long = long ∙ v.words_long;
-    places = ap (λ m. remove m q) (places_are h v) ∙ sym (map_values-remove (λ (x : Placed). x.place) (held_in h) q);
-    bytes = λ p x e. are_bytes h v p x (some_removed (held_in h) q p x e).1;
-    owned = subst (AreOwned left) (sym r.blocks) (owned_free (length h.tagged.words) (held_in h) h.tagged.blocks q old v.tags.tiling v.owned found);
+    places = ap (λ m. remove m q) (places_are h v) ∙ sym (map_values-remove (λ (x : Placed). x.place) (tag_held_in h) q);
+    bytes = λ p x e. are_bytes h v p x (some_removed (tag_held_in h) q p x e).1;
+    owned = subst (AreOwned left) (sym r.blocks) (owned_free (length h.tagged.words) (tag_held_in h) h.tagged.blocks q old v.tags.tiling v.owned found);
     contents = contents_left;
     numbers = v.numbers;
     handles = below;
@@ -97,24 +97,24 @@ module _ {k : Kind} (h : Heap) (v : IsValid k h) (q a : ℕ) (some : get h.proxi
   pub freed_valid : IsValid k freed
   freed_valid = becomes_valid freed left becomes
 
-  pub freed_rules : IsTiled k → KeepsRules (state_of k freed)
+  pub freed_rules : IsTiled k → KeepsRules (tag_state_of k freed)
   freed_rules = becomes_rules freed left becomes
 
-  pub frees : IsTiled k → FreesObject (state_of k h) q (record { slot_words = size; moved = None }) (state_of k freed)
+  pub frees : IsTiled k → FreesObject (tag_state_of k h) q (record { slot_words = size; moved = None }) (tag_state_of k freed)
   frees is = record {
     object = old;
     found = found;
-    slot = size_is ∙ of_tiled (λ j. size_at h.tagged.blocks a ≡ slot_in j (state_of k h) old) refl refl k is;
-    moves = of_tiled (λ j. MovesIn j (state_of k h) old None) refl refl k is;
+    slot = size_is ∙ of_tiled (λ j. size_at h.tagged.blocks a ≡ slot_in j (tag_state_of k h) old) refl refl k is;
+    moves = of_tiled (λ j. MovesIn j (tag_state_of k h) old None) refl refl k is;
     held = held_is freed left becomes;
     left = ap objects (held_is freed left becomes) ∙ objects_left;
-    frames = sym (frames_stay k is (state_of k h) (call_result (state_of k h) q old None));
-    tiling = r.blocks ∙ of_tiled (λ j. released h.tagged.blocks a ≡ tiling_left j (state_of k h) a) refl refl k is;
+    frames = sym (frames_stay k is (tag_state_of k h) (call_result (tag_state_of k h) q old None));
+    tiling = r.blocks ∙ of_tiled (λ j. released h.tagged.blocks a ≡ tiling_left j (tag_state_of k h) a) refl refl k is;
     rest = record { kind = refl; opened = refl; profile = refl; bounds = refl };
   }
 
   -- the block that the free leaves becomes the first of its list, and its number the first free one
-  pub leaves_order : t.lists ≡ lists_released (free_lists_of k) (listed h.tagged) a → order_of freed ≡ record (order_of h) {
+  pub leaves_order : t.lists ≡ lists_released (free_lists_of k) (listed h.tagged) a → tag_order_of freed ≡ record (tag_order_of h) {
     not_full = lists_released (free_lists_of k) (listed h.tagged) a;
     spare = q ∷ h.proxies.free;
   }

@@ -29,8 +29,8 @@ use Rattle.cf_model.specs.Ordered.{CarvesInOrder}
 use Rattle.cf_model.specs.Rules.{KeepsRules, content_word}
 use Rattle.cf_model.specs.Steps.{AddsObject, IsPlacedBy, IsRefusedBy, LacksRoomIn, LacksProxy, LacksSpace}
 use Rattle.cf_model.proofs.CallerLemmas.{fresh_word, no_one, owned_malloc}
-use Rattle.tag_heap.specs.Heap.{Heap, IsValid, held_in, order_of, state_of}
-use Rattle.tag_heap.specs.Room.{HasRoom}
+use Rattle.tag_heap.specs.Heap.{Heap, IsValid, tag_held_in, tag_order_of, tag_state_of}
+use Rattle.tag_heap.specs.Room.{HasTagRoom}
 use Rattle.tag_heap.proofs.ByKind.{of_tiled}
 use Rattle.tag_heap.proofs.Preserved.{MeetsInvariantWith, are_bytes, becomes_rules, becomes_state, becomes_valid, held_many, no_place, places_are}
 
@@ -49,7 +49,7 @@ module _ {k : Kind} (rule : FreeLists) (h : Heap) (v : IsValid k h) (q n a : ℕ
     (below : AreBelowLimit (with_place h.proxies q a))
     (size : ℕ) (size_is : size ≡ size_at t.blocks a) where
   abbrev grown : Held
-  grown = insert (held_in h) q (zeros_at a n)
+  grown = insert (tag_held_in h) q (zeros_at a n)
 
   -- the heap with the new object
   abbrev pub given : Heap
@@ -64,7 +64,7 @@ module _ {k : Kind} (rule : FreeLists) (h : Heap) (v : IsValid k h) (q n a : ℕ
   c : CarvesAt rule h.tagged (need n + 1) (header_word q n) a t
   c = subst (λ x. CarvesAt rule h.tagged (x + 1) (header_word q n) a t) needed_is (subst (λ w. CarvesAt rule h.tagged (needed + 1) w a t) tag_is carve)
 
-  none : get (held_in h) q ≡ None
+  none : get (tag_held_in h) q ≡ None
   none = no_place h v q unused
 
   small : q < 2 ^ 32
@@ -80,7 +80,7 @@ module _ {k : Kind} (rule : FreeLists) (h : Heap) (v : IsValid k h) (q n a : ℕ
   long_zeros = length-replicate {A = ℕ} n 0
 
   there : get grown q ≡ Some (zeros_at a n)
-  there = get_inserted (held_in h) q (zeros_at a n)
+  there = get_inserted (tag_held_in h) q (zeros_at a n)
 
   first_word : content_word grown (owner_of (header_word q n)) 0 ≡ header_word q n
   first_word = (let e : owner_of (header_word q n) ≡ q = omega arith in rw (e, there) (ap (header_word q) long_zeros))
@@ -90,17 +90,17 @@ module _ {k : Kind} (rule : FreeLists) (h : Heap) (v : IsValid k h) (q n a : ℕ
   rest_words (suc i) low = (let e : owner_of (header_word q n) ≡ q = omega arith in rw (e, there) (fresh_word q n i))
 
   contents_now : AreTilingWords (content_word grown) t.blocks t.words
-  contents_now = carve_words (content_word (held_in h)) (content_word grown) rule h.tagged t (need n + 1) (header_word q n) a v.tags tags c v.contents
+  contents_now = carve_words (content_word (tag_held_in h)) (content_word grown) rule h.tagged t (need n + 1) (header_word q n) a v.tags tags c v.contents
       first_word rest_words (λ b x p at used i.
       let own = v.owned.live b x p at used in
-      let other : p ≢ q = λ is. no_one (get (held_in h) q) own.0 none (ap (get (held_in h)) (sym is) ∙ own.1) in
-      rw (get_insert_other (held_in h) q (zeros_at a n) p other) refl)
+      let other : p ≢ q = λ is. no_one (get (tag_held_in h) q) own.0 none (ap (get (tag_held_in h)) (sym is) ∙ own.1) in
+      rw (get_insert_other (tag_held_in h) q (zeros_at a n) p other) refl)
 
-  asked_now : asked_bytes (objects grown) ≡ asked_bytes (objects (held_in h)) + n
-  asked_now = ap asked_bytes (malloc_objects (held_in h) q a n)
-      ∙ asked_added (objects (held_in h)) q (replicate n 0)
-      (get-map_values (λ (x : Placed). x.bytes) (held_in h) q ∙ ap (option_map (λ (x : Placed). x.bytes)) none)
-      ∙ ap (λ l. asked_bytes (objects (held_in h)) + l) long_zeros
+  asked_now : asked_bytes (objects grown) ≡ asked_bytes (objects (tag_held_in h)) + n
+  asked_now = ap asked_bytes (malloc_objects (tag_held_in h) q a n)
+      ∙ asked_added (objects (tag_held_in h)) q (replicate n 0)
+      (get-map_values (λ (x : Placed). x.bytes) (tag_held_in h) q ∙ ap (option_map (λ (x : Placed). x.bytes)) none)
+      ∙ ap (λ l. asked_bytes (objects (tag_held_in h)) + l) long_zeros
 
   used_now : used_words t.blocks ≡ used_words h.tagged.blocks + size_at t.blocks a
   used_now = ap used_words carves.carved
@@ -118,7 +118,7 @@ module _ {k : Kind} (rule : FreeLists) (h : Heap) (v : IsValid k h) (q n a : ℕ
       omega arith
 
   are_bytes_now : (p : ℕ) (x : Placed) → get grown p ≡ Some x → AreBytes x.bytes
-  are_bytes_now p x e = elim (some_inserted (held_in h) q (zeros_at a n) p x e) [
+  are_bytes_now p x e = elim (some_inserted (tag_held_in h) q (zeros_at a n) p x e) [
     | inl (is, same) ↦ subst (λ (y : Placed). AreBytes y.bytes) same (zeros_are_bytes n)
     | inr (other, was) ↦ are_bytes h v p x was
   ]
@@ -128,9 +128,9 @@ module _ {k : Kind} (rule : FreeLists) (h : Heap) (v : IsValid k h) (q n a : ℕ
     tags = tags;
     lists = lists;
     words_long = long ∙ v.words_long;
-    places = ap (λ m. insert m q a) (places_are h v) ∙ sym (malloc_places (held_in h) q a n);
+    places = ap (λ m. insert m q a) (places_are h v) ∙ sym (malloc_places (tag_held_in h) q a n);
     bytes = are_bytes_now;
-    owned = owned_malloc rule (length h.tagged.words) (held_in h) h.tagged.blocks t.blocks q n a v.tags.tiling v.owned none carves carved_to;
+    owned = owned_malloc rule (length h.tagged.words) (tag_held_in h) h.tagged.blocks t.blocks q n a v.tags.tiling v.owned none carves carved_to;
     contents = contents_now;
     numbers = v.numbers;
     handles = below;
@@ -141,10 +141,10 @@ module _ {k : Kind} (rule : FreeLists) (h : Heap) (v : IsValid k h) (q n a : ℕ
   pub given_valid : IsValid k given
   given_valid = becomes_valid given grown becomes
 
-  pub given_rules : IsTiled k → KeepsRules (state_of k given)
+  pub given_rules : IsTiled k → KeepsRules (tag_state_of k given)
   given_rules = becomes_rules given grown becomes
 
-  pub gives : IsTiled k → rule ≡ free_lists_of k → AddsObject (state_of k h) (record { number = q; length = n }) (state_of k given)
+  pub gives : IsTiled k → rule ≡ free_lists_of k → AddsObject (tag_state_of k h) (record { number = q; length = n }) (tag_state_of k given)
   gives is rule_is = record {
     fits = fits;
     few = (let m = held_many h v in let b = v.handles.few in let e = v.numbers in omega arith);
@@ -152,7 +152,7 @@ module _ {k : Kind} (rule : FreeLists) (h : Heap) (v : IsValid k h) (q n a : ℕ
     unused = none;
     place = a;
     placed = of_tiled (λ j. Carves (free_lists_of j) h.tagged.blocks (record { need = block_need n; owner = q }) a t.blocks
-        → IsPlacedBy j (state_of k h) (record { number = q; length = n }) a (state_of k given))
+        → IsPlacedBy j (tag_state_of k h) (record { number = q; length = n }) a (tag_state_of k given))
         (λ x. x) (λ x. x) k is (subst (λ r. Carves r h.tagged.blocks (record { need = block_need n; owner = q }) a t.blocks) rule_is carves);
     whole = becomes_state given grown becomes k;
   }
@@ -160,7 +160,7 @@ module _ {k : Kind} (rule : FreeLists) (h : Heap) (v : IsValid k h) (q n a : ℕ
   -- the number and the block are those that were next in the order
   pub chooses : rule ≡ free_lists_of k → h.proxies.free ≡ q ∷ (with_place h.proxies q a).free → next_block rule h.tagged.lists (need n + 1) ≡ Some a
       → t.lists ≡ lists_carved rule (listed h.tagged) (needed + 1) a
-      → CarvesInOrder (state_of k h) (record { number = q; length = n }) a (state_of k given) (order_of h) (order_of given)
+      → CarvesInOrder (tag_state_of k h) (record { number = q; length = n }) a (tag_state_of k given) (tag_order_of h) (tag_order_of given)
   chooses rule_is first next left =
       let size : need n + 1 ≡ block_need n = omega arith in
       let same : needed + 1 ≡ block_need n = (let e = needed_is in omega arith) in
@@ -177,28 +177,28 @@ module _ {k : Kind} (rule : FreeLists) (h : Heap) (v : IsValid k h) (q n a : ℕ
 
 module _ (k : Kind) (is : IsTiled k) (h : Heap) (v : IsValid k h) (n : ℕ) (fits : need n ≤ h.settings.page_words) where
   -- no proxy is left
-  pub lacks_proxy : len h.proxies.places ≡ h.proxies.limit → LacksProxy (state_of k h) n
+  pub lacks_proxy : len h.proxies.places ≡ h.proxies.limit → LacksProxy (tag_state_of k h) n
   lacks_proxy all = record { fits = fits; all = held_many h v ∙ all ∙ v.numbers }
 
   -- no free block may serve the need
   pub lacks_space : (rule : FreeLists) → rule ≡ free_lists_of k → len h.proxies.places ≢ h.proxies.limit → (needed : ℕ) → needed ≡ need n
-      → LacksBlock rule h.tagged.blocks (needed + 1) → LacksSpace (state_of k h) n
+      → LacksBlock rule h.tagged.blocks (needed + 1) → LacksSpace (tag_state_of k h) n
   lacks_space rule lists some needed needed_is lacking = record {
     fits = fits;
     few = (let m = held_many h v in let b = v.handles.few in let e = v.numbers in omega arith);
-    lacking = of_tiled (λ j. LacksBlock (free_lists_of j) h.tagged.blocks (block_need n) → LacksRoomIn j (state_of k h) n) (λ x. x) (λ x. x) k is
+    lacking = of_tiled (λ j. LacksBlock (free_lists_of j) h.tagged.blocks (block_need n) → LacksRoomIn j (tag_state_of k h) n) (λ x. x) (λ x. x) k is
         (subst (λ r. LacksBlock r h.tagged.blocks (block_need n)) lists
         (subst (LacksBlock rule h.tagged.blocks) (let e : needed + 1 ≡ block_need n = omega arith in e) lacking));
   }
 
 -- if there is room, there is no cause of a refusal
-pub has_no_cause : (k : Kind) → IsTiled k → (h : Heap) (rule : FreeLists) → rule ≡ free_lists_of k → (n a : ℕ) → HasRoom rule h n a → IsValid k h
-    → (e : Refusal) → ¬ IsRefusedBy (state_of k h) n e
+pub has_no_cause : (k : Kind) → IsTiled k → (h : Heap) (rule : FreeLists) → rule ≡ free_lists_of k → (n a : ℕ) → HasTagRoom rule h n a → IsValid k h
+    → (e : Refusal) → ¬ IsRefusedBy (tag_state_of k h) n e
 has_no_cause k is h rule lists n a r v refusal.Size cause = (let f = r.fits in absurd (omega arith))
 has_no_cause k is h rule lists n a r v refusal.Proxy cause = r.few (sym (held_many h v) ∙ cause.all ∙ sym v.numbers)
 has_no_cause k is h rule lists n a r v refusal.Space cause =
     let lacking : LacksBlock (free_lists_of k) h.tagged.blocks (block_need n) =
-    of_tiled (λ j. LacksRoomIn j (state_of k h) n → LacksBlock (free_lists_of j) h.tagged.blocks (block_need n)) (λ x. x) (λ x. x) k is cause.lacking in
+    of_tiled (λ j. LacksRoomIn j (tag_state_of k h) n → LacksBlock (free_lists_of j) h.tagged.blocks (block_need n)) (λ x. x) (λ x. x) k is cause.lacking in
     let e : block_need n ≡ need n + 1 = omega arith in
     subst (LacksBlock rule h.tagged.blocks) e (subst (λ r. LacksBlock r h.tagged.blocks (block_need n)) (sym lists) lacking)
     a (record { address = a; size = r.found.size; owner = None }) r.found.there (record { free = refl; reached = r.found.reached })

@@ -11,16 +11,16 @@ use Rattle.page_model.specs.Bytes.{byte_of, bytes_at}
 use Rattle.block_model.specs.Tiling.{size_at}
 use Rattle.region.specs.Overwriting.{byte_from, words_with}
 use Rattle.cf_model.specs.Steps.{ReadsBytes}
-use Rattle.tag_heap.specs.Access.{HoldsBytesAt}
-use Rattle.tag_heap.specs.Heap.{Heap, IsValid, held_in, state_of}
+use Rattle.tag_heap.specs.Access.{HoldsTagBytes}
+use Rattle.tag_heap.specs.Heap.{Heap, IsValid, tag_held_in, tag_state_of}
 use Rattle.tag_heap.proofs.Preserved.{places-read}
 use Rattle.tag_heap.proofs.ReadLemmas.{room}
 use Rattle.page_model.proofs.CallerLemmas.{byte_is}
 
 -- the words that hold the bytes read or written are in the object's block
-module _ {k : Kind} (h : Heap) (v : IsValid k h) (q at count a : ℕ) (l : HoldsBytesAt h (record { number = q; from = at }) count a) where
+module _ {k : Kind} (h : Heap) (v : IsValid k h) (q at count a : ℕ) (l : HoldsTagBytes h (record { number = q; from = at }) count a) where
   pub lies_place : get h.proxies.places q ≡ Some a
-  lies_place = ap (λ m. get m q) (sym (places-read h.tagged.words h.proxies.places)) ∙ get-map_values (λ (x : Placed). x.place) (held_in h) q
+  lies_place = ap (λ m. get m q) (sym (places-read h.tagged.words h.proxies.places)) ∙ get-map_values (λ (x : Placed). x.place) (tag_held_in h) q
       ∙ ap (option_map (λ (x : Placed). x.place)) l.found
 
   pub part_within : 2 + words_with at count ≤ size_at h.tagged.blocks a
@@ -29,7 +29,7 @@ module _ {k : Kind} (h : Heap) (v : IsValid k h) (q at count a : ℕ) (l : Holds
   -- the bytes that were read
   pub read_part : (k : Kind) (out : List ℕ) → length out ≡ count
       → ((j : ℕ) → j < length out → get_or out j 0 ≡ byte_from h.tagged.words (a + 2) (at + j))
-      → ReadsBytes (state_of k h) (record { number = q; from = at }) count out
+      → ReadsBytes (tag_state_of k h) (record { number = q; from = at }) count out
   read_part k out long each = record {
     object = record { place = a; bytes = bytes_at h.tagged.words (a + 1) };
     found = l.found;

@@ -25,7 +25,7 @@ use Rattle.cf_model.specs.ReadObjects.{read_objects}
 use Rattle.cf_model.specs.Rules.{AreInRange, AreObjects, AreOwned, IsBlockOrder, KeepsRules, KeepsRulesOf, KeepsTiling, content_word}
 use Rattle.cf_model.specs.State.{HeapState}
 use Rattle.cf_model.proofs.CallerLemmas.{objects_shown}
-use Rattle.tag_heap.specs.Heap.{Heap, IsValid, held_in, order_of, state_of}
+use Rattle.tag_heap.specs.Heap.{Heap, IsValid, tag_held_in, tag_order_of, tag_state_of}
 use Rattle.tag_heap.proofs.ByKind.{of_tiled}
 
 -- the heap h meets each fact of the invariant with the objects m, and its proxies hold their addresses
@@ -56,7 +56,7 @@ in_range s = record {
 
 -- the state of the heap h, with m as its live objects
 abbrev seen_with : Kind → Heap → Held → HeapState
-seen_with k h m = record (state_of k h) { held = m }
+seen_with k h m = record (tag_state_of k h) { held = m }
 
 -- a number without an address has no object
 unplaced : (m : Held) (q : ℕ) (o : Option Placed) → get m q ≡ o → option_map (λ (x : Placed). x.place) o ≡ None → get m q ≡ None
@@ -83,7 +83,7 @@ module _ {k : Kind} (h : Heap) (m : Held) (b : MeetsInvariantWith k h m) where
     unplaced m q (get m q) refl (sym (get-map_values (λ (x : Placed). x.place) m q) ∙ sym (ap (λ p. get p q) b.places) ∙ b.handles.not_live q has),
   )
 
-  keeps_order : IsBlockOrder (seen_with k h m) (order_of h)
+  keeps_order : IsBlockOrder (seen_with k h m) (tag_order_of h)
   keeps_order = record {
     no_pool = refl;
     lists = b.lists;
@@ -103,7 +103,7 @@ module _ {k : Kind} (h : Heap) (m : Held) (b : MeetsInvariantWith k h m) where
     order = keeps_order;
   }
 
-  pub held_is : held_in h ≡ m
+  pub held_is : tag_held_in h ≡ m
   held_is = ap (read_objects h.tagged.words) b.places ∙ objects_shown (seen_with k h m) (in_range h.settings) are_objects keeps
 
   pub becomes_valid : IsValid k h
@@ -119,10 +119,10 @@ module _ {k : Kind} (h : Heap) (m : Held) (b : MeetsInvariantWith k h m) where
     used_all = b.used_all;
   }
 
-  pub becomes_state : (j : Kind) → state_of j h ≡ seen_with j h m
+  pub becomes_state : (j : Kind) → tag_state_of j h ≡ seen_with j h m
   becomes_state j = ap (λ m. seen_with j h m) held_is
 
-  pub becomes_rules : IsTiled k → KeepsRules (state_of k h)
+  pub becomes_rules : IsTiled k → KeepsRules (tag_state_of k h)
   becomes_rules is = subst KeepsRules (sym (becomes_state k)) (record {
     settings = in_range h.settings;
     region = b.words_long;
@@ -154,13 +154,13 @@ read_is words at q x e = go (get at q) refl (sym (get-map_values (λ a. record {
 
 -- what holds of a valid heap
 module _ {k : Kind} (h : Heap) (v : IsValid k h) where
-  pub places_are : h.proxies.places ≡ places (held_in h)
+  pub places_are : h.proxies.places ≡ places (tag_held_in h)
   places_are = sym (places-read h.tagged.words h.proxies.places)
 
-  pub are_bytes : (q : ℕ) (x : Placed) → get (held_in h) q ≡ Some x → AreBytes x.bytes
+  pub are_bytes : (q : ℕ) (x : Placed) → get (tag_held_in h) q ≡ Some x → AreBytes x.bytes
   are_bytes q x e = subst AreBytes (sym (read_is h.tagged.words h.proxies.places q x e).bytes) (bytes_at-AreBytes h.tagged.words (x.place + 1))
 
-  pub stays : MeetsInvariantWith k h (held_in h)
+  pub stays : MeetsInvariantWith k h (tag_held_in h)
   stays = record {
     tags = v.tags;
     lists = v.lists;
@@ -175,21 +175,21 @@ module _ {k : Kind} (h : Heap) (v : IsValid k h) where
     used_all = v.used_all;
   }
 
-  pub rules : IsTiled k → KeepsRules (state_of k h)
-  rules = becomes_rules h (held_in h) stays
+  pub rules : IsTiled k → KeepsRules (tag_state_of k h)
+  rules = becomes_rules h (tag_held_in h) stays
 
   -- a number without an address has no object in the heap
-  pub no_place : (q : ℕ) → get h.proxies.places q ≡ None → get (held_in h) q ≡ None
+  pub no_place : (q : ℕ) → get h.proxies.places q ≡ None → get (tag_held_in h) q ≡ None
   no_place q e = get-map_values (λ a. record { place = a; bytes = bytes_at h.tagged.words (a + 1) }) h.proxies.places q
       ∙ ap (option_map (λ a. record { place = a; bytes = bytes_at h.tagged.words (a + 1) })) e
 
   -- a number with an address has its object there
   pub has_place : (q a : ℕ) → get h.proxies.places q ≡ Some a
-      → get (held_in h) q ≡ Some (record { place = a; bytes = bytes_at h.tagged.words (a + 1) })
+      → get (tag_held_in h) q ≡ Some (record { place = a; bytes = bytes_at h.tagged.words (a + 1) })
   has_place q a e = get-map_values (λ a. record { place = a; bytes = bytes_at h.tagged.words (a + 1) }) h.proxies.places q
       ∙ ap (option_map (λ a. record { place = a; bytes = bytes_at h.tagged.words (a + 1) })) e
 
-  pub held_many : len (held_in h) ≡ len h.proxies.places
+  pub held_many : len (tag_held_in h) ≡ len h.proxies.places
   held_many = len-map_values (λ a. record { place = a; bytes = bytes_at h.tagged.words (a + 1) }) h.proxies.places
 
   -- a number with an address has a used block there
@@ -197,16 +197,16 @@ module _ {k : Kind} (h : Heap) (v : IsValid k h) where
   used_at q a e = (let own = v.owned.placed q _ (has_place q a e) in record { block = own.0; owner = q; there = own.1; used = own.2.owner })
 
 -- the rules don't depend on the cost
-pub cost_rules : (k : Kind) → IsTiled k → (h : Heap) (cost : ℕ) → KeepsRules (state_of k h) → KeepsRules (state_of k (record h { cost = cost }))
+pub cost_rules : (k : Kind) → IsTiled k → (h : Heap) (cost : ℕ) → KeepsRules (tag_state_of k h) → KeepsRules (tag_state_of k (record h { cost = cost }))
 cost_rules k is h cost r = record {
   settings = r.settings;
   region = r.region;
   numbers = record { handles = r.numbers.handles; bytes = r.numbers.bytes; few = r.numbers.few };
-  of_kind = of_tiled (λ j. KeepsTiling (state_of k (record h { cost = cost })) → KeepsRulesOf j (state_of k (record h { cost = cost }))) (λ t. t) (λ t. t) k is
-      (again (of_tiled (λ j. KeepsRulesOf j (state_of k h) → KeepsTiling (state_of k h)) (λ t. t) (λ t. t) k is r.of_kind));
+  of_kind = of_tiled (λ j. KeepsTiling (tag_state_of k (record h { cost = cost })) → KeepsRulesOf j (tag_state_of k (record h { cost = cost }))) (λ t. t) (λ t. t) k is
+      (again (of_tiled (λ j. KeepsRulesOf j (tag_state_of k h) → KeepsTiling (tag_state_of k h)) (λ t. t) (λ t. t) k is r.of_kind));
 }
   where
-    again : KeepsTiling (state_of k h) → KeepsTiling (state_of k (record h { cost = cost }))
+    again : KeepsTiling (tag_state_of k h) → KeepsTiling (tag_state_of k (record h { cost = cost }))
     again t = record {
       tiling = t.tiling;
       owned = t.owned;

@@ -13,8 +13,8 @@ use Rattle.block_model.proofs.CallerLemmas.{lies}
 use Rattle.cf_model.specs.Families.{IsTiled}
 use Rattle.cf_model.specs.ReadObjects.{read_objects}
 use Rattle.cf_model.specs.Steps.{PassesEnd, slot_in}
-use Rattle.tag_heap.specs.Access.{HoldsBytesAt}
-use Rattle.tag_heap.specs.Heap.{Heap, IsValid, held_in, state_of}
+use Rattle.tag_heap.specs.Access.{HoldsTagBytes}
+use Rattle.tag_heap.specs.Heap.{Heap, IsValid, tag_held_in, tag_state_of}
 use Rattle.tag_heap.proofs.ByKind.{slot_is}
 use Rattle.tag_heap.proofs.Preserved.{has_place, no_place, places-read}
 
@@ -25,13 +25,13 @@ place_described words at q = ap (λ m. get m q) (sym (places-read words at)) ∙
 -- the words of the block of a number; none if the number has no address
 module _ {k : Kind} (h : Heap) (v : IsValid k h) (is : IsTiled k) (q : ℕ) where
   abbrev words_at : Option Placed → Option ℕ
-  words_at = option_map (slot_in k (state_of k h))
+  words_at = option_map (slot_in k (tag_state_of k h))
 
-  pub block_words_are : (a n : ℕ) → get h.proxies.places q ≡ Some a → n ≡ size_at h.tagged.blocks a → Some n ≡ words_at (get (held_in h) q)
+  pub block_words_are : (a n : ℕ) → get h.proxies.places q ≡ Some a → n ≡ size_at h.tagged.blocks a → Some n ≡ words_at (get (tag_held_in h) q)
   block_words_are a n some size =
-      ap Some (size ∙ sym (slot_is k is (state_of k h) (record { place = a; bytes = bytes_at h.tagged.words (a + 1) }))) ∙ sym (ap words_at (has_place h v q a some))
+      ap Some (size ∙ sym (slot_is k is (tag_state_of k h) (record { place = a; bytes = bytes_at h.tagged.words (a + 1) }))) ∙ sym (ap words_at (has_place h v q a some))
 
-  pub no_block_words : get h.proxies.places q ≡ None → None ≡ words_at (get (held_in h) q)
+  pub no_block_words : get h.proxies.places q ≡ None → None ≡ words_at (get (tag_held_in h) q)
   no_block_words none = sym (ap words_at (no_place h v q none))
 
 module _ {k : Kind} (h : Heap) (v : IsValid k h) (q a : ℕ) (some : get h.proxies.places q ≡ Some a) where
@@ -41,7 +41,7 @@ module _ {k : Kind} (h : Heap) (v : IsValid k h) (q a : ℕ) (some : get h.proxi
   abbrev pub object : Placed
   object = record { place = a; bytes = bytes }
 
-  pub held : get (held_in h) q ≡ Some object
+  pub held : get (tag_held_in h) q ≡ Some object
   held = has_place h v q a some
 
   -- the object's block has room for two words, its header and its tag, and for the object's bytes
@@ -65,8 +65,8 @@ module _ {k : Kind} (h : Heap) (v : IsValid k h) (q a : ℕ) (some : get h.proxi
   bytes_few = (let r = room in let i = inside in let m = v.tags.most in omega arith)
 
   -- bytes that pass the end of the object (`passes`), and bytes that don't (`lies_there`)
-  pub passes : (k : Kind) (at count : ℕ) → length bytes < at + count → PassesEnd (state_of k h) (record { number = q; from = at }) count
+  pub passes : (k : Kind) (at count : ℕ) → length bytes < at + count → PassesEnd (tag_state_of k h) (record { number = q; from = at }) count
   passes k at count more = record { object = object; found = held; past = more }
 
-  pub lies_there : (at count : ℕ) → at + count ≤ length bytes → HoldsBytesAt h (record { number = q; from = at }) count a
+  pub lies_there : (at count : ℕ) → at + count ≤ length bytes → HoldsTagBytes h (record { number = q; from = at }) count a
   lies_there at count fits = record { found = held; within = fits }

@@ -27,14 +27,14 @@ use Rattle.cf_model.specs.Families.{IsTiled, free_lists_of, list_count_of}
 use Rattle.cf_model.specs.Rules.{AreOwned, KeepsRules, content_word}
 use Rattle.cf_model.specs.Steps.{StaysOutside, WritesBytes}
 use Rattle.cf_model.proofs.CallerLemmas.{owned_replaced}
-use Rattle.tag_heap.specs.Access.{HoldsBytesAt}
-use Rattle.tag_heap.specs.Heap.{Heap, IsValid, held_in, order_of, state_of}
+use Rattle.tag_heap.specs.Access.{HoldsTagBytes}
+use Rattle.tag_heap.specs.Heap.{Heap, IsValid, tag_held_in, tag_order_of, tag_state_of}
 use Rattle.tag_heap.proofs.ByKind.{of_tiled}
 use Rattle.tag_heap.proofs.Preserved.{MeetsInvariantWith, are_bytes, becomes_rules, becomes_state, becomes_valid, places_are}
 use Rattle.tag_heap.proofs.ReadLemmas.{bytes_few, room}
 use Rattle.tag_heap.proofs.PartLemmas.{lies_place}
 
-module _ {k : Kind} (h : Heap) (v : IsValid k h) (q at a : ℕ) (part : List ℕ) (l : HoldsBytesAt h (record { number = q; from = at }) (length part) a) (each : AreBytes part)
+module _ {k : Kind} (h : Heap) (v : IsValid k h) (q at a : ℕ) (part : List ℕ) (l : HoldsTagBytes h (record { number = q; from = at }) (length part) a) (each : AreBytes part)
     (t : Tagged) (blocks : t.blocks ≡ h.tagged.blocks) (same_lists : t.lists ≡ h.tagged.lists) (tags : AreTags t)
     (o : Overwrites h.tagged.words t.words (record { from = a + 2 + at / 8; count = words_with (at % 8) (length part) }) (at % 8) part) where
   abbrev old : List ℕ
@@ -50,7 +50,7 @@ module _ {k : Kind} (h : Heap) (v : IsValid k h) (q at a : ℕ) (part : List ℕ
   now = record { place = a; bytes = new }
 
   abbrev changed : Held
-  changed = insert (held_in h) q now
+  changed = insert (tag_held_in h) q now
 
   -- the heap with the bytes written
   abbrev pub wrote : Heap
@@ -75,38 +75,38 @@ module _ {k : Kind} (h : Heap) (v : IsValid k h) (q at a : ℕ) (part : List ℕ
   new_are = written_are_bytes old at part l.within old_are each
 
   there : get changed q ≡ Some now
-  there = get_inserted (held_in h) q now
+  there = get_inserted (tag_held_in h) q now
 
   -- the words of the object, before and after
-  old_word : (i : ℕ) → content_word (held_in h) q i ≡ object_word q old i
+  old_word : (i : ℕ) → content_word (tag_held_in h) q i ≡ object_word q old i
   old_word i = (let e = l.found in rw e refl)
 
   new_word : (i : ℕ) → content_word changed q i ≡ object_word q new i
   new_word i = (let e = there in rw e refl)
 
-  old_small : (i : ℕ) → content_word (held_in h) q i < 2 ^ 64
+  old_small : (i : ℕ) → content_word (tag_held_in h) q i < 2 ^ 64
   old_small i = subst (λ w. w < 2 ^ 64) (sym (old_word i)) (object_word_small q old i small short old_are)
 
   new_small : (i : ℕ) → content_word changed q i < 2 ^ 64
   new_small i = subst (λ w. w < 2 ^ 64) (sym (new_word i)) (object_word_small q new i small (subst (λ n. n < 2 ^ 32) (sym size) short) new_are)
 
-  same_header : content_word changed q 0 ≡ content_word (held_in h) q 0
+  same_header : content_word changed q 0 ≡ content_word (tag_held_in h) q 0
   same_header = new_word 0 ∙ ap (header_word q) size ∙ sym (old_word 0)
 
-  old_byte : (k : ℕ) → content_byte (content_word (held_in h)) q k ≡ get_or old k 0
+  old_byte : (k : ℕ) → content_byte (content_word (tag_held_in h)) q k ≡ get_or old k 0
   old_byte k = ap (byte_of (k % 8)) (old_word (suc (k / 8))) ∙ byte_of_object q old k old_are
 
-  new_byte : (k : ℕ) → content_byte (content_word changed) q k ≡ overwritten (content_byte (content_word (held_in h)) q) at part k
+  new_byte : (k : ℕ) → content_byte (content_word changed) q k ≡ overwritten (content_byte (content_word (tag_held_in h)) q) at part k
   new_byte k = ap (byte_of (k % 8)) (new_word (suc (k / 8))) ∙ byte_of_object q new k new_are ∙ elim (cases_lt k at) [
     | inl before ↦ written_before old at part l.within k before ∙ sym (old_byte k)
-        ∙ sym (overwritten_before (content_byte (content_word (held_in h)) q) at part k before)
+        ∙ sym (overwritten_before (content_byte (content_word (tag_held_in h)) q) at part k before)
     | inr from ↦ elim (cases_lt k (at + length part)) [
       | inl inside ↦ (
           let e : at + (k - at) ≡ k = omega arith in
           ap (λ i. get_or new i 0) (sym e) ∙ written_inside old at part l.within (k - at) (omega arith)
-          ∙ sym (overwritten_inside (content_byte (content_word (held_in h)) q) at part k from inside))
+          ∙ sym (overwritten_inside (content_byte (content_word (tag_held_in h)) q) at part k from inside))
       | inr behind ↦ written_behind old at part l.within k behind ∙ sym (old_byte k)
-          ∙ sym (overwritten_behind (content_byte (content_word (held_in h)) q) at part k behind)
+          ∙ sym (overwritten_behind (content_byte (content_word (tag_held_in h)) q) at part k behind)
     ]
   ]
 
@@ -126,27 +126,27 @@ module _ {k : Kind} (h : Heap) (v : IsValid k h) (q at a : ℕ) (part : List ℕ
       omega arith
 
   contents_now : AreTilingWords (content_word changed) t.blocks t.words
-  contents_now = bytes_words (content_word (held_in h)) (content_word changed) h.tagged t a at part user v.tags tags blocks within_block o v.contents
+  contents_now = bytes_words (content_word (tag_held_in h)) (content_word changed) h.tagged t a at part user v.tags tags blocks within_block o v.contents
       old_small new_small same_header (λ k lt. new_byte k) (λ b c p away at used i.
       let own = v.owned.live b c p at used in
-      let other : p ≢ q = λ is. away (sym own.2 ∙ ap (λ (x : Placed). x.place) (some_placed own.0 was (sym own.1 ∙ ap (get (held_in h)) is ∙ l.found))) in
-      rw (get_insert_other (held_in h) q now p other) refl)
+      let other : p ≢ q = λ is. away (sym own.2 ∙ ap (λ (x : Placed). x.place) (some_placed own.0 was (sym own.1 ∙ ap (get (tag_held_in h)) is ∙ l.found))) in
+      rw (get_insert_other (tag_held_in h) q now p other) refl)
 
-  same_asked : asked_bytes (objects changed) ≡ asked_bytes (objects (held_in h))
+  same_asked : asked_bytes (objects changed) ≡ asked_bytes (objects (tag_held_in h))
   same_asked =
-      let b : get (objects (held_in h)) q ≡ Some old = get-map_values (λ (x : Placed). x.bytes) (held_in h) q
+      let b : get (objects (tag_held_in h)) q ≡ Some old = get-map_values (λ (x : Placed). x.bytes) (tag_held_in h) q
       ∙ ap (option_map (λ (x : Placed). x.bytes)) l.found in
-      let c = asked_taken (objects (held_in h)) q old b in
-      let d = asked_added (remove (objects (held_in h)) q) q new (get_removed (objects (held_in h)) q) in
-      let e : asked_bytes (insert (remove (objects (held_in h)) q) q new) ≡ asked_bytes (insert (objects (held_in h)) q new) =
-      ap asked_bytes (insert_again (objects (held_in h)) q new) in
-      let f : asked_bytes (objects changed) ≡ asked_bytes (insert (objects (held_in h)) q new) =
-      ap asked_bytes (map_values-insert (λ (x : Placed). x.bytes) (held_in h) q now) in
+      let c = asked_taken (objects (tag_held_in h)) q old b in
+      let d = asked_added (remove (objects (tag_held_in h)) q) q new (get_removed (objects (tag_held_in h)) q) in
+      let e : asked_bytes (insert (remove (objects (tag_held_in h)) q) q new) ≡ asked_bytes (insert (objects (tag_held_in h)) q new) =
+      ap asked_bytes (insert_again (objects (tag_held_in h)) q new) in
+      let f : asked_bytes (objects changed) ≡ asked_bytes (insert (objects (tag_held_in h)) q new) =
+      ap asked_bytes (map_values-insert (λ (x : Placed). x.bytes) (tag_held_in h) q now) in
       let s = size in
       omega arith
 
   bytes_now : (p : ℕ) (x : Placed) → get changed p ≡ Some x → AreBytes x.bytes
-  bytes_now p x e = elim (some_inserted (held_in h) q now p x e) [
+  bytes_now p x e = elim (some_inserted (tag_held_in h) q now p x e) [
     | inl (is, same) ↦ subst (λ (y : Placed). AreBytes y.bytes) same new_are
     | inr (other, still) ↦ are_bytes h v p x still
   ]
@@ -160,9 +160,9 @@ module _ {k : Kind} (h : Heap) (v : IsValid k h) (q at a : ℕ) (part : List ℕ
     tags = tags;
     lists = lists_now;
     words_long = o.long ∙ v.words_long;
-    places = places_are h v ∙ sym (rewritten_places (held_in h) q was now l.found refl);
+    places = places_are h v ∙ sym (rewritten_places (tag_held_in h) q was now l.found refl);
     bytes = bytes_now;
-    owned = subst (AreOwned changed) (sym blocks) (owned_replaced (held_in h) h.tagged.blocks q was now v.owned l.found refl size);
+    owned = subst (AreOwned changed) (sym blocks) (owned_replaced (tag_held_in h) h.tagged.blocks q was now v.owned l.found refl size);
     contents = contents_now;
     numbers = v.numbers;
     handles = v.handles;
@@ -173,7 +173,7 @@ module _ {k : Kind} (h : Heap) (v : IsValid k h) (q at a : ℕ) (part : List ℕ
   pub wrote_valid : IsValid k wrote
   wrote_valid = becomes_valid wrote changed becomes
 
-  pub wrote_rules : IsTiled k → KeepsRules (state_of k wrote)
+  pub wrote_rules : IsTiled k → KeepsRules (tag_state_of k wrote)
   wrote_rules = becomes_rules wrote changed becomes
 
   stays_outside : (w : ℕ) → IsOutside a (size_at h.tagged.blocks a) w → get_or t.words w 0 ≡ get_or h.tagged.words w 0
@@ -182,15 +182,15 @@ module _ {k : Kind} (h : Heap) (v : IsValid k h) (q at a : ℕ) (part : List ℕ
       let b = within_block in
       o.others w (elim out [ inl before ↦ inl (omega arith) | inr behind ↦ inr (omega arith) ])
 
-  pub writes : IsTiled k → WritesBytes (state_of k h) (record { number = q; from = at }) part (state_of k wrote)
+  pub writes : IsTiled k → WritesBytes (tag_state_of k h) (record { number = q; from = at }) part (tag_state_of k wrote)
   writes is = record {
     object = was;
     found = l.found;
     within = l.within;
-    outside = of_tiled (λ j. StaysOutside j (state_of k h) was (state_of k wrote)) stays_outside stays_outside k is;
+    outside = of_tiled (λ j. StaysOutside j (tag_state_of k h) was (tag_state_of k wrote)) stays_outside stays_outside k is;
     whole = becomes_state wrote changed becomes k
-        ∙ ap (λ bs. record (state_of k h) { held = changed; words = t.words; tiling = bs; order = Some (order_of wrote) }) blocks
-        ∙ ap (λ ls. record (state_of k h) {
+        ∙ ap (λ bs. record (tag_state_of k h) { held = changed; words = t.words; tiling = bs; order = Some (tag_order_of wrote) }) blocks
+        ∙ ap (λ ls. record (tag_state_of k h) {
           held = changed;
           words = t.words;
           order = Some (record { pool = []; not_full = ls; spare = h.proxies.free });
@@ -199,16 +199,16 @@ module _ {k : Kind} (h : Heap) (v : IsValid k h) (q at a : ℕ) (part : List ℕ
 
 -- to write no bytes changes nothing
 pub wrote_nothing : (k : Kind) → IsTiled k → (h : Heap) (q at a : ℕ) (part : List ℕ) → length part ≡ 0
-    → HoldsBytesAt h (record { number = q; from = at }) (length part) a → WritesBytes (state_of k h) (record { number = q; from = at }) part (state_of k h)
+    → HoldsTagBytes h (record { number = q; from = at }) (length part) a → WritesBytes (tag_state_of k h) (record { number = q; from = at }) part (tag_state_of k h)
 wrote_nothing k is h q at a [] none l = record {
   object = was;
   found = l.found;
   within = l.within;
-  outside = of_tiled (λ j. StaysOutside j (state_of k h) was (state_of k h)) (λ w out. refl) (λ w out. refl) k is;
+  outside = of_tiled (λ j. StaysOutside j (tag_state_of k h) was (tag_state_of k h)) (λ w out. refl) (λ w out. refl) k is;
   whole =
       let fits = l.within in
-      ap (λ m. record (state_of k h) { held = m }) (sym (ap (λ bytes. insert (held_in h) q (record was { bytes = bytes }))
-      (written_nothing was.bytes at (omega arith)) ∙ inserted_there (held_in h) q was l.found));
+      ap (λ m. record (tag_state_of k h) { held = m }) (sym (ap (λ bytes. insert (tag_held_in h) q (record was { bytes = bytes }))
+      (written_nothing was.bytes at (omega arith)) ∙ inserted_there (tag_held_in h) q was l.found));
 }
   where
     was : Placed

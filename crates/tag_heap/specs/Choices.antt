@@ -11,18 +11,18 @@ use Rattle.cf_model.specs.Answers.{place_of}
 use Rattle.cf_model.specs.Families.{free_lists_of}
 use Rattle.cf_model.specs.Ordered.{CarvesInOrder}
 use Rattle.cf_model.specs.Rules.{listed_by}
-use Rattle.tag_heap.specs.Heap.{Heap, order_of, state_of}
+use Rattle.tag_heap.specs.Heap.{Heap, tag_order_of, tag_state_of}
 
 -- If a malloc of `bytes` bytes succeeds, it uses the number and carves the block that the order of the heap `old` lists next. It leaves the order of the heap
 -- `new`.
-abbrev pub MallocChooses : Kind → Heap → ℕ → Result Handle Refusal → Heap → Type 0
-MallocChooses kind old bytes answer new = IfOk answer (λ q. IfSome (place_of (state_of kind new) q.0)
-    (λ a. CarvesInOrder (state_of kind old) (record { number = q.0; length = bytes }) a (state_of kind new) (order_of old) (order_of new)))
+abbrev pub TagMallocChooses : Kind → Heap → ℕ → Result Handle Refusal → Heap → Type 0
+TagMallocChooses kind old bytes answer new = IfOk answer (λ q. IfSome (place_of (tag_state_of kind new) q.0)
+    (λ a. CarvesInOrder (tag_state_of kind old) (record { number = q.0; length = bytes }) a (tag_state_of kind new) (tag_order_of old) (tag_order_of new)))
 
 -- a free of object q, if it succeeds, releases its block and its number: in the order of the heap `new` the free block that results is the first of its list,
 -- and the number the first free one
-abbrev pub FreeChooses : Kind → Heap → ℕ → Result Freed NotLive → Heap → Type 0
-FreeChooses kind old q answer new = IfOk answer (λ freed. IfSome (place_of (state_of kind old) q) (λ a. order_of new ≡ record (order_of old) {
-  not_full = lists_released (free_lists_of kind) (listed_by (state_of kind old) (order_of old)) a;
-  spare = q ∷ (order_of old).spare;
+abbrev pub TagFreeChooses : Kind → Heap → ℕ → Result Freed NotLive → Heap → Type 0
+TagFreeChooses kind old q answer new = IfOk answer (λ freed. IfSome (place_of (tag_state_of kind old) q) (λ a. tag_order_of new ≡ record (tag_order_of old) {
+  not_full = lists_released (free_lists_of kind) (listed_by (tag_state_of kind old) (tag_order_of old)) a;
+  spare = q ∷ (tag_order_of old).spare;
 }))

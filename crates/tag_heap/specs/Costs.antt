@@ -46,24 +46,24 @@ totals_steps None = 0
 totals_steps (Some order) = largest_steps order.not_full
 
 -- the most steps of a malloc, by its result
-abbrev pub malloc_steps : Result Handle Refusal → ℕ
-malloc_steps (Ok handle) = 25
-malloc_steps (Err e) = refused_steps e
+abbrev pub tag_malloc_steps : Result Handle Refusal → ℕ
+tag_malloc_steps (Ok handle) = 25
+tag_malloc_steps (Err e) = refused_steps e
 
 -- the exact steps of a read or a write that is refused: one reads the proxy; if the number is live, a second reads the object's header
-abbrev pub fault_steps : AccessFault → ℕ
-fault_steps access.Unknown = 1
-fault_steps access.Range = 2
+abbrev pub tag_fault_steps : AccessFault → ℕ
+tag_fault_steps access.Unknown = 1
+tag_fault_steps access.Range = 2
 
 -- the exact steps of `find`, by its result: reading the proxy and the header
 abbrev pub found_steps : Result ℕ AccessFault → ℕ
 found_steps (Ok place) = 2
-found_steps (Err e) = fault_steps e
+found_steps (Err e) = tag_fault_steps e
 
 -- the exact steps of a read or a write of `count` bytes from byte `from` on: those of `find`, and one for each word that holds one of the bytes
-abbrev pub access_steps : ℕ → ℕ → Result Unit AccessFault → ℕ
-access_steps from count (Ok done) = 2 + words_touched from count
-access_steps from count (Err e) = fault_steps e
+abbrev pub tag_access_steps : ℕ → ℕ → Result Unit AccessFault → ℕ
+tag_access_steps from count (Ok done) = 2 + words_touched from count
+tag_access_steps from count (Err e) = tag_fault_steps e
 
 -- the exact steps of a call for the words of an object's block, by its result: the proxy, and if the number is live the block's header
 abbrev pub block_words_steps : Option ℕ → ℕ
@@ -74,10 +74,10 @@ block_words_steps None = 1
 -- free block
 abbrev pub block_bounds : Bounds
 block_bounds = record {
-  malloc = malloc_steps;
+  malloc = tag_malloc_steps;
   free = block_free_bound;
   resize = λ n answer. 1;
-  access = access_steps;
+  access = tag_access_steps;
   room = room_steps;
   room_exact = λ s bytes answer. has_room_steps s s.order bytes answer;
   totals = λ totals. 3 + 2 * totals.free;

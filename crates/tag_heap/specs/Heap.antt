@@ -29,25 +29,25 @@ pub record Heap : Type 0 where
   pub cost : ℕ
 
 -- the live objects by number; the words at each address hold the object's length and bytes
-abbrev pub held_in : Heap → Held
-held_in h = read_objects h.tagged.words h.proxies.places
+abbrev pub tag_held_in : Heap → Held
+tag_held_in h = read_objects h.tagged.words h.proxies.places
 
 -- the order of the heap: its free lists and its free numbers, each list with the next one first
-abbrev pub order_of : Heap → Order
-order_of h = record { pool = []; not_full = h.tagged.lists; spare = h.proxies.free }
+abbrev pub tag_order_of : Heap → Order
+tag_order_of h = record { pool = []; not_full = h.tagged.lists; spare = h.proxies.free }
 
 -- the state of a manager of this kind whose open heap is h
-abbrev pub state_of : Kind → Heap → HeapState
-state_of kind h = record {
+abbrev pub tag_state_of : Kind → Heap → HeapState
+tag_state_of kind h = record {
   kind = kind;
   is_open = true;
   profile = profile_of h.settings;
   bounds = [];
-  held = held_in h;
+  held = tag_held_in h;
   words = h.tagged.words;
   frames = [];
   tiling = h.tagged.blocks;
-  order = Some (order_of h);
+  order = Some (tag_order_of h);
   cost = h.cost;
 }
 
@@ -60,25 +60,25 @@ pub record IsValid (kind : Kind) (h : Heap) : Type 0 where
   -- the region has the words of the pages of the settings
   pub words_long : length h.tagged.words ≡ h.settings.pages * h.settings.page_words
   -- each object has a used block of its own, and each used block an object
-  pub owned : AreOwned (held_in h) h.tagged.blocks
+  pub owned : AreOwned (tag_held_in h) h.tagged.blocks
   -- each used block holds its object, and each free one zeros from word 2 on
-  pub contents : AreTilingWords (content_word (held_in h)) h.tagged.blocks h.tagged.words
+  pub contents : AreTilingWords (content_word (tag_held_in h)) h.tagged.blocks h.tagged.words
   -- the numbers of the objects are below the number of proxies
   pub numbers : h.proxies.limit ≡ h.settings.proxies
   pub handles : AreBelowLimit h.proxies
   -- the counts are those of the objects and of the used blocks
-  pub asked_all : h.asked ≡ asked_bytes (objects (held_in h))
+  pub asked_all : h.asked ≡ asked_bytes (objects (tag_held_in h))
   pub used_all : h.used_words ≡ used_words h.tagged.blocks
 
 -- the state of a manager of this kind whose heap is open, or closed (`None`)
-abbrev pub state_in : Kind → Option Heap → HeapState
-state_in kind None = closed_state kind
-state_in kind (Some h) = state_of kind h
+abbrev pub tag_state_in : Kind → Option Heap → HeapState
+tag_state_in kind None = closed_state kind
+tag_state_in kind (Some h) = tag_state_of kind h
 
 -- the invariant of a manager's heap, which is open and keeps the rules, or closed (`None`)
 abbrev pub IsKeptIn : Kind → Option Heap → Type 0
 IsKeptIn kind None = Unit {0}
-IsKeptIn kind (Some h) = KeepsRules (state_of kind h)
+IsKeptIn kind (Some h) = KeepsRules (tag_state_of kind h)
 
 -- the fields of a heap as nested pairs, for `heap_code`
 abbrev pub HeapParts : Type 0

@@ -8,7 +8,7 @@ use Rattle.block_model.specs.Buckets.{FreeLists}
 use Rattle.block_model.specs.FreeOrder.{next_block}
 use Rattle.tag_blocks.specs.Blocks.{FindsBlock}
 use Rattle.cf_model.specs.Steps.{IsRefusedBy}
-use Rattle.tag_heap.specs.Heap.{Heap, state_of}
+use Rattle.tag_heap.specs.Heap.{Heap, tag_state_of}
 
 -- a result without its address, to compare it with what `has_room` returns
 abbrev pub done_by : Result ℕ Refusal → Result Unit Refusal
@@ -17,7 +17,7 @@ done_by (Err e) = Err e
 
 -- An object of `bytes` bytes fits a page, a proxy is free, and `place` is the address of the free block that a malloc of the object takes: the next block of
 -- the free lists for the words that it needs.
-pub record HasRoom (rule : FreeLists) (h : Heap) (bytes place : ℕ) : Type 0 where
+pub record HasTagRoom (rule : FreeLists) (h : Heap) (bytes place : ℕ) : Type 0 where
   pub fits : need bytes ≤ h.settings.page_words
   pub few : len h.proxies.places ≢ h.proxies.limit
   pub found : FindsBlock rule h.tagged.blocks (need bytes + 1) place
@@ -25,5 +25,5 @@ pub record HasRoom (rule : FreeLists) (h : Heap) (bytes place : ℕ) : Type 0 wh
 
 -- what `room` returns in the heap h for `bytes` bytes: the address of the block that a malloc takes, or the cause for which it is refused
 abbrev pub IsBlockFor : FreeLists → Kind → Heap → ℕ → Result ℕ Refusal → Type 0
-IsBlockFor rule kind h bytes (Ok place) = HasRoom rule h bytes place
-IsBlockFor rule kind h bytes (Err e) = IsRefusedBy (state_of kind h) bytes e
+IsBlockFor rule kind h bytes (Ok place) = HasTagRoom rule h bytes place
+IsBlockFor rule kind h bytes (Err e) = IsRefusedBy (tag_state_of kind h) bytes e

@@ -9,9 +9,9 @@ ghost use Rattle.cf_model.specs.Costs.{length_steps, peek_steps};
 ghost use Rattle.cf_model.specs.Room.{length_of};
 ghost use Rattle.cf_model.specs.Rules.{KeepsRules};
 ghost use Rattle.cf_model.specs.Steps.{IsReadAnswer, IsResizeFault, IsWriteStep, slot_in};
-ghost use Rattle.tag_heap.specs.Access.{IsFound};
-ghost use Rattle.tag_heap.specs.Costs.{access_steps, block_words_steps, found_steps};
-ghost use Rattle.tag_heap.specs.Heap.{state_of};
+ghost use Rattle.tag_heap.specs.Access.{IsTagFound};
+ghost use Rattle.tag_heap.specs.Costs.{block_words_steps, found_steps, tag_access_steps};
+ghost use Rattle.tag_heap.specs.Heap.{tag_state_of};
 
 use crate::fit_policy::FitPolicy;
 use crate::open_heap::OpenHeap;
@@ -23,7 +23,7 @@ impl<B: FitPolicy> OpenHeap<B> {
     /// With blocks, the address of the object, the first word of its block; none if the handle isn't live. Costs one
     /// step.
     pub(crate) fn place(&self, h: Handle, steps: &mut Steps) -> Option<u32>
-        ensures value { result ≡ place_of (state_of B.kind self.now) h.0 }
+        ensures value { result ≡ place_of (tag_state_of B.kind self.now) h.0 }
         ensures steps { RoseBy steps.old steps.new 1 }
     {
         self.proxies.lookup(h, steps)
@@ -31,8 +31,8 @@ impl<B: FitPolicy> OpenHeap<B> {
 
     /// With blocks, the word of the region at the index `word`, which costs one step; none past its end.
     pub(crate) fn peek(&self, word: u32, steps: &mut Steps) -> Option<u64>
-        ensures value { result ≡ slice_get (state_of B.kind self.now).words word }
-        ensures rules { KeepsRules (state_of B.kind self.now) }
+        ensures value { result ≡ slice_get (tag_state_of B.kind self.now).words word }
+        ensures rules { KeepsRules (tag_state_of B.kind self.now) }
         ensures steps { RoseBy steps.old steps.new (peek_steps B.kind result) }
     {
         if word < self.settings.pages * self.settings.page_words {
@@ -51,9 +51,9 @@ impl<B: FitPolicy> OpenHeap<B> {
         out: &mut [u8],
         steps: &mut Steps,
     ) -> Result<(), AccessFault>
-        ensures answer { IsReadAnswer (state_of B.kind self.now) (record { number = h.0; from = at }) out.old result out.new }
-        ensures rules { KeepsRules (state_of B.kind self.now) }
-        ensures steps { RoseBy steps.old steps.new (access_steps at (length out.old) result) }
+        ensures answer { IsReadAnswer (tag_state_of B.kind self.now) (record { number = h.0; from = at }) out.old result out.new }
+        ensures rules { KeepsRules (tag_state_of B.kind self.now) }
+        ensures steps { RoseBy steps.old steps.new (tag_access_steps at (length out.old) result) }
     {
         let blocks = &self.blocks;
         let len = out.len();
@@ -74,9 +74,9 @@ impl<B: FitPolicy> OpenHeap<B> {
         bytes: &[u8],
         steps: &mut Steps,
     ) -> Result<(), AccessFault>
-        ensures step { IsWriteStep (state_of B.kind self.old) (record { number = h.0; from = at }) bytes.now result (state_of B.kind self.new) }
-        ensures rules { KeepsRules (state_of B.kind self.new) }
-        ensures steps { RoseBy steps.old steps.new (access_steps at (length bytes.now) result) }
+        ensures step { IsWriteStep (tag_state_of B.kind self.old) (record { number = h.0; from = at }) bytes.now result (tag_state_of B.kind self.new) }
+        ensures rules { KeepsRules (tag_state_of B.kind self.new) }
+        ensures steps { RoseBy steps.old steps.new (tag_access_steps at (length bytes.now) result) }
     {
         let len = bytes.len();
         let place = self.find(h, at, len, steps)?;
@@ -90,7 +90,7 @@ impl<B: FitPolicy> OpenHeap<B> {
     /// With blocks, the address of the object, if it has `count` bytes from byte `at` on. Fails with `Unknown` if the
     /// handle isn't live, else with `Range` if the object is shorter. Costs two steps, or one if the handle isn't live.
     fn find(&self, h: Handle, at: u32, count: usize, steps: &mut Steps) -> Result<u32, AccessFault>
-        ensures found { IsFound B.kind self.now (record { number = h.0; from = at }) count result }
+        ensures found { IsTagFound B.kind self.now (record { number = h.0; from = at }) count result }
         ensures steps { RoseBy steps.old steps.new (found_steps result) }
     {
         let Some(place) = self.proxies.lookup(h, steps) else {
@@ -105,7 +105,7 @@ impl<B: FitPolicy> OpenHeap<B> {
 
     /// The number of bytes of an object in a block; none if the handle isn't live. Costs two steps, one if it isn't.
     pub(crate) fn length(&self, h: Handle, steps: &mut Steps) -> Option<u32>
-        ensures value { result ≡ length_of (state_of B.kind self.now) h.0 }
+        ensures value { result ≡ length_of (tag_state_of B.kind self.now) h.0 }
         ensures steps { RoseBy steps.old steps.new (length_steps B.kind result) }
     {
         match self.proxies.lookup(h, steps) {
@@ -117,7 +117,7 @@ impl<B: FitPolicy> OpenHeap<B> {
     /// With blocks, the words of an object's block; none if the handle isn't live. Costs two steps, one
     /// if it isn't.
     pub(crate) fn block_words(&self, h: Handle, steps: &mut Steps) -> Option<u32>
-        ensures value { result ≡ option_map (slot_in B.kind (state_of B.kind self.now)) (map.get (state_of B.kind self.now).held h.0) }
+        ensures value { result ≡ option_map (slot_in B.kind (tag_state_of B.kind self.now)) (map.get (tag_state_of B.kind self.now).held h.0) }
         ensures steps { RoseBy steps.old steps.new (block_words_steps result) }
     {
         match self.proxies.lookup(h, steps) {
@@ -129,8 +129,8 @@ impl<B: FitPolicy> OpenHeap<B> {
     /// With blocks, why a resize of the object to any length is refused: with `Unknown` if the handle isn't live, else
     /// with `Kind`, since heaps with blocks have no resize. Costs one step.
     pub(crate) fn resize_fault(&self, h: Handle, steps: &mut Steps) -> ResizeFault
-        ensures step { (bytes : ℕ) → IsResizeFault (state_of B.kind self.now) (record { number = h.0; length = bytes }) result }
-        ensures rules { KeepsRules (state_of B.kind self.now) }
+        ensures step { (bytes : ℕ) → IsResizeFault (tag_state_of B.kind self.now) (record { number = h.0; length = bytes }) result }
+        ensures rules { KeepsRules (tag_state_of B.kind self.now) }
         ensures steps { RoseBy steps.old steps.new 1 }
     {
         match self.proxies.lookup(h, steps) {

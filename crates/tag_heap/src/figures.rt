@@ -3,7 +3,7 @@ ghost use Rattle.std.specs.Prelude.{◌≡◌, ◌+◌, ◌*◌};
 ghost use Rattle.step_ledger.specs.Counting.{RoseAtMost, RoseBy};
 ghost use Rattle.cf_model.specs.Answers.{block_totals, usage_of};
 ghost use Rattle.tag_heap.specs.Costs.{totals_steps};
-ghost use Rattle.tag_heap.specs.Heap.{state_of};
+ghost use Rattle.tag_heap.specs.Heap.{tag_state_of};
 
 use crate::fit_policy::FitPolicy;
 use crate::open_heap::OpenHeap;
@@ -15,8 +15,8 @@ impl<B: FitPolicy> OpenHeap<B> {
     /// The figures of the whole heap with blocks. Costs at most three steps and two for each free block, since it
     /// searches the last free list that isn't empty for the largest free block.
     pub(crate) fn totals(&self, steps: &mut Steps) -> Totals
-        ensures value { result ≡ block_totals (state_of B.kind self.now) }
-        ensures steps { RoseBy steps.old steps.new (totals_steps (state_of B.kind self.now).order) }
+        ensures value { result ≡ block_totals (tag_state_of B.kind self.now) }
+        ensures steps { RoseBy steps.old steps.new (totals_steps (tag_state_of B.kind self.now).order) }
         ensures bound { RoseAtMost steps.old steps.new (3 + 2 * result.free) }
     {
         Totals {
@@ -32,7 +32,7 @@ impl<B: FitPolicy> OpenHeap<B> {
 
     /// With blocks, the bytes asked for by live objects, those of used blocks, and those of the region. Costs no step.
     pub(crate) fn usage(&self) -> Usage
-        ensures { result ≡ usage_of (block_totals (state_of B.kind self.now)) }
+        ensures { result ≡ usage_of (block_totals (tag_state_of B.kind self.now)) }
     {
         Usage {
             asked: self.asked,

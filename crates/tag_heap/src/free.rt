@@ -7,8 +7,8 @@ ghost use Rattle.cf_model.specs.ExactCosts.{block_free_cost};
 ghost use Rattle.cf_model.specs.Ordered.{IsOrderedFree};
 ghost use Rattle.cf_model.specs.Rules.{KeepsRules};
 ghost use Rattle.cf_model.specs.Steps.{IsFreeStep};
-ghost use Rattle.tag_heap.specs.Choices.{FreeChooses};
-ghost use Rattle.tag_heap.specs.Heap.{state_of};
+ghost use Rattle.tag_heap.specs.Choices.{TagFreeChooses};
+ghost use Rattle.tag_heap.specs.Heap.{tag_state_of};
 
 use crate::fit_policy::FitPolicy;
 use crate::open_heap::OpenHeap;
@@ -22,9 +22,9 @@ impl<B: FitPolicy> OpenHeap<B> {
     /// isn't live, and then changes only `cost`. Sets `cost` to the steps of this call.
     pub(crate) fn free(&mut self, h: Handle, steps: &mut Steps) -> Result<Freed, NotLive>
         requires { steps.old ≤ 2 ^ 63 }
-        ensures step { IsFreeStep (state_of B.kind self.old) h.0 result (state_of B.kind self.new) }
-        ensures rules { KeepsRules (state_of B.kind self.new) }
-        ensures ordered { IsOrderedFree (state_of B.kind self.old) h.0 result (state_of B.kind self.new) }
+        ensures step { IsFreeStep (tag_state_of B.kind self.old) h.0 result (tag_state_of B.kind self.new) }
+        ensures rules { KeepsRules (tag_state_of B.kind self.new) }
+        ensures ordered { IsOrderedFree (tag_state_of B.kind self.old) h.0 result (tag_state_of B.kind self.new) }
         ensures bound { RoseAtMost steps.old steps.new (block_free_bound result) }
         ensures cost { steps.new ≡ steps.old + self.new.cost }
     {
@@ -36,10 +36,10 @@ impl<B: FitPolicy> OpenHeap<B> {
 
     /// Frees an object in a block as `free` does; fails if the handle isn't live. Leaves `cost` unchanged.
     fn free_inner(&mut self, h: Handle, steps: &mut Steps) -> Result<Freed, NotLive>
-        ensures step { IsFreeStep (state_of B.kind self.old) h.0 result (state_of B.kind self.new) }
-        ensures rules { KeepsRules (state_of B.kind self.new) }
-        ensures choice { FreeChooses B.kind self.old h.0 result self.new }
-        ensures steps { RoseBy steps.old steps.new (block_free_cost (state_of B.kind self.old) h.0 result (state_of B.kind self.new)) }
+        ensures step { IsFreeStep (tag_state_of B.kind self.old) h.0 result (tag_state_of B.kind self.new) }
+        ensures rules { KeepsRules (tag_state_of B.kind self.new) }
+        ensures choice { TagFreeChooses B.kind self.old h.0 result self.new }
+        ensures steps { RoseBy steps.old steps.new (block_free_cost (tag_state_of B.kind self.old) h.0 result (tag_state_of B.kind self.new)) }
         ensures bound { RoseAtMost steps.old steps.new (block_free_bound result) }
     {
         let Some(place) = self.proxies.lookup(h, steps) else {

@@ -6,9 +6,9 @@ ghost use Rattle.cf_model.specs.Ordered.{IsOrderedMalloc};
 ghost use Rattle.cf_model.specs.Room.{IsHasRoomAnswer};
 ghost use Rattle.cf_model.specs.Rules.{KeepsRules};
 ghost use Rattle.cf_model.specs.Steps.{IsMallocStep};
-ghost use Rattle.tag_heap.specs.Choices.{MallocChooses};
-ghost use Rattle.tag_heap.specs.Costs.{malloc_steps, room_steps, search_steps};
-ghost use Rattle.tag_heap.specs.Heap.{state_of};
+ghost use Rattle.tag_heap.specs.Choices.{TagMallocChooses};
+ghost use Rattle.tag_heap.specs.Costs.{room_steps, search_steps, tag_malloc_steps};
+ghost use Rattle.tag_heap.specs.Heap.{tag_state_of};
 ghost use Rattle.tag_heap.specs.Room.{IsBlockFor, done_by};
 
 use crate::fit_policy::FitPolicy;
@@ -24,10 +24,10 @@ impl<B: FitPolicy> OpenHeap<B> {
     /// changes. Sets `cost` to the steps of this call.
     pub(crate) fn malloc(&mut self, bytes: u32, steps: &mut Steps) -> Result<Handle, Refusal>
         requires { steps.old ≤ 2 ^ 63 }
-        ensures step { IsMallocStep (state_of B.kind self.old) bytes result (state_of B.kind self.new) }
-        ensures rules { KeepsRules (state_of B.kind self.new) }
-        ensures ordered { IsOrderedMalloc (state_of B.kind self.old) bytes result (state_of B.kind self.new) }
-        ensures bound { RoseAtMost steps.old steps.new (malloc_steps result) }
+        ensures step { IsMallocStep (tag_state_of B.kind self.old) bytes result (tag_state_of B.kind self.new) }
+        ensures rules { KeepsRules (tag_state_of B.kind self.new) }
+        ensures ordered { IsOrderedMalloc (tag_state_of B.kind self.old) bytes result (tag_state_of B.kind self.new) }
+        ensures bound { RoseAtMost steps.old steps.new (tag_malloc_steps result) }
         ensures cost { steps.new ≡ steps.old + self.new.cost }
     {
         let before = steps.count();
@@ -39,11 +39,11 @@ impl<B: FitPolicy> OpenHeap<B> {
     /// Adds an object in a block as `malloc` does, or refuses it for the same causes. Leaves `cost` unchanged. The
     /// block is carved once the object has a number, since the block's tag holds it.
     fn malloc_inner(&mut self, bytes: u32, steps: &mut Steps) -> Result<Handle, Refusal>
-        ensures step { IsMallocStep (state_of B.kind self.old) bytes result (state_of B.kind self.new) }
-        ensures rules { KeepsRules (state_of B.kind self.new) }
-        ensures choice { MallocChooses B.kind self.old bytes result self.new }
-        ensures steps { RoseBy steps.old steps.new (block_malloc_cost (state_of B.kind self.old) bytes result (state_of B.kind self.new)) }
-        ensures bound { RoseAtMost steps.old steps.new (malloc_steps result) }
+        ensures step { IsMallocStep (tag_state_of B.kind self.old) bytes result (tag_state_of B.kind self.new) }
+        ensures rules { KeepsRules (tag_state_of B.kind self.new) }
+        ensures choice { TagMallocChooses B.kind self.old bytes result self.new }
+        ensures steps { RoseBy steps.old steps.new (block_malloc_cost (tag_state_of B.kind self.old) bytes result (tag_state_of B.kind self.new)) }
+        ensures bound { RoseAtMost steps.old steps.new (tag_malloc_steps result) }
     {
         let place = self.room(bytes, steps)?;
         let Some(handle) = self.proxies.bind(place, steps) else {
@@ -63,9 +63,9 @@ impl<B: FitPolicy> OpenHeap<B> {
     /// the refusal that it would return. Changes nothing.
     pub(crate) fn room(&self, bytes: u32, steps: &mut Steps) -> Result<u32, Refusal>
         ensures room { IsBlockFor B.rule B.kind self.now bytes result }
-        ensures answer { IsHasRoomAnswer (state_of B.kind self.now) bytes (done_by result) }
-        ensures rules { KeepsRules (state_of B.kind self.now) }
-        ensures steps { RoseBy steps.old steps.new (search_steps (state_of B.kind self.now) bytes result) }
+        ensures answer { IsHasRoomAnswer (tag_state_of B.kind self.now) bytes (done_by result) }
+        ensures rules { KeepsRules (tag_state_of B.kind self.now) }
+        ensures steps { RoseBy steps.old steps.new (search_steps (tag_state_of B.kind self.now) bytes result) }
         ensures bound { RoseAtMost steps.old steps.new (room_steps (done_by result)) }
     {
         let need = need_of(bytes);

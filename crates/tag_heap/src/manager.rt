@@ -6,7 +6,7 @@ ghost use Rattle.cf_model.specs.State.{closed_state};
 ghost use Rattle.cf_model.specs.Steps.{slot_in};
 ghost use Rattle.tag_heap.specs.Costs.{block_bounds, block_words_steps};
 ghost use Rattle.cf_base.specs.Settings.{profile_of};
-ghost use Rattle.tag_heap.specs.Heap.{state_of};
+ghost use Rattle.tag_heap.specs.Heap.{tag_state_of};
 ghost use Rattle.tag_heap.specs.Needed.{tag_bytes};
 
 use crate::fit_policy::FitPolicy;
@@ -28,7 +28,7 @@ pub struct TagHeap<B: FitPolicy> {
     inner: Option<OpenHeap<B>>,
 }
 
-// In contracts a manager is its state (`state_in`), and its heap keeps the invariant `IsKeptIn`.
+// In contracts a manager is its state (`tag_state_in`), and its heap keeps the invariant `IsKeptIn`.
 impl<B: FitPolicy> Model for TagHeap<B> {
     ghost use Rattle.cf_model.specs.State.{HeapState, state_code};
 
@@ -36,9 +36,9 @@ impl<B: FitPolicy> Model for TagHeap<B> {
 
     ghost coded = { state_code };
 
-    ghost use Rattle.tag_heap.specs.Heap.{IsKeptIn, state_in};
+    ghost use Rattle.tag_heap.specs.Heap.{IsKeptIn, tag_state_in};
 
-    ghost view = { λ h. state_in B.kind h.inner };
+    ghost view = { λ h. tag_state_in B.kind h.inner };
 
     ghost invariant = { λ h. IsKeptIn B.kind h.inner };
 }
@@ -72,7 +72,7 @@ impl<B: FitPolicy> TagHeap<B> {
     /// `TagHeap`: borrows the open heap with blocks, for calls that change nothing.
     fn open(&self) -> &OpenHeap<B>
         requires { IsTrue self.now.is_open }
-        ensures { state_of B.kind result.now ≡ self.now }
+        ensures { tag_state_of B.kind result.now ≡ self.now }
     {
         match &self.inner {
             Some(open) => open,
@@ -127,7 +127,7 @@ impl<B: FitPolicy> Manager for TagHeap<B> {
         }
     }
 
-    // Writes bytes into an object, as the trait says. Costs exactly `access_steps` steps.
+    // Writes bytes into an object, as the trait says. Costs exactly `tag_access_steps` steps.
     fn write(
         &mut self,
         h: Handle,
@@ -141,7 +141,7 @@ impl<B: FitPolicy> Manager for TagHeap<B> {
         }
     }
 
-    // Reads bytes of an object, as the trait says. Costs exactly `access_steps` steps.
+    // Reads bytes of an object, as the trait says. Costs exactly `tag_access_steps` steps.
     fn read(
         &self,
         h: Handle,

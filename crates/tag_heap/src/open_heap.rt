@@ -7,7 +7,7 @@ ghost use Rattle.proxy_table.specs.Proxies.{AreBelowLimit, no_proxies};
 ghost use Rattle.cf_model.specs.Rules.{KeepsRules};
 ghost use Rattle.cf_model.specs.Steps.{IsEmptyHeap};
 ghost use Rattle.cf_base.specs.Settings.{profile_of};
-ghost use Rattle.tag_heap.specs.Heap.{state_of};
+ghost use Rattle.tag_heap.specs.Heap.{tag_state_of};
 ghost use Rattle.tag_heap.specs.Needed.{tag_bytes};
 
 use crate::fit_policy::FitPolicy;
@@ -54,8 +54,8 @@ impl<B: FitPolicy> OpenHeap<B> {
     /// Returns a heap with blocks and without objects, with the settings `s`. Only this call allocates. It fails with
     /// `OutOfMemory` if an allocation fails.
     pub(crate) fn new(alloc: Global, s: &Settings) -> Result<OpenHeap<B>, OutOfMemory>
-        ensures empty { IfOk result (λ h. IsEmptyHeap B.kind s.now (state_of B.kind h)) }
-        ensures rules { IfOk result (λ h. KeepsRules (state_of B.kind h)) }
+        ensures empty { IfOk result (λ h. IsEmptyHeap B.kind s.now (tag_state_of B.kind h)) }
+        ensures rules { IfOk result (λ h. KeepsRules (tag_state_of B.kind h)) }
     {
         let blocks = TagBlocks::new(alloc, s.pages * s.page_words)?;
         let proxies = ProxyTable::new(alloc, s.proxies)?;
@@ -80,8 +80,8 @@ impl<B: FitPolicy> OpenHeap<B> {
         requires listed { AreListsOf B.rule B.COUNT (listed blocks) }
         requires proxies { proxies ≡ no_proxies s.now.proxies }
         requires handles { AreBelowLimit proxies }
-        ensures empty { IsEmptyHeap B.kind s.now (state_of B.kind result) }
-        ensures rules { KeepsRules (state_of B.kind result) }
+        ensures empty { IsEmptyHeap B.kind s.now (tag_state_of B.kind result) }
+        ensures rules { KeepsRules (tag_state_of B.kind result) }
     {
         OpenHeap {
             settings: *s,

@@ -1,7 +1,7 @@
 -- For `run_bench`: opening the manager and applying the commands is a run of the generated script (`BenchRun`), and the line that is printed, or a prefix of
 -- it, has the numbers of that run.
 use Rattle.std.proofs.Common.{◌≡◌, ◌++◌, ℕ, List, [], ◌∷◌, map, Option, Some, None, refl, subst, append_assoc, codes}
-use Rattle.top_call.specs.Bench.{BenchRun, EndsBench, IsAppliedTo, IsWritten, bench_items, bench_settings, bench_text, bench_figures}
+use Rattle.top_call.specs.Bench.{BenchRun, EndsBench, IsAppliedTo, IsTextWritten, bench_items, bench_settings, bench_text, bench_figures}
 use Rattle.top_call.specs.Bench.{good_ones, refusals}
 use Rattle.top_call.specs.declared.figures.BenchFigures.{BenchFigures}
 use Rattle.run_model.specs.Terms.{asks, fresh_session, HeapState, KeepsRules, Kind, Profile, profile_of, Reply, RunState, said, SessionState, Status, totals_in}
@@ -34,7 +34,7 @@ run_of_bench kind seed count ok refused mid to begins same a =
 
 -- a bench that ran and wrote its text, or a prefix of it, ended as `EndsBench` allows
 pub ends_bench : (status : Status) (seed count : ℕ) (from to : RunState) (before after : Option (List ℕ)) (run : BenchRun from.heap.kind seed count to)
-    → IsWritten status before (bench_text count run.replies to) after → EndsBench status seed count from to before after
+    → IsTextWritten status before (bench_text count run.replies to) after → EndsBench status seed count from to before after
 ends_bench Done seed count from to before after run written = record { run = run; written = written }
 ends_bench WriteFault seed count from to before after run written = record { run = run; written = written }
 ends_bench _ seed count from to before after run written = absurd written

@@ -22,7 +22,7 @@ use Rattle.top_call.proofs.FirstOfKindLemmas.{chosen_kind}
 use Rattle.top_call.proofs.OwnOutcomes.{own_of}
 use Rattle.top_call.specs.FirstOfKind.{chosen_manager}
 use Rattle.top_call.specs.SideBySide.{fresh_side_by_side, many_managers}
-use Rattle.top_call.specs.Claims.{HoldsImage, MeetsClaim}
+use Rattle.top_call.specs.Claims.{GivesImage, MeetsClaim}
 use Rattle.top_call.specs.Outcomes.{Benches, Compares, EndsWithCause, EndsWhole, CallState, Loads, OrLacks, PlaysOwn, RunsChosen, Saves, effects_of, kinds_in, IsMadeLarge}
 use Rattle.clap.specs.Words.{Text}
 use Rattle.image_run.proofs.CallerLemmas.{load_met, save_met}
@@ -215,17 +215,17 @@ save_sound = record {
 
 -- Mode `load`.
 -- an image isn't broken
-not_broken : (from to : RunState) (at : ℕ) (had left : Feed) → HoldsImage had.rest → LoadsBy from had (Err (fault.Bad at)) left to → ⊥
+not_broken : (from to : RunState) (at : ℕ) (had left : Feed) → GivesImage had.rest → LoadsBy from had (Err (fault.Bad at)) left to → ⊥
 not_broken from to at had left image q = go had.rest refl image
   where
-    go : (o : Option (List ℕ)) → o ≡ had.rest → HoldsImage o → ⊥
+    go : (o : Option (List ℕ)) → o ≡ had.rest → GivesImage o → ⊥
     go None is image = image
     go (Some all) is image =
         let row = observed_load from to had left (Err (fault.Bad at)) q all (sym is) in
         let e : None ≡ Some at = sym image ∙ ap (λ (b : List ℕ). (decoded b).broken) row.1 ∙ ap (λ (t : Decoded). t.broken) row.2.reads_all ∙ row.2.broken in
         absurd cc
 
-load_whole : (old new : CallState) → HoldsImage old.source.rest → ¬ SourceFailsIf true old.source new.source → ¬ SinkFailsIf true old.sink new.sink
+load_whole : (old new : CallState) → GivesImage old.source.rest → ¬ SourceFailsIf true old.source new.source → ¬ SinkFailsIf true old.sink new.sink
     → (st : Status) → Loads old st new → (st ≡ ReadFault → SourceFailsIf true old.source new.source)
     → (st ≡ WriteFault → SinkFailsIf true old.sink new.sink) → EndsWhole st
 load_whole old new image sure firm Done done read wrote = inl refl
@@ -238,7 +238,7 @@ load_whole old new image sure firm Words done read wrote = absurd done.outcome
 load_whole old new image sure firm BadScript done read wrote = absurd done.outcome
 load_whole old new image sure firm TooLong done read wrote = absurd done.outcome
 
-pub load_sound : IsSound Loads HoldsImage
+pub load_sound : IsSound Loads GivesImage
 load_sound = record {
   never_words = λ old new done. done.outcome;
   whole = λ old st new ends image sure firm. whole_of Loads old new (load_whole old new image sure firm) st ends;

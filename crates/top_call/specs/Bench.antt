@@ -66,15 +66,15 @@ abbrev pub bench_text : ℕ → List Reply → RunState → List ℕ
 bench_text count replies end = led [] (said (bench_line (bench_figures count replies end)))
 
 -- with this status the bytes of the sink went from `before` to `after`: at `Done` the text was added, at `WriteFault` a prefix of it; no other status occurs
-abbrev pub IsWritten : Status → Option (List ℕ) → List ℕ → Option (List ℕ) → Type 0
-IsWritten Done before text after = after ≡ appended before text
-IsWritten WriteFault before text after = WritesPrefix before text after
-IsWritten status before text after = ⊥
+abbrev pub IsTextWritten : Status → Option (List ℕ) → List ℕ → Option (List ℕ) → Type 0
+IsTextWritten Done before text after = after ≡ appended before text
+IsTextWritten WriteFault before text after = WritesPrefix before text after
+IsTextWritten status before text after = ⊥
 
 -- the bench ran from state `from` to state `to`, and its line was added to the sink's bytes, or a prefix of the line if the sink failed
 pub record PrintsBench (status : Status) (seed count : ℕ) (from to : RunState) (before after : Option (List ℕ)) : Type 0 where
   pub run : BenchRun from.heap.kind seed count to
-  pub written : IsWritten status before (bench_text count run.replies to) after
+  pub written : IsTextWritten status before (bench_text count run.replies to) after
 
 -- an allocation failed at the opening, so that the manager has no heap, and nothing was written
 pub record LacksBench (from to : RunState) (before after : Option (List ℕ)) : Type 0 where

@@ -1,5 +1,5 @@
 -- For a mode that answers a script: that its output is a reply to each item, of which a given claim holds (`PrintsAs`). And that the bytes of a source are a
--- heap image (`HoldsImage`).
+-- heap image (`GivesImage`).
 use Rattle.std.specs.Prelude.{◌≡◌, ⊤, ℕ, List, [], Option, Some, None}
 use Rattle.run_model.specs.Terms.{appended, Item, Reply, text_of}
 use Rattle.script_loop.specs.ScriptOutcome.{Effects, items_within}
@@ -17,6 +17,6 @@ MeetsClaim Claim None call = ⊤
 MeetsClaim Claim (Some all) call = PrintsAs Claim (items_within all) call
 
 -- the source is observable, and the bytes that it had are a heap image
-abbrev pub HoldsImage : Option (List ℕ) → Type 0
-HoldsImage None = ⊥
-HoldsImage (Some all) = IsHeapImage all
+abbrev pub GivesImage : Option (List ℕ) → Type 0
+GivesImage None = ⊥
+GivesImage (Some all) = IsHeapImage all

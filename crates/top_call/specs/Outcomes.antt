@@ -31,8 +31,8 @@ call_state source sink managers = record { source = source; sink = sink; manager
 
 -- what contracts see of a source `s`, a sink `k` and managers `hs`; the first two arguments have the functions that show it for the types of `s` and `k`, and
 -- `state` is the state of a manager
-abbrev pub seen : {S K H : Type 0} → source.Ghosts S → sink.Ghosts K → (H → HeapState) → S → K → List H → CallState
-seen S K state s k hs = call_state (S.state s) (K.state k) (map (λ h. state h) hs)
+abbrev pub call_seen : {S K H : Type 0} → source.Ghosts S → sink.Ghosts K → (H → HeapState) → S → K → List H → CallState
+call_seen S K state s k hs = call_state (S.state s) (K.state k) (map (λ h. state h) hs)
 
 -- the status of a call, and what it did to the bytes of its source and its sink
 abbrev pub effects_of : CallState → Status → CallState → Effects

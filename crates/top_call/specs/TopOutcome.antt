@@ -20,16 +20,16 @@ use Rattle.slice_session.specs.SliceHeadline.{MeetsSliced}
 use Rattle.quota_heap.specs.State as quota_state
 use Rattle.quota_session.specs.Playing.{quota_tasks}
 use Rattle.quota_session.specs.QuotaRun.{QuotaRun, first_session, quota_run}
-use Rattle.top_call.specs.Claims.{HoldsImage, MeetsClaim}
+use Rattle.top_call.specs.Claims.{GivesImage, MeetsClaim}
 use Rattle.top_call.specs.Outcomes.{Benches, Compares, CallState, Loads, OrLacks, PlaysLarge, PlaysOwn, RunsChosen, Saves, effects_of, kinds_in}
 
 -- the state of a new run in mode `slice`: no id is live, and the sliced heap, for slices of at most `quantum` words, was never open
 abbrev pub IsMadeSliced : ℕ → SlicePlay → Type 0
-IsMadeSliced quantum s = s ≡ slice_play empty quantum sliced_state.closed_state
+IsMadeSliced quantum s = s ≡ slice_play empty quantum sliced_state.closed_sliced
 
 -- the state of a new run in mode `quota`: the session is new, and the heap of tasks was never open
 abbrev pub IsMadeForTasks : QuotaRun → Type 0
-IsMadeForTasks s = s ≡ quota_run None first_session quota_state.closed_state
+IsMadeForTasks s = s ≡ quota_run None first_session quota_state.closed_tasks
 
 -- Mode `slice`: a script ran on a sliced heap made for it, in which a free leaves work to later slices.
 abbrev pub PlaysSlices : ℕ → CallState → Status → CallState → Type 0
@@ -98,7 +98,7 @@ PrintsAsClaimed words old status new = AnswersInput status → PrintsChosen word
 -- the input is right for the mode: an image, or a script within the limit with no bad line; mode `bench` reads nothing
 abbrev pub IsRightInput : Mode → Option (List ℕ) → Type 0
 IsRightInput Bench had = ⊤
-IsRightInput Load had = HoldsImage had
+IsRightInput Load had = GivesImage had
 IsRightInput mode had = IsClean had
 
 -- the arguments choose a mode, and the input is right for that mode

@@ -1,5 +1,5 @@
 //! Mode `compare`: runs one script on several managers and prints the replies of all.
-ghost use Rattle.top_call.specs.Outcomes.{Compares, EndsWithCause, seen};
+ghost use Rattle.top_call.specs.Outcomes.{Compares, EndsWithCause, call_seen};
 
 use crate::each::Sessions;
 use cf_base::Status;
@@ -20,8 +20,8 @@ pub fn compare_all<H: Manager, S: Source, K: Sink>(
     sink: &mut K,
 ) -> Status
     ensures { EndsWithCause Compares
-        (seen S.Source K.Sink (λ m. H.state m) source.old sink.old managers.old.items) result
-        (seen S.Source K.Sink (λ m. H.state m) source.new sink.new managers.new.items) }
+        (call_seen S.Source K.Sink (λ m. H.state m) source.old sink.old managers.old.items) result
+        (call_seen S.Source K.Sink (λ m. H.state m) source.new sink.new managers.new.items) }
 {
     let Ok(mut sessions) = Sessions::start(memory, alloc, managers.len()) else {
         return Status::OutOfMemory;

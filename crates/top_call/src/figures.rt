@@ -1,6 +1,6 @@
 //! The numbers that mode `bench` prints, and the line in which it prints them.
 ghost use Rattle.std.specs.Prelude.{◌≡◌, []};
-ghost use Rattle.top_call.specs.Bench.{IsWritten, bench_line};
+ghost use Rattle.top_call.specs.Bench.{IsTextWritten, bench_line};
 ghost use Rattle.run_model.specs.Terms.{led, said, SinkFailsIf};
 ghost use Rattle.script_loop.specs.ScriptOutcome.{is_write_fault};
 
@@ -24,7 +24,7 @@ impl BenchFigures {
     /// In mode `bench`, writes the line of the numbers in one call of the sink. Returns `Done`, or `WriteFault` if the
     /// sink failed.
     pub(crate) fn put<K: Sink>(&self, sink: &mut K) -> Status
-        ensures written { IsWritten result (K.state sink.old).written (led [] (said (bench_line self.now))) (K.state sink.new).written }
+        ensures written { IsTextWritten result (K.state sink.old).written (led [] (said (bench_line self.now))) (K.state sink.new).written }
         ensures sink { SinkFailsIf (is_write_fault result) (K.state sink.old) (K.state sink.new) }
     {
         let mut line = Line::new();

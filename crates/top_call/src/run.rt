@@ -1,7 +1,7 @@
 //! Mode `run`: runs a script on the first manager of the chosen kind, or on a new one if none is given.
 ghost use Rattle.std.specs.Prelude.{◌≡◌};
 ghost use Rattle.run_model.specs.Terms.{closed_state, fresh_session};
-ghost use Rattle.top_call.specs.Outcomes.{EndsWithCause, RunsChosen, RunsOwn, seen};
+ghost use Rattle.top_call.specs.Outcomes.{EndsWithCause, RunsChosen, RunsOwn, call_seen};
 
 use crate::first_of_kind::first_of;
 use cf_base::{Kind, Status};
@@ -27,8 +27,8 @@ pub fn run_chosen<H: Manager, S: Source, K: Sink>(
     sink: &mut K,
 ) -> Status
     ensures { EndsWithCause (RunsChosen kind)
-        (seen S.Source K.Sink (λ m. H.state m) source.old sink.old managers.old.items) result
-        (seen S.Source K.Sink (λ m. H.state m) source.new sink.new managers.new.items) }
+        (call_seen S.Source K.Sink (λ m. H.state m) source.old sink.old managers.old.items) result
+        (call_seen S.Source K.Sink (λ m. H.state m) source.new sink.new managers.new.items) }
 {
     let Ok(mut session) = Session::for_library(memory, alloc) else {
         return Status::OutOfMemory;

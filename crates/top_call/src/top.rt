@@ -2,7 +2,7 @@
 ghost use Rattle.std.specs.Prelude.{◌≡◌, ◌<◌, ◌≤◌, ◌+◌, ◌⊎◌, is_some, map, string_bytes, true};
 ghost use Rattle.cf_io.specs.Feeds.{SinkFailsIf, SourceFailsIf, last_count};
 ghost use Rattle.script_loop.specs.ScriptOutcome.{MOST_BYTES, is_read_fault, is_write_fault};
-ghost use Rattle.top_call.specs.Outcomes.{EndsWithCause, EndsWhole, seen};
+ghost use Rattle.top_call.specs.Outcomes.{EndsWithCause, EndsWhole, call_seen};
 ghost use Rattle.top_call.specs.OneScript.{KeepsContract};
 ghost use Rattle.top_call.specs.TopOutcome.{EndsWell, HasRightInput, InMode, PrintsAsClaimed};
 
@@ -44,12 +44,12 @@ pub fn cf_main<H: Manager, S: Source, K: Sink>(
     managers: &mut Vec<H>,
 ) -> Status
     ensures outcome { EndsWell (map (λ word. string_bytes word) words.now)
-        (seen S.Source K.Sink (λ m. H.state m) source.old sink.old managers.old.items) result
-        (seen S.Source K.Sink (λ m. H.state m) source.new sink.new managers.new.items) }
+        (call_seen S.Source K.Sink (λ m. H.state m) source.old sink.old managers.old.items) result
+        (call_seen S.Source K.Sink (λ m. H.state m) source.new sink.new managers.new.items) }
     // The replies meet the claim of the mode.
     ensures claimed { PrintsAsClaimed (map (λ word. string_bytes word) words.now)
-        (seen S.Source K.Sink (λ m. H.state m) source.old sink.old managers.old.items) result
-        (seen S.Source K.Sink (λ m. H.state m) source.new sink.new managers.new.items) }
+        (call_seen S.Source K.Sink (λ m. H.state m) source.old sink.old managers.old.items) result
+        (call_seen S.Source K.Sink (λ m. H.state m) source.new sink.new managers.new.items) }
     ensures kinds { map (λ h. h.kind) (map (λ m. H.state m) managers.new.items)
         ≡ map (λ h. h.kind) (map (λ m. H.state m) managers.old.items) }
     // A manager promises an order afterwards if it did before.
@@ -79,9 +79,9 @@ pub fn run_arguments<H: Manager, S: Source, K: Sink>(
     managers: &mut Vec<H>,
 ) -> Status
     ensures keeps { KeepsContract (map (λ word. string_bytes word) words.now) (record {
-      old = seen S.Source K.Sink (λ m. H.state m) source.old sink.old managers.old.items;
+      old = call_seen S.Source K.Sink (λ m. H.state m) source.old sink.old managers.old.items;
       status = result;
-      new = seen S.Source K.Sink (λ m. H.state m) source.new sink.new managers.new.items;
+      new = call_seen S.Source K.Sink (λ m. H.state m) source.new sink.new managers.new.items;
     }) }
     ensures complete { HasRightInput (map (λ word. string_bytes word) words.now) (S.state source.old).rest
         → ¬ SourceFailsIf true (S.state source.old) (S.state source.new) → ¬ SinkFailsIf true (K.state sink.old) (K.state sink.new) → EndsWhole result }
@@ -109,8 +109,8 @@ fn run_mode<H: Manager, S: Source, K: Sink>(
     requires least { 1 ≤ choice.quantum }
     requires most { choice.quantum ≤ 16384 }
     ensures { EndsWithCause (InMode choice.mode choice)
-        (seen S.Source K.Sink (λ m. H.state m) source.old sink.old managers.old.items) result
-        (seen S.Source K.Sink (λ m. H.state m) source.new sink.new managers.new.items) }
+        (call_seen S.Source K.Sink (λ m. H.state m) source.old sink.old managers.old.items) result
+        (call_seen S.Source K.Sink (λ m. H.state m) source.new sink.new managers.new.items) }
 {
     match choice.mode {
         Mode::Run => run_chosen(memory, alloc, choice.kind, managers, source, sink),

@@ -50,7 +50,7 @@ use denote.Triple.Walked.{Stays, walk_of, stay_dropped}
 use Rattle.core.proofs.alloc.Calls.{Goes-blank}
 use Rattle.core.proofs.alloc.Shapes.{after}
 use Rattle.core.proofs.atomic.Steps.{fm}
-use Rattle.c_base.specs.Lending.{AreOf, AreWords, IsFit, IsOf}
+use Rattle.c_base.specs.Lending.{AreOf, AreWords, IsFit, IsLooseOf}
 use Rattle.c_base.specs.Lent.{Names, open_borrow}
 use Rattle.c_base.specs.contracts.block.HeapBlock.{the_row as P}
 use Rattle.c_base.specs.contracts.loan.Loan.{the_row as Q}
@@ -135,10 +135,10 @@ split_spec {M} 𝓤 𝓛 𝓜 𝓡 wired X Y LX LY G d met =
     -- the open borrow is put together
     let x = L.state a in let m : ℕ = length (L.words x) in
     let names : Names S.Denot = record { life = α; heap_name = γ; words_name = e'.ghost_name; heap_at = (b, o); words_at = (wb, wo); parts = a; lent = xs } in
-    let still : IsOf L (L.with_words a (L.words x)) x = subst (λ z'. IsOf L z' x) (sym (met.restored a fits (subst AreWords value below))) (record { fit = fits; shown = refl }) in
+    let still : IsLooseOf L (L.with_words a (L.words x)) x = subst (λ z'. IsLooseOf L z' x) (sym (met.restored a fits (subst AreWords value below))) (record { fit = fits; shown = refl }) in
     move ! (0 ∷ 7 ∷ []) $ fjoin ! $ move ! (6 ∷ 0 ∷ []) $ fjoin ! $ move ! (4 ∷ 0 ∷ []) $ fjoin ! $ move ! (3 ∷ 0 ∷ []) $ fjoin ! $ move ! (2 ∷ 0 ∷ []) $ fjoin ! $
     feq_i ! ℕ m n (ap length (sym value)) $ fjoin ! $ feq_i ! Ptr (block_ptr wb wo) (block_ptr wb wo) refl $ fjoin ! $ feq_i ! Ptr (block_ptr b o) (block_ptr b o) refl $ fjoin ! $
-    fpack ! ((m : Names S.Denot) × IsOf L (L.with_words m.parts (L.words x)) x) (λ m. open_borrow S L.with_words (block_ptr b o) (block_ptr wb wo) (length (L.words x)) m.0) (names, still) $
+    fpack ! ((m : Names S.Denot) × IsLooseOf L (L.with_words m.parts (L.words x)) x) (λ m. open_borrow S L.with_words (block_ptr b o) (block_ptr wb wo) (length (L.words x)) m.0) (names, still) $
     move ! (1 ∷ []) $ rewrite ! 0 (λ (l : List ℕ). ‵ (lies_at (Array u64 (length l)) full_share (block_ptr wb wo) l)) value refl $ fjoin ! $
     loan_in T S G ! (block_ptr b o) (block_ptr wb wo) (Some x) $
     -- [the `Loan`; the tokens; nothing]

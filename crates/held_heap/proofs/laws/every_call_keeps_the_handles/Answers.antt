@@ -5,7 +5,7 @@ use Rattle.cf_model.specs.Rules.{KeepsRules}
 use Rattle.cf_model.specs.State.{HeapState}
 use Rattle.c_base.specs.Handles.{number_in}
 use Rattle.c_base.proofs.CallerLemmas.{freed_handles, opened_handles}
-use Rattle.held_heap.specs.Bound.{class_to_bound}
+use Rattle.held_heap.specs.Bound.{class_with_bound}
 use Rattle.held_heap.specs.HeldState.{HeldState}
 use Rattle.held_heap.proofs.HandleLaws.{bound_rules, keeps}
 use Rattle.held_heap.proofs.SettingsStay.{bound_settings, free_settings, malloc_settings, resize_settings, settings, write_settings}
@@ -34,7 +34,7 @@ returns-clause-write c most old new handle from bytes code call k =
 pub returns-clause-bound : goal.returns-clause-bound
 returns-clause-bound c old new words n code call k =
     keeps old new (bound_rules old new words n code call k.rules)
-    (ap (λ (h : HeldState). settings h.heap) call.whole ∙ bound_settings old.heap (class_to_bound old.heap words n) n) (ap (λ (h : HeldState). h.handles) call.whole) k
+    (ap (λ (h : HeldState). settings h.heap) call.whole ∙ bound_settings old.heap (class_with_bound old.heap words n) n) (ap (λ (h : HeldState). h.handles) call.whole) k
 
 pub returns-clause-others : goal.returns-clause-others
 returns-clause-others c old new kept same k = keeps old new (subst KeepsRules (sym kept) k.rules) (ap settings kept) same k

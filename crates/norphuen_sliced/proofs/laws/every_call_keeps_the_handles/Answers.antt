@@ -1,6 +1,6 @@
 use Rattle.std.proofs.Common.{ap, subst, sym}
 use Rattle.cf_base.specs.Settings.{Profile}
-use Rattle.sliced_heap.specs.Shown.{KeepsRules, SlicedState}
+use Rattle.sliced_heap.specs.Shown.{KeepsSlicedRules, SlicedState}
 use Rattle.c_base.proofs.CallerLemmas.{freed_handles, opened_handles, same_handles}
 use Rattle.norphuen_sliced.proofs.laws.every_call_keeps_the_handles.Goals as goal
 
@@ -24,4 +24,4 @@ returns-clause-write c old new handle from bytes code call k =
 
 pub returns-clause-others : goal.returns-clause-others
 returns-clause-others c old new kept same k =
-    same_handles k (subst KeepsRules (sym kept) k.rules) (ap (λ (s : SlicedState). s.profile.proxies) kept) same
+    same_handles k (subst KeepsSlicedRules (sym kept) k.rules) (ap (λ (s : SlicedState). s.profile.proxies) kept) same

@@ -1,5 +1,5 @@
 use Rattle.std.proofs.Common.{◌∙◌, [], ap, refl, subst}
-use Rattle.top_call.specs.Bench.{IsWritten, bench_line, bench_settings}
+use Rattle.top_call.specs.Bench.{IsTextWritten, bench_line, bench_settings}
 use Rattle.top_call.specs.declared.figures.BenchFigures.{BenchFigures}
 use Rattle.run_model.specs.Terms.{HeapState, led, said}
 use Rattle.cf_session.specs.Apply.{run_at}
@@ -20,7 +20,7 @@ returns-clause-outcome g c =
     let to = run_at c.apply_commands-tally.new.session (g.H.Manager.state c.apply_commands-tally.new.heap) in
     let shown = shown_figures c.args.count _ _ _ _ applied.replies to applied.ok_are applied.refused_are c.totals-totals.ensures.value c.moves.ensures in
     ends_bench c.put.result c.args.seed c.args.count _ _ _ _ (record { replies = applied.replies; run = run })
-    (subst (λ (f : BenchFigures). IsWritten c.put.result (g.K.Sink.state c.args.sink.now).written (led [] (said (bench_line f))) (g.K.Sink.state c.put.new.sink).written)
+    (subst (λ (f : BenchFigures). IsTextWritten c.put.result (g.K.Sink.state c.args.sink.now).written (led [] (said (bench_line f))) (g.K.Sink.state c.put.new.sink).written)
     shown c.put.ensures.written)
 
 pub returns-clause-kind : goal.returns-clause-kind

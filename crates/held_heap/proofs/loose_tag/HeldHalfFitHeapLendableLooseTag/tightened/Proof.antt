@@ -21,7 +21,7 @@ use denote.Triple.Walked.{Stays, walk_of, stay_dropped, Goes-dropped}
 use Rattle.c_base.specs.Lending.{AreOf, IsFit}
 use Rattle.c_base.specs.contracts.block.HeapBlock.{the_row as Block}
 use Rattle.c_base.proofs.CallerLemmas.{fit_some, place_in, place_out, place_val}
-use Rattle.held_heap.specs.LooseTag.{Fits, lending, state_of}
+use Rattle.held_heap.specs.LooseTag.{Fits, lending, loose_state_of}
 use Rattle.held_heap.specs.Half.{open_heap as T, rule}
 use Rattle.half_fit_heap.specs.contracts.buckets.HalfFitBuckets.{the_row as R}
 use Rattle.half_fit_heap.specs.contracts.buckets.HalfFitBucketsBuckets.TheImpl.{ghosts as B}
@@ -42,7 +42,7 @@ tightened_spec 𝓤 𝓛 𝓜 𝓡 wired =
     let Post : Val → SProp 𝓤 = W.post y in let p = y.0.3.0 in
     qed 𝓛 ((‵ ftrue ⊛ ‵ (owns (types_at f.signature.params y.0.0) y.0.3 y.0.4)) ∷ raw (fact 𝓤 (IsFit (lending rule) p.held)) ∷ []) ∵ move ! (1 ∷ []) $ heard ! (IsFit (lending rule) p.held) (λ fit.
     split ! $ move ! (1 ∷ []) $ fsplit ! $ place_out S ! p y.0.4.0 (fit_some (lending rule) p.held fit) (λ a held b o e is.
-    let fits : Fits rule a = subst (IsFit (lending rule)) held fit in let x = state_of rule.kind a in
+    let fits : Fits rule a = subst (IsFit (lending rule)) held fit in let x = loose_state_of rule.kind a in
     fsplit ! $ tighten R P B ! a b o fits $
     -- [the `Held`; the right to free its block; nothing; the tokens]
     fjoin ! $ regoal ! (λ (us : List Val). prop (WpFn 𝓤 𝓛.H 𝓣.C 𝓣.Λ code.function us Post)) (λ i. is i ++ []) refl $

@@ -3,7 +3,7 @@ use Rattle.std.proofs.Common.{refl}
 use denote.Memory.{part_of}
 use Rattle.c_base.proofs.CallerLemmas.{lends_inner}
 use Rattle.c_base.specs.contracts.closable.ClosableHeap.{the_row as heap_row}
-use Rattle.norphuen_images.specs.Place.{inner_of, outer_of}
+use Rattle.norphuen_images.specs.Place.{images_inner_of, images_outer_of}
 use Rattle.norphuen_images.specs.contracts.held.HeldImages.{the_row as open_heap}
 use Rattle.norphuen_images.specs.contracts.images.NphHeap.{the_row}
 use Rattle.norphuen_images.specs.contracts.images.NphHeap.inner as f
@@ -12,4 +12,4 @@ use Rattle.norphuen_images.proofs.images.NphHeap.inner.Code as code
 
 pub inner_spec : {M : Type 1} → statement M
 unfolding part_of
-inner_spec 𝓤 𝓛 𝓜 𝓡 wired = lends_inner the_row (heap_row open_heap) tt tt inner_of outer_of (λ h b o. refl) (λ w b o. refl) _ _ _ _ 𝓛 𝓜 𝓡 f.Key.name (code.unfolded 𝓤 𝓛.H 𝓜 𝓡 wired)
+inner_spec 𝓤 𝓛 𝓜 𝓡 wired = lends_inner the_row (heap_row open_heap) tt tt images_inner_of images_outer_of (λ h b o. refl) (λ w b o. refl) _ _ _ _ 𝓛 𝓜 𝓡 f.Key.name (code.unfolded 𝓤 𝓛.H 𝓜 𝓡 wired)

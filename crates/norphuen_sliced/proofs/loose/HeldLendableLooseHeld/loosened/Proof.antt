@@ -21,8 +21,8 @@ use denote.Triple.Walked.{Stays, walk_of, stay_dropped, Goes-dropped}
 use Rattle.c_base.specs.Lending.{AreOf}
 use Rattle.c_base.specs.contracts.block.HeapBlock.{the_row as P}
 use Rattle.c_base.proofs.CallerLemmas.{place_in, place_out, place_val}
-use Rattle.norphuen_sliced.specs.Loose.{lending}
-use Rattle.norphuen_sliced.specs.Sliced.{open_heap as T}
+use Rattle.norphuen_sliced.specs.Loose.{sliced_lending}
+use Rattle.norphuen_sliced.specs.Sliced.{open_sliced as T}
 use Rattle.norphuen_sliced.specs.contracts.loose.HeldLendableLooseHeld.loosened as f
 use Rattle.norphuen_sliced.proofs.Loosen.{S, loosen}
 use Rattle.norphuen_sliced.proofs.loose.HeldLendableLooseHeld.loosened.Statement.{statement}
@@ -47,7 +47,7 @@ loosened_spec 𝓤 𝓛 𝓜 𝓡 wired =
     sets ! (agg ! (and_then ! (get ! refl) (no_more !))) refl (tt, (tt, tt)) $
     returns ! (look_at ! 0 refl) $ free_all ! refl $
     place_in S ! (block_ptr b o) (Some a) $
-    use0 𝓛 (raw (fact 𝓤 (AreOf lending (Some a) p.held))) (fact_i 𝓤 _ (emp 𝓤) (subst (AreOf lending (Some a)) (sym held) of)) $ nothing ! $ nothing ! $ fjoin ! $
+    use0 𝓛 (raw (fact 𝓤 (AreOf sliced_lending (Some a) p.held))) (fact_i 𝓤 _ (emp 𝓤) (subst (AreOf sliced_lending (Some a)) (sym held) of)) $ nothing ! $ nothing ! $ fjoin ! $
     -- [what is left of the parameter; the clause; the block; nothing; the tokens]
     keep ! (4 ∷ 0 ∷ 2 ∷ 1 ∷ []) $
     by ! (leaves 𝓛 f.ended stayed c y (place_val (block_ptr b o)) (record { at = block_ptr b o; held = Some a }) (tt, tt) (tt, tt)))))))

@@ -21,8 +21,8 @@ use denote.Triple.Walked.{Stays, walk_of, stay_dropped, Goes-dropped}
 use Rattle.c_base.specs.Lending.{AreOf, IsFit}
 use Rattle.c_base.specs.contracts.block.HeapBlock.{the_row as P}
 use Rattle.c_base.proofs.CallerLemmas.{fit_some, place_in, place_out, place_val}
-use Rattle.norphuen_sliced.specs.Loose.{Fits, lending, state_of}
-use Rattle.norphuen_sliced.specs.Sliced.{open_heap as T}
+use Rattle.norphuen_sliced.specs.Loose.{FitsSliced, sliced_lending, sliced_loose_state}
+use Rattle.norphuen_sliced.specs.Sliced.{open_sliced as T}
 use Rattle.norphuen_sliced.specs.contracts.loose.HeldLendableLooseHeld.tightened as f
 use Rattle.norphuen_sliced.proofs.Loosen.{S, tighten}
 use Rattle.norphuen_sliced.proofs.loose.HeldLendableLooseHeld.tightened.Statement.{statement}
@@ -37,9 +37,9 @@ tightened_spec 𝓤 𝓛 𝓜 𝓡 wired =
     proved_at 𝓛 f.ended stayed c 𝓜 𝓡 (Goes-dropped 𝓛 0 (plain (λ _. P S)) f.ended.kept.0 (λ κs x w. refl), tt)
     f.Key.name code.function (code.unfolded 𝓤 𝓛.H 𝓜 𝓡 wired) (λ y are.
     let Post : Val → SProp 𝓤 = W.post y in let p = y.0.3.0 in
-    qed 𝓛 ((‵ ftrue ⊛ ‵ (owns (types_at f.signature.params y.0.0) y.0.3 y.0.4)) ∷ raw (fact 𝓤 (IsFit lending p.held)) ∷ []) ∵ move ! (1 ∷ []) $ heard ! (IsFit lending p.held) (λ fit.
-    split ! $ move ! (1 ∷ []) $ fsplit ! $ place_out S ! p y.0.4.0 (fit_some lending p.held fit) (λ a held b o e is.
-    let fits : Fits a = subst (IsFit lending) held fit in let x = state_of a in
+    qed 𝓛 ((‵ ftrue ⊛ ‵ (owns (types_at f.signature.params y.0.0) y.0.3 y.0.4)) ∷ raw (fact 𝓤 (IsFit sliced_lending p.held)) ∷ []) ∵ move ! (1 ∷ []) $ heard ! (IsFit sliced_lending p.held) (λ fit.
+    split ! $ move ! (1 ∷ []) $ fsplit ! $ place_out S ! p y.0.4.0 (fit_some sliced_lending p.held fit) (λ a held b o e is.
+    let fits : FitsSliced a = subst (IsFit sliced_lending) held fit in let x = sliced_loose_state a in
     fsplit ! $ tighten ! a b o fits $
     -- [the `Held`; the right to free its block; nothing; the tokens]
     fjoin ! $ regoal ! (λ (us : List Val). prop (WpFn 𝓤 𝓛.H 𝓣.C 𝓣.Λ code.function us Post)) (λ i. is i ++ []) refl $
@@ -49,7 +49,7 @@ tightened_spec 𝓤 𝓛 𝓜 𝓡 wired =
     sets ! (agg ! (and_then ! (get ! refl) (no_more !))) refl (tt, (tt, tt)) $
     returns ! (look_at ! 0 refl) $ free_all ! refl $
     place_in T ! (block_ptr b o) (Some x) $
-    use0 𝓛 (raw (fact 𝓤 (AreOf lending p.held (Some x)))) (fact_i 𝓤 _ (emp 𝓤) (subst (λ h. AreOf lending h (Some x)) (sym held) (record { fit = fits; shown = refl }))) $ nothing ! $ nothing ! $ fjoin ! $
+    use0 𝓛 (raw (fact 𝓤 (AreOf sliced_lending p.held (Some x)))) (fact_i 𝓤 _ (emp 𝓤) (subst (λ h. AreOf sliced_lending h (Some x)) (sym held) (record { fit = fits; shown = refl }))) $ nothing ! $ nothing ! $ fjoin ! $
     -- [what is left of the parameter; the clause; the block; nothing; the tokens]
     keep ! (4 ∷ 0 ∷ 2 ∷ 1 ∷ []) $
     by ! (leaves 𝓛 f.ended stayed c y (place_val (block_ptr b o)) (record { at = block_ptr b o; held = Some x }) (tt, tt) (tt, tt))))))

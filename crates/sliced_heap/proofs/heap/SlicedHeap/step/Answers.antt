@@ -1,5 +1,5 @@
 use Rattle.std.proofs.Common.{sym, ◌∙◌, ap}
-use Rattle.sliced_heap.specs.Shown.{shown}
+use Rattle.sliced_heap.specs.Shown.{sliced_shown}
 use Rattle.sliced_heap.proofs.Rules.{keeps}
 use Rattle.sliced_heap.proofs.StepCounts.{slice_bound}
 use Rattle.sliced_heap.proofs.heap.SlicedHeap.step.Goals as goal
@@ -9,4 +9,4 @@ returns-clause-rules c = keeps c.step.new.self c.step.ensures.kept
 
 pub returns-clause-bound : goal.returns-clause-bound
 returns-clause-bound c =
-    slice_bound c.in-Some.open c.args.self.now (ap shown (sym c.in-Some.is) ∙ c.self.view_is) c.args.steps.now c.step.new.steps c.step.ensures.steps
+    slice_bound c.in-Some.open c.args.self.now (ap sliced_shown (sym c.in-Some.is) ∙ c.self.view_is) c.args.steps.now c.step.new.steps c.step.ensures.steps

@@ -3,50 +3,50 @@ use Rattle.std.specs.Prelude.{IsTrue}
 use Rattle.std.proofs.lemmas.Bool.{false≢true}
 use Rattle.page_model.specs.Steps.{MustMove}
 use Rattle.slice_model.specs.State.{placeholder}
-use Rattle.sliced_heap.specs.Heap.{seen}
-use Rattle.sliced_heap.specs.Layout.{paging_at}
+use Rattle.sliced_heap.specs.Heap.{sliced_seen}
+use Rattle.sliced_heap.specs.Layout.{sliced_paging}
 use Rattle.sliced_heap.proofs.FillLemmas.{all_are, filled_valid, from_within, is_filled, must_is, number_live, page_within}
 use Rattle.sliced_heap.proofs.open_heap.OpenHeap.fill.Goals as goal
 
 pub must_move-requires-clause-page : goal.must_move-requires-clause-page
-must_move-requires-clause-page c = page_within (seen c.args.self.now) c.requires.kept c.args.k c.requires.job
+must_move-requires-clause-page c = page_within (sliced_seen c.args.self.now) c.requires.kept c.args.k c.requires.job
 
 pub move_to-requires-clause-within : goal.move_to-requires-clause-within
 move_to-requires-clause-within c =
-    let h = seen c.args.self.now in
+    let h = sliced_seen c.args.self.now in
     let t = c.must_move.ensures.value.0 c.if-must_move.true in
     from_within h c.requires.kept c.args.k c.requires.job ((must_is h c.requires.kept c.args.k c.requires.job).0 t)
 
 pub move_to-requires-clause-live : goal.move_to-requires-clause-live
 move_to-requires-clause-live c =
-    let h = seen c.args.self.now in
+    let h = sliced_seen c.args.self.now in
     let t = c.must_move.ensures.value.0 c.if-must_move.true in
     number_live h c.requires.kept c.args.k c.requires.job ((must_is h c.requires.kept c.args.k c.requires.job).0 t)
 
 pub returns-then-must_move-clause-filled : goal.returns-then-must_move-clause-filled
 returns-then-must_move-clause-filled c =
-    let h = seen c.args.self.now in
+    let h = sliced_seen c.args.self.now in
     let t = c.must_move.ensures.value.0 c.if-must_move.true in
     let b = c.move_to.ensures.begun in
     is_filled h c.requires.kept c.args.k c.requires.job ((must_is h c.requires.kept c.args.k c.requires.job).0 t) b.from b.filler c.requires.fresh
-    (seen c.move_to.new.self) b.handles b.free b.whole
+    (sliced_seen c.move_to.new.self) b.handles b.free b.whole
 
 pub returns-then-must_move-clause-kept : goal.returns-then-must_move-clause-kept
 returns-then-must_move-clause-kept c =
-    let h = seen c.args.self.now in
+    let h = sliced_seen c.args.self.now in
     let t = c.must_move.ensures.value.0 c.if-must_move.true in
     let b = c.move_to.ensures.begun in
     filled_valid h c.requires.kept c.args.k c.requires.job ((must_is h c.requires.kept c.args.k c.requires.job).0 t) b.from b.filler c.requires.fresh
-    (seen c.move_to.new.self) b.handles b.free b.whole
+    (sliced_seen c.move_to.new.self) b.handles b.free b.whole
 
 pub returns-clause-filled : goal.returns-clause-filled
 returns-clause-filled c =
-    let h = seen c.args.self.now in
+    let h = sliced_seen c.args.self.now in
     let p = must_is h c.requires.kept c.args.k c.requires.job in
     record {
       stays = λ must.
-          let must' : MustMove (paging_at h) _ (placeholder (paging_at h) c.args.k) =
-          subst (λ o. MustMove (paging_at h) o (placeholder (paging_at h) c.args.k)) (all_are h c.requires.kept c.args.k c.requires.job) must in
+          let must' : MustMove (sliced_paging h) _ (placeholder (sliced_paging h) c.args.k) =
+          subst (λ o. MustMove (sliced_paging h) o (placeholder (sliced_paging h) c.args.k)) (all_are h c.requires.kept c.args.k c.requires.job) must in
           let t : IsTrue c.must_move.result = c.must_move.ensures.value.1 (p.1 must') in
           false≢true (sym c.if-must_move.false ∙ t);
       same = refl;

@@ -1,7 +1,7 @@
 use Rattle.std.proofs.Common.{◌-◌, arith, sym, ◌∙◌, subst}
 use Rattle.cf_model.specs.Ordered.{IsOrderedMalloc}
 use Rattle.cf_model.specs.Rules.{KeepsRules}
-use Rattle.tag_heap.specs.Heap.{Heap, state_of}
+use Rattle.tag_heap.specs.Heap.{Heap, tag_state_of}
 use Rattle.tag_heap.proofs.ByKind.{malloc_by}
 use Rattle.tag_heap.proofs.CostLemmas.{cost_is, malloc_choice_kept, malloc_cost_kept, malloc_few}
 use Rattle.step_ledger.proofs.CallerLemmas.{rose_is}
@@ -10,7 +10,7 @@ use Rattle.tag_heap.proofs.open_heap.OpenHeap.malloc.Goals as goal
 
 pub returns-clause-rules : goal.returns-clause-rules
 returns-clause-rules g c =
-    subst (λ (h : Heap). KeepsRules (state_of g.B.FitPolicy.kind (record h { cost = c.count.result - c.count-before.result }))) (sym c.self.view_is)
+    subst (λ (h : Heap). KeepsRules (tag_state_of g.B.FitPolicy.kind (record h { cost = c.count.result - c.count-before.result }))) (sym c.self.view_is)
     (cost_rules g.B.FitPolicy.kind g.met.B.FitPolicy.tiled c.malloc_inner-result.new.self (c.count.result - c.count-before.result)
     c.malloc_inner-result.ensures.rules)
 
@@ -23,8 +23,8 @@ returns-clause-ordered g c =
     let cost = c.count.result - c.count-before.result in
     let few = malloc_few answer in
     let rose = rose_is _ _ _ _ c.requires (omega arith) c.malloc_inner-result.ensures.steps c.malloc_inner-result.ensures.bound in
-    subst (λ (h : Heap). IsOrderedMalloc (state_of kind old) c.args.bytes answer (state_of kind (record h { cost = cost }))) (sym c.self.view_is)
+    subst (λ (h : Heap). IsOrderedMalloc (tag_state_of kind old) c.args.bytes answer (tag_state_of kind (record h { cost = cost }))) (sym c.self.view_is)
     (malloc_by kind g.met.B.FitPolicy.tiled old (record new { cost = cost }) c.args.bytes answer (record {
       choice = malloc_choice_kept kind old new cost c.args.bytes answer c.malloc_inner-result.ensures.choice;
-      cost = cost_is _ _ _ _ _ rose c.count-before.ensures c.count.ensures ∙ malloc_cost_kept (state_of kind old) (state_of kind new) cost c.args.bytes answer;
+      cost = cost_is _ _ _ _ _ rose c.count-before.ensures c.count.ensures ∙ malloc_cost_kept (tag_state_of kind old) (tag_state_of kind new) cost c.args.bytes answer;
     }))
