@@ -151,7 +151,7 @@ const CLAIM = {
   admit: ["After yes the task's mallocs reply ok or live while its quota is no smaller and its live objects, the new one included, are within what it had declared", 'an_admitted_task_is_served'],
   parts: ['all spines and parts would need more pages than there are', 'LargeHeap::malloc'],
   long: ['A malloc or free of a long object takes at most the steps of one malloc or free for each part and for the spine, and of an access of four bytes for each part.', 'LargeHeap'],
-  counted: ['A step is an access to one table entry or one word.', ''],
+  counted: ['A step is an access to one table entry or word, or a change of two.', ''],
   classes: ['a class with n live objects, m to a page, has at most ⌊n/m⌋ + k pages; k, 1 to 64, may be partly full.', ''],
 };
 
