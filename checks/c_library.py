@@ -24,7 +24,7 @@ LOAN = {'place', 'lend', 'return'}
 # The exports of a library with pages.
 PAGED = {'class_of', 'pages_needed', 'set_bound'}
 # Structs of other crates: the file that has them, their name there.
-ELSEWHERE = {'NphNeed': (Path('crates/quota_model/src/answers.rt'), 'Need')}
+ELSEWHERE = {'NphNeed': (Path('crates/quota_model/src/results.rt'), 'Need')}
 # Parameters with another name in C: `class` is a word of C++.
 IN_C = {'out': 'bytes', 'class': 'size_class'}
 

@@ -325,7 +325,7 @@ def check_recordings():
 # The condition before a claim that begins within a sentence: the page shows such a claim only where that holds.
 CONDITIONS = {
     "classes": "In MovingHeap and NonMovingHeap ", "partly": "With pages (PagedHeap: MovingHeap, NonMovingHeap), ",
-    "blocks": "With blocks (TagHeap: TLSF, Half-Fit), ", "pending": "in mode slice too, where ",
+    "blocks": "With blocks (TagHeap: TLSF, Half-Fit), ", "pending": "There ",
 }
 
 

@@ -508,28 +508,29 @@ HEAD = """`checks/worst_case --write` writes this page, and `checks/worst_case` 
 
 # The most steps, instructions and stack of each call from C
 
-[SPEED](SPEED.md#the-most-instructions-of-a-call-from-c) shows how to compute time from these bounds. The steps are proved. The instructions and the stack are computed from the machine code, without those of `memcpy`, `memmove`, `memset` and the allocator. Calls of a library with equal entries share a row; for those with no entry under "steps" no step bound is proved. Of bounds with "or" between them the greatest holds.
+[SPEED](SPEED.md#the-most-instructions-of-a-call-from-c) shows how to compute time from these bounds. The steps are proved. The instructions and the stack are computed from the machine code, without those of `memcpy`, `memmove`, `memset` and the allocator. Calls of a library with equal entries share a row; for those with no entry under "steps" no step bound is proved. If a cell has bounds with "or" between them, the greatest holds.
 
 - "Longest": the instructions of the longest call counted on 16 pages of 16 KiB with k = 1 and 4,096 proxies; if the bound has letters, also its value for that call.
 - "Stack": bytes, with return addresses.
 - `cf` is `libnorphuen.a`, `nm` `libnorphuen_nonmoving.a`; `half` is `libnorphuen_half.a`, and so on.
 - A free or resize moves no other object ("alone"), or one ("move"). A resize keeps its slot ("same"), or takes another.
 - With `large` a free is of an object that fits a page ("short"), or of one in parts ("long"). Of two step bounds the first is for objects that fit a page.
-- With `sliced` a free clears a slot ("clear"), or begins to move an object ("move"). A call of `step` ends a job, after which none is pending ("last") or another one moves an object ("next"); for other calls of `step` both bounds hold.
+- With `sliced` a free clears a slot ("clear"), or begins to move an object ("move"). A `step` that ends a job leaves none pending ("last"), or begins one that moves an object ("next"). For other calls of `step` both bounds hold.
 
 | letter | counts |
 |---|---|
 | s | words of the slot or block that is freed; in a resize, of the old slot |
 | t | words of the smaller slot of a resize |
 | m | words of the slot of the object that moves |
-| r | words of the slot after the word in which the new length ends |
+| r | words of the slot after the word with the first byte past the new length |
 | c | those of r that are cleared |
 | w | words that contain one of the bytes read or written |
 | b | blocks of four words that contain the r or w words |
 | f | free blocks |
 | n | needs that the call is passed, or objects of an image |
 | q | words of the quantum |
-| l | parts of a long object, in a read or write those that contain one of the bytes; s then counts the words of all its slots, and w, in instructions, those of one part at most. With `images` chunks of at most 4,096 bytes in which objects are copied; w then counts the words of the longest chunk |
+| l | with `large` the parts of a long object; in a read or write, those that contain one of the bytes. s then counts the words of all its slots; under instructions, w counts only the words in one part, the one with the most of them |
+| l | with `images` chunks of at most 4,096 bytes in which objects are copied; w then counts the words of the longest chunk |
 | P, W, S | pages; words of a page; size classes |
 | Q, p | proxies, with `tasks` those of a task; Q rounded up to a power of two |
 

@@ -41,7 +41,8 @@ fn long_read<H: Manager>(
 }
 
 /// Makes the call of a line on long objects, and returns whether it succeeded: false for a letter that is no call of
-/// this heap. `table` has the handle of each ID, and the bytes that are written or read.
+/// this heap, or if it is closed. `table` has the handle of each ID, which a malloc sets, and the bytes that are written
+/// or read.
 fn apply<H: Manager>(
     heap: &mut LargeHeap<H>,
     line: Line,

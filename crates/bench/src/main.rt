@@ -1,12 +1,12 @@
 //! A program that makes calls on heaps without sessions, so that a profiler can count the instructions of each
-//! call; docs/SPEED.md has the commands. Each kind of call has a function of its own, which is not inlined, so
-//! that a profile shows it.
+//! call; docs/SPEED.md has the commands. The calls that are measured are in functions that are not inlined, so
+//! that a profile shows them.
 //!
 //! Standard input is a script. Each line has 24 bytes: a letter, three numbers of 5, 7 and 7 digits with a
 //! space before each, and a line feed. A number that isn't named below is read and not used.
 //!
 //! The first line opens a heap. Its letter is the kind of heap; its numbers are the pages, the bytes of
-//! a page, and the bound k (for `s` the quantum in words). The heap has 65,536 proxies (for `s` 256).
+//! a page, and the bound k (for `s` the quantum in words; for `l` k is 1). The heap has 65,536 proxies (for `s` 256).
 //!
 //! - `c`, `n`, `t`, `h`: the moving, the non-moving, the TLSF and the Half-Fit manager.
 //! - `l`: long objects over the moving manager.
@@ -17,7 +17,7 @@
 //!
 //! - `m ID BYTES`, `f ID`, `z ID BYTES`: makes, frees, resizes an object.
 //! - `w ID AT BYTES`, `r ID AT BYTES`: writes, reads BYTES bytes, 1,000,000 at most.
-//! - `g 0 COUNT`: the first COUNT commands of the generator with seed 1.
+//! - `g 0 COUNT`: the first COUNT commands of the generator with seed 1; succeeds if one of them does.
 //! - `s`: one call of `step` of the sliced heap, which does a slice of its pending job.
 //! - `d 0 COUNT`: COUNT mallocs, frees and steps of the sliced heap, drawn at random.
 #![tactic(auto)]
@@ -75,9 +75,9 @@ fn on_manager<H: Manager>(
     Some(served)
 }
 
-/// For a profiler, opens the heap that the first line of the script `text` names, and makes the calls of the other
-/// lines.
-/// Returns the number of calls that succeeded, or `None` if the script is bad or memory runs out.
+/// For a profiler, opens the heap that the first line of the script `text` names, and makes the
+/// calls of the other lines. Returns the number of calls that succeeded, or `None` if the script is
+/// bad or memory runs out.
 fn on_heap(rt: &HostRuntime, text: &[u8]) -> Option<u64> {
     let first = Line::read(text.get(..script::LINE)?)?;
     let calls = text.get(script::LINE..)?;

@@ -1,5 +1,6 @@
 //! Makes the calls of a script on a manager: the heaps `c` (moving), `n` (non-moving), `t` (TLSF) and `h`
-//! (Half-Fit). Each call of the manager is in a function that is not inlined, so that a profile shows it.
+//! (Half-Fit). Each call of the manager is in a function that is not inlined, so that a profile shows it, and
+//! resets the meter first.
 ghost use Rattle.std.specs.Prelude.{IsTrue};
 
 use crate::generated;
@@ -54,7 +55,8 @@ fn read_call<H: Manager>(heap: &H, h: Handle, at: u32, out: &mut [u8], meter: &m
 }
 
 /// For a profiler, makes the call of a line, and returns whether it succeeded: false for a letter that is no call of a
-/// manager. `table` has the handle of each ID, and the bytes that are written or read.
+/// manager, or if the heap is closed. `table` has the handle of each ID, which a malloc sets, and the bytes that are
+/// written or read.
 pub(crate) fn apply<H: Manager>(
     heap: &mut H,
     line: Line,

@@ -10,13 +10,13 @@ pub(crate) const LINE: usize = 24;
 /// The number of ids.
 const IDS: usize = 65_536;
 
-/// No object has this number: it marks an id without an object.
+/// No object has this number: it marks an id without a handle.
 pub(crate) const NONE: u32 = 4_294_967_295;
 
 /// The most bytes of a read or a write.
 const MOST: usize = 1_000_000;
 
-/// A line: its letter `op` and its three numbers. The module `main` says what they mean for each letter.
+/// A line: its letter `op` and its three numbers. The head of `main.rt` says what they mean for each letter.
 #[derive(Clone, Copy)]
 pub(crate) struct Line {
     pub(crate) op: u8,
@@ -46,14 +46,15 @@ pub(crate) struct Table {
 }
 
 impl Table {
-    /// Makes a table in which no id has an object; `None` if memory runs out.
+    /// Makes a table in which no id has a handle; `None` if memory runs out.
     pub(crate) fn new(alloc: Global) -> Option<Table> {
         let handles = Vec::from_elem(alloc, NONE, IDS).ok()?;
         let bytes = Vec::from_elem(alloc, 7, MOST).ok()?;
         Some(Table { handles, bytes })
     }
 
-    /// For a profiler, the handle of an id; `NONE` if the id has no object.
+    /// For a profiler, the handle that was last set for an id; `NONE` if none was, or the id is above
+    /// 65,535.
     pub(crate) fn handle(&self, id: u32) -> Handle {
         match self.handles.get(id as usize) {
             Some(number) => Handle(*number),

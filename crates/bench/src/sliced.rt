@@ -1,5 +1,6 @@
 //! Makes the calls of a script on the sliced heap, the heap `s` of a script: `m` (malloc), `f` (free), `s`
-//! (one slice of the pending job), and `d` (a number of these, drawn at random).
+//! (one slice of the pending job), and `d` (a number of these, drawn at random). Each
+//! call of the heap resets the meter first.
 ghost use Rattle.std.specs.Prelude.{IsTrue};
 
 use crate::script::{LINE, Line, NONE, Table};
@@ -13,8 +14,8 @@ use step_ledger::Meter;
 /// The number of ids that drawn calls use.
 const ENTRIES: u32 = 256;
 
-/// The length in bytes of a malloc, by the random number `word`: half are below 256, some take a large part of a
-/// page.
+/// The length in bytes of a drawn malloc, by the random number `word`: half are drawn below 256, and
+/// the longest have 131,070.
 fn length_of(word: u64) -> u32 {
     let size = ((word >> 8) % 65_536) as u32;
     match word % 8 {
@@ -25,7 +26,8 @@ fn length_of(word: u64) -> u32 {
     }
 }
 
-/// For a profiler, makes an object; none if refused.
+/// For a profiler, makes an object of `bytes` bytes in the sliced heap, and returns its handle;
+/// `None` if the heap refuses.
 #[inline(never)]
 fn sliced_malloc(heap: &mut SlicedHeap, bytes: u32, meter: &mut Meter) -> Option<Handle>
     requires { IsTrue heap.old.is_open }
@@ -34,7 +36,7 @@ fn sliced_malloc(heap: &mut SlicedHeap, bytes: u32, meter: &mut Meter) -> Option
     heap.malloc(bytes, meter.steps()).ok()
 }
 
-/// For a profiler, frees an object, and returns whether it succeeded.
+/// For a profiler, frees the object h of the sliced heap, and returns whether that succeeded.
 #[inline(never)]
 fn sliced_free(heap: &mut SlicedHeap, h: Handle, meter: &mut Meter) -> bool
     requires { IsTrue heap.old.is_open }
@@ -43,7 +45,7 @@ fn sliced_free(heap: &mut SlicedHeap, h: Handle, meter: &mut Meter) -> bool
     heap.free(h, meter.steps()).is_ok()
 }
 
-/// For a profiler, does a slice of the pending job, if there is one.
+/// For a profiler, does a slice of the sliced heap's pending job, if there is one.
 #[inline(never)]
 fn sliced_step(heap: &mut SlicedHeap, meter: &mut Meter)
     requires { IsTrue heap.old.is_open }
@@ -53,8 +55,8 @@ fn sliced_step(heap: &mut SlicedHeap, meter: &mut Meter)
 }
 
 /// For a profiler, makes the call that the random number `word` determines. For one of three numbers it is `step`,
-/// which does a slice of the pending job. Else the number selects an entry of the table: if the entry has no object,
-/// the call is a malloc, else a free of its object.
+/// which does a slice of the pending job. Else the number selects an id: if the id has no handle in `table`, the call
+/// is a malloc, else a free of its object. Does nothing if the heap is closed.
 fn drawn(heap: &mut SlicedHeap, word: u64, table: &mut Table, meter: &mut Meter) {
     if !heap.is_open() {
         return;
@@ -73,7 +75,7 @@ fn drawn(heap: &mut SlicedHeap, word: u64, table: &mut Table, meter: &mut Meter)
 }
 
 /// Makes the call of a line on the sliced heap, or for the letter `d` a number of drawn calls. Returns whether it
-/// succeeded: false for a letter that is no call of this heap.
+/// succeeded: for `s` and `d` true; for a letter that is no call of this heap, or if it is closed, false.
 fn apply(heap: &mut SlicedHeap, line: Line, table: &mut Table, meter: &mut Meter) -> bool {
     if !heap.is_open() {
         return false;

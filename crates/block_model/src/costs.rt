@@ -1,12 +1,12 @@
-//! Laws of the most steps, whatever the blocks are, of a carve (finding and splitting a free block)
-//! and of a release (clearing and coalescing a block). The functions do nothing; each contract is a
-//! law.
+//! Laws that bound the steps of a carve (finding and splitting a free block) and of a release
+//! (clearing and coalescing a block), whatever the blocks are. The functions do nothing; each
+//! contract is a law.
 ghost use Rattle.std.specs.Prelude.{ℕ, ◌+◌, ◌≤◌, List, Option, None};
 ghost use Rattle.block_model.specs.Buckets.{FreeLists};
 ghost use Rattle.block_model.specs.Costs.{carve_steps, find_steps, release_steps};
 ghost use Rattle.block_model.specs.Tiling.{Block, size_at};
 
-/// A carve, which is the search for a free block of `need` words and its split, takes at most 23
+/// A carve, which is the search for a free block for `need` words and its split, takes at most 23
 /// steps. A search that finds no block takes at most 2. This holds for every free-list rule
 /// (`rule`), whatever the blocks and words are.
 pub fn a_carve_has_a_bound()
@@ -15,9 +15,9 @@ pub fn a_carve_has_a_bound()
     ensures none { (rule : FreeLists) (count : ℕ) (blocks : List Block) (need : ℕ) → find_steps rule count blocks need None ≤ 2 }
 {}
 
-/// A release of the block at `place` takes at most 37 steps, and one for each word of the block: the
-/// block becomes free, is cleared, and joins its free neighbours. `old` are the blocks before the
-/// release, `new` those after it.
+/// A release of the block at `place` takes at most 37 steps, plus one for each word of the block.
+/// The block becomes free, is cleared, and joins its free neighbours. `old` are the blocks before
+/// the release, `new` those after it.
 pub fn a_release_has_a_bound()
     ensures { (rule : FreeLists) (words : List ℕ) (old : List Block) (place : ℕ) (new : List Block)
         → release_steps rule words old place new ≤ 37 + size_at old place }

@@ -1,14 +1,14 @@
 //! Laws of tilings, which show that the definitions mean what they should. A tiling is a list of
-//! blocks that fill a region without a gap. In the clauses `rule` is the free-list rule, `d` the
-//! need and the owner of a malloc, `place` the address of a block. The functions do nothing; each
-//! contract is a law.
+//! blocks that fill a region without a gap. In the clauses `rule` is the free-list rule, `d` the need
+//! (at least two words) and the owner of a malloc, `place` the address of a block. The functions do
+//! nothing; each contract is a law.
 ghost use Rattle.std.specs.Prelude.{◌≡◌, ◌≢◌, ℕ, ◌⊎◌, ◌+◌, ◌^◌, ◌<◌, ◌≤◌, List, Some, length, slice_index};
 ghost use Rattle.block_model.specs.Buckets.{FreeLists, AreLawful, tlsf, half_fit};
 ghost use Rattle.block_model.specs.ReadWords.{HaveTags, read_blocks, tiling_words};
 ghost use Rattle.block_model.specs.Tiling.{Block, Demand, IsTiling, Carves, IsCarvedTo, LacksBlock, StaysUsed, block_at, one_free_block, released};
 ghost use Rattle.block_model.specs.Words.{AreTilingWords, HaveHeaders};
 
-/// One free block that fills a region of `words` words is a tiling.
+/// One free block that fills a region of `words` words, at least two, is a tiling.
 pub fn one_block_is_a_tiling()
     ensures { (words : ℕ) → 2 ≤ words → IsTiling words (one_free_block words) }
 {}
@@ -28,7 +28,7 @@ pub fn free_keeps_tiling()
 
 /// The block that a malloc leaves at `place` has the words that the demand `d` needs, or one more,
 /// and the owner that `d` names. This holds for every lawful free-list rule (`rule`) with `count`
-/// lists.
+/// lists, and a need and a region of at most 2^23 words.
 pub fn malloc_gives_what_is_needed()
     ensures { (rule : FreeLists) (count words : ℕ) (old new : List Block) (d : Demand) (place : ℕ)
         → AreLawful rule count → words ≤ 2 ^ 23 → 2 ≤ d.need → d.need ≤ 2 ^ 23 → IsTiling words old → Carves rule old d place new
@@ -43,8 +43,9 @@ pub fn other_blocks_stay()
     ensures free { (words : ℕ) (old : List Block) (place : ℕ) → IsTiling words old → StaysUsed old place (released old place) }
 {}
 
-/// The free-list rules of TLSF, with 336 lists, and of Half-Fit, with 24, are lawful (`AreLawful`):
-/// a search finds only blocks that are large enough.
+/// The free-list rules of TLSF, with 336 lists, and of Half-Fit, with 24, are lawful (`AreLawful`)
+/// for 2 to 2^23 words: a larger block is never in an earlier list, and a search finds only blocks
+/// that are large enough.
 pub fn free_lists_are_lawful()
     ensures tlsf { AreLawful tlsf 336 }
     ensures half_fit { AreLawful half_fit 24 }
@@ -64,8 +65,9 @@ pub fn a_tiling_has_words()
         → AreTilingWords content blocks (tiling_words content blocks 0) × (length (tiling_words content blocks 0) ≡ count) }
 {}
 
-/// The words of a region of `count` words determine its blocks (`read_blocks`). The header of each
-/// block and the tag of each used one are enough; word 1 of a free block may be any word.
+/// The words of a region of `count` words, fewer than 2^31, determine its blocks (`read_blocks`).
+/// The header of each block and the tag of each used one are enough; word 1 of a free block may be
+/// any word.
 pub fn the_words_show_the_blocks()
     ensures { (count : ℕ) (blocks : List Block) (words : List ℕ) → count < 2 ^ 31 → IsTiling count blocks
         → HaveHeaders words blocks 0 → HaveTags words blocks → read_blocks count words 0 count ≡ blocks }

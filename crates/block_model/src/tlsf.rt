@@ -1,5 +1,5 @@
-//! The free-list rule of TLSF (2004), with 16 lists for each power of two: which list a block is
-//! in, and which is searched first.
+//! The free-list rule of TLSF (2004), with one list for each size below 16 words and 16 for each
+//! power of two from there on: which list a block is in, and which list is searched first.
 ghost use Rattle.std.specs.Prelude.{◌≡◌, ◌^◌, ◌<◌, ◌≤◌};
 ghost use Rattle.block_model.specs.Buckets.{tlsf_bucket, tlsf_rounded, tlsf_search};
 

@@ -6,9 +6,9 @@ ghost use Rattle.block_model.specs.Tiling.{Carves, LacksBlock, block_need, free_
 ghost use Rattle.block_model.specs.Worked.{free, used};
 
 /// A malloc of 232 bytes takes 31 of 64 words, and 33 are left. One of 248 bytes needs 33 and is
-/// refused: TLSF searches only lists in which every block is large enough, and the list that has the
-/// block of 33 words also has blocks of 32. One of 240 bytes needs 32 and is served; the word that
-/// is left stays with its block.
+/// refused: TLSF searches only lists in which every block is large enough, and the list of the
+/// block of 33 words is also the list for blocks of 32. One of 240 bytes needs 32 and is served;
+/// the word that is left stays with its block.
 pub fn a_search_is_rounded_up()
     ensures needs { (block_need 232 ≡ 31) × (block_need 248 ≡ 33) × (block_need 240 ≡ 32) }
     ensures first { Carves tlsf (one_free_block 64) (record { need = 31; owner = 1 }) 0 (used 0 31 1 ∷ free 31 33 ∷ []) }

@@ -6,7 +6,7 @@ use denote.RawPtr.{coded_ptr}
 use Rattle.std.proofs.Common.{◌≡◌, ℕ, Bool, true, false, refl}
 use Rattle.c_base.specs.Borrow.{with_heap}
 use Rattle.c_base.specs.declared.block.HeapBlock.{HeapBlock}
-use Rattle.c_base.specs.declared.heap.LendableHeap.{LendableHeap}
+use Rattle.c_base.specs.declared.lendable.LendableHeap.{LendableHeap}
 use Rattle.c_base.specs.declared.loan.Loan.{Loan}
 
 pub again : {T S : Type 0} (p : HeapBlock T) (l : Loan T S) (last : ℕ) (h : T) (o n : Bool) (s : o ≡ true) (t : n ≡ false) (u : l.block ≡ l.block)

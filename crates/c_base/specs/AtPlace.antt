@@ -30,8 +30,8 @@ abbrev pub IsOpening : {T : Type 0} → Option SettingFault → (T → Type 0) �
 IsOpening (Some e) fresh last code new = (code ≡ fault_code e) × (new ≡ Closed last)
 IsOpening None fresh last code new = IsOpenedHeap fresh last code new
 
--- An open. The first argument is the first setting out of range, or `None`. `fresh last` holds of a heap that was just opened with these settings and whose
--- handles are larger than `last`. On an open heap the call returns 8 (`OPEN`), on a lent one 9 (`LENT`), and changes nothing.
+-- An open. The first argument is the first setting out of range, or `None`. `fresh last` holds of a heap that was just opened with these settings, where the largest
+-- handle of the heap before was `last`. On an open heap the call returns 8 (`OPEN`), on a lent one 9 (`LENT`), and changes nothing.
 abbrev pub IsOpenBy : {T : Type 0} → Option SettingFault → (ℕ → T → Type 0) → CallerHeap T → ℤ → CallerHeap T → Type 0
 IsOpenBy fault fresh (Closed last) code new = IsOpening fault (fresh last) last code new
 IsOpenBy fault fresh (Opened h) code new = (code ≡ pos 8) × (new ≡ Opened h)

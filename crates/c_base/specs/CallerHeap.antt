@@ -2,13 +2,13 @@
 use Rattle.std.specs.Prelude.{ℕ, ℤ, pos, Bool, true, false, Option, Some, None, Result, Ok, Err}
 use denote.RawPtr.{Ptr}
 
--- The heap of a caller in C: closed, with the largest handle of the heaps before; or open in this state. While it is lent, the words of its region are the caller's, and the pointer is their address.
+-- The heap of a caller in C: closed, with the largest handle of the heap before; or open in this state. While it is lent, the words of its region are the caller's, and the pointer is their address.
 pub data CallerHeap (T : Type 0) : Type 0 where
   Closed : ℕ → CallerHeap T
   Opened : T → CallerHeap T
   Lent : T → Ptr → CallerHeap T
 
--- the heap of a block that has this state, or of a loan of words at this address; if there is neither, `last` is the largest handle of the heaps before
+-- the heap of a block that has this state, or of a loan of words at this address; if there is neither, `last` is the largest handle of the heap before
 abbrev pub heap_of : {T : Type 0} → Option T → Option T → Ptr → ℕ → CallerHeap T
 heap_of (Some h) lent words last = Opened h
 heap_of None (Some h) words last = Lent h words
@@ -26,7 +26,7 @@ lent_now (Closed last) = false
 lent_now (Opened h) = false
 lent_now (Lent h w) = true
 
--- the largest handle of the heaps before, if the heap is closed; else the code of an open: 8 (`OPEN`) or 9 (`LENT`)
+-- the largest handle of the heap before, if the heap is closed; else the code of an open: 8 (`OPEN`) or 9 (`LENT`)
 abbrev pub closed_now : {T : Type 0} → CallerHeap T → Result ℕ ℤ
 closed_now (Closed last) = Ok last
 closed_now (Opened h) = Err (pos 8)
@@ -44,7 +44,7 @@ refusal_code (Closed last) = pos 7
 refusal_code (Opened h) = pos 7
 refusal_code (Lent h w) = pos 9
 
--- the heap after it is closed, where `last_of` is the largest handle that a number has: the handles of the next one will be larger
+-- the heap after it is closed, where `last_of` is its largest handle; the handles of the next heap depend on that one (`base_of`)
 abbrev pub closed_with : {T : Type 0} → (T → ℕ) → CallerHeap T → CallerHeap T
 closed_with last_of (Closed last) = Closed last
 closed_with last_of (Opened h) = Closed (last_of h)

@@ -1,14 +1,14 @@
 -- The codes that a call returns to C, by the result of the manager's call. `codes.rt` gives each number a name.
 use Rattle.std.specs.Prelude.{ℤ, pos, Result, Ok, Err}
-use Rattle.cf_base.specs.declared.answers.Handle.{Handle}
-use Rattle.cf_base.specs.declared.answers.NotLive.{NotLive}
-use Rattle.cf_base.specs.declared.answers.Refusal.{Refusal}
-use Rattle.cf_base.specs.declared.answers.Refusal.TheVariants as refusal
-use Rattle.cf_base.specs.declared.answers.AccessFault.{AccessFault}
-use Rattle.cf_base.specs.declared.answers.AccessFault.TheVariants as access
-use Rattle.cf_base.specs.declared.answers.Resized.{Resized}
-use Rattle.cf_base.specs.declared.answers.ResizeFault.{ResizeFault}
-use Rattle.cf_base.specs.declared.answers.ResizeFault.TheVariants as resize
+use Rattle.cf_base.specs.declared.results.Handle.{Handle}
+use Rattle.cf_base.specs.declared.results.NotLive.{NotLive}
+use Rattle.cf_base.specs.declared.results.Refusal.{Refusal}
+use Rattle.cf_base.specs.declared.results.Refusal.TheVariants as refusal
+use Rattle.cf_base.specs.declared.results.AccessFault.{AccessFault}
+use Rattle.cf_base.specs.declared.results.AccessFault.TheVariants as access
+use Rattle.cf_base.specs.declared.results.Resized.{Resized}
+use Rattle.cf_base.specs.declared.results.ResizeFault.{ResizeFault}
+use Rattle.cf_base.specs.declared.results.ResizeFault.TheVariants as resize
 use Rattle.cf_base.specs.declared.settings.SettingFault.{SettingFault}
 use Rattle.cf_base.specs.declared.settings.SettingFault.TheVariants.{Pages, PageBytes, Bound, Proxies, Region}
 
@@ -38,7 +38,7 @@ resize_code (Err resize.Kind) = pos 6
 resize_code (Err resize.Size) = pos 1
 resize_code (Err resize.Space) = pos 3
 
--- the code of an open that is refused because this setting is out of range
+-- the code of a call that is refused because this setting is out of range
 abbrev pub fault_code : SettingFault → ℤ
 fault_code Pages = pos 11
 fault_code PageBytes = pos 12

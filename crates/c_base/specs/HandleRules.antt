@@ -17,14 +17,14 @@ pub record AreCounted (handles : List ℕ) (mask limit : ℕ) : Type 0 where
   pub mask_is : mask + 1 ≡ length handles
   pub limit_is : limit + 2 * length handles + 1 ≡ 2 ^ 32
 
--- The handles of a heap with this many proxies that was just opened. There are as many as the least power of two that is not below `proxies`, and all are larger than `last`.
+-- The handles of a heap with this many proxies that was just opened. There are as many as the least power of two that is not below `proxies`, and they are larger than `last`, or begin at 0 if too few are larger.
 pub record AreFirstHandles (proxies last : ℕ) (handles : List ℕ) : Type 0 where
   pub count : IsCount (length handles)
   pub enough : proxies ≤ length handles
   pub least : length handles < 2 * proxies
   pub whole : handles ≡ first_handles (length handles) last
 
--- this is a handle of number n among `count`: its low bits are n, the others its generation, which is not the last of 32 bits. So it is not `none`
+-- this is a handle of number n among `count`: its low bits are n, the others its generation, which is not the last of 32 bits. So the handle is not `none`
 pub record IsHandleOf (count n handle : ℕ) : Type 0 where
   pub generation : ℕ
   pub whole : handle ≡ generation * count + n

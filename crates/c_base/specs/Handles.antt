@@ -2,7 +2,7 @@
 -- the others its generation.
 use Rattle.std.specs.Prelude.{ℕ, ◌+◌, ◌-◌, ◌*◌, ◌%◌, ◌^◌, List, Option, Some, None, Result, Ok, Err, cond, length, max, nat_eq, nat_lt, slice_index, slice_set}
 use Rattle.std.specs.List.{fold, range_with_len}
-use Rattle.cf_base.specs.declared.answers.Handle.{Handle}
+use Rattle.cf_base.specs.declared.results.Handle.{Handle}
 
 -- in place of a handle or a number: there is none. It is larger than each of both
 abbrev pub none : ℕ
@@ -34,11 +34,11 @@ abbrev pub moved_handle : List ℕ → Option Handle → ℕ
 moved_handle handles (Some h) = handle_of handles h.0
 moved_handle handles None = none
 
--- the handle of number 0 in a heap of `count` numbers that was just opened: the least multiple of `count` that is larger than `last`, or 0 if the last generation comes before
+-- the handle of number 0 in a heap of `count` numbers that was just opened: the least multiple of `count` that is larger than `last`, or 0 if too few handles are larger
 abbrev pub base_of : ℕ → ℕ → ℕ
 base_of count last = cond (nat_lt (last + 3 * count) (2 ^ 32)) (last - last % count + count) 0
 
--- the handles of a heap of `count` numbers that was just opened, all larger than `last`
+-- the handles of a heap of `count` numbers that was just opened: larger than `last`, or from 0 on if too few are larger
 abbrev pub first_handles : ℕ → ℕ → List ℕ
 first_handles count last = range_with_len (base_of count last) count
 

@@ -4,7 +4,7 @@ use Rattle.std.specs.Int.{IsNextPowerOfTwo}
 use Rattle.cf_base.specs.declared.needed.BytesNeeded.{BytesNeeded}
 use Rattle.cf_base.specs.declared.settings.SettingFault.{SettingFault}
 use Rattle.c_base.specs.Codes.{fault_code}
-use Rattle.c_base.specs.declared.answers.NphNeeded.{NphNeeded}
+use Rattle.c_base.specs.declared.results.NphNeeded.{NphNeeded}
 
 -- the numbers for a caller in C
 abbrev pub shown_bytes : BytesNeeded → NphNeeded

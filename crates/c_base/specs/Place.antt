@@ -4,9 +4,9 @@ use Rattle.std.specs.Prelude.{refl, true, false}
 use Rattle.std.specs.Borrow.{Fml, Lends, MutBor}
 use Rattle.c_base.specs.Borrow.{with_heap}
 use Rattle.c_base.specs.CallerHeap.{CallerHeap, heap_of}
-use Rattle.c_base.specs.declared.heap.LendableHeap.{LendableHeap}
+use Rattle.c_base.specs.declared.lendable.LendableHeap.{LendableHeap}
 use Rattle.c_base.specs.declared.loan.Lendable.{Ghosts}
-use Rattle.c_base.specs.contracts.heap.LendableHeap.{the_row}
+use Rattle.c_base.specs.contracts.lendable.LendableHeap.{the_row}
 
 -- the heap of the struct: closed, open or lent
 abbrev pub caller_heap : {T S : Type 0} → LendableHeap T S → CallerHeap T

@@ -1,14 +1,14 @@
 -- What a caller in C gets of a result: the code that a call returns, and the number or structure that it writes. `before` is what the caller had before the call.
 use Rattle.std.specs.Prelude.{ℕ, ℤ, pos, List, Option, Some, None, Result, Ok, Err}
-use Rattle.cf_base.specs.declared.answers.Figures.{Figures}
-use Rattle.cf_base.specs.declared.answers.Freed.{Freed}
-use Rattle.cf_base.specs.declared.answers.Handle.{Handle}
-use Rattle.cf_base.specs.declared.answers.NotLive.{NotLive}
-use Rattle.cf_base.specs.declared.answers.Totals.{Totals}
+use Rattle.cf_base.specs.declared.results.Figures.{Figures}
+use Rattle.cf_base.specs.declared.results.Freed.{Freed}
+use Rattle.cf_base.specs.declared.results.Handle.{Handle}
+use Rattle.cf_base.specs.declared.results.NotLive.{NotLive}
+use Rattle.cf_base.specs.declared.results.Totals.{Totals}
 use Rattle.c_base.specs.Handles.{handle_of, moved_handle}
-use Rattle.c_base.specs.declared.answers.NphClass.{NphClass}
-use Rattle.c_base.specs.declared.answers.NphFreed.{NphFreed}
-use Rattle.c_base.specs.declared.answers.NphHeapTotals.{NphHeapTotals}
+use Rattle.c_base.specs.declared.results.NphClass.{NphClass}
+use Rattle.c_base.specs.declared.results.NphFreed.{NphFreed}
+use Rattle.c_base.specs.declared.results.NphHeapTotals.{NphHeapTotals}
 
 -- the caller's number after a malloc: the new handle, or after a refusal the number before the call
 abbrev pub malloc_number : {E : Type 0} → List ℕ → ℕ → Result Handle E → ℕ

@@ -1,4 +1,4 @@
-//! `HeapBlock`: the address of the block of an open heap, as C has it, and the heap in that block.
+//! `HeapBlock`: owns the memory block of an open heap by the block's address, which C holds.
 ghost use Rattle.std.specs.Prelude.{◌≡◌, Option, Some, None, IsSome};
 ghost use Rattle.std.specs.Borrow.{sem};
 ghost use Rattle.c_base.specs.HeapBlock.{place_owns};
@@ -7,8 +7,9 @@ use crate::unboxed::Unboxed;
 use std::alloc::Global;
 use std::marker::Model;
 
-/// The address of the block of an open heap, a `T`, which the `HeapBlock` owns; or an address at which it owns nothing, null
-/// at first. `held` is the state of the heap, `None` if it owns nothing.
+/// Owns the memory block at the address `at`, with an open heap of type `T`; or owns nothing, and
+/// then `at` is any address, null at first. `held` is the state of the heap, `None` if there is
+/// none.
 #[repr(C)]
 #[derive(Drop)]
 pub struct HeapBlock<T> {
@@ -23,7 +24,7 @@ impl<T> Model for HeapBlock<T> {
 impl<T> HeapBlock<T> {
     ghost use Rattle.c_base.specs.Borrow.{LendsPlace};
 
-    /// Returns the `HeapBlock` with the null pointer, for a closed heap.
+    /// Returns a `HeapBlock` that owns nothing, with the null pointer as its address.
     pub fn nowhere() -> HeapBlock<T>
         ensures { result.held ≡ None }
     {

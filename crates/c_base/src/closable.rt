@@ -1,38 +1,41 @@
-//! `ClosableHeap`: what a caller in C has for its heap, open or closed, for each type of heap that lends nothing.
+//! `ClosableHeap`: the struct in a C caller's memory for a heap, open or closed, that never lends
+//! its words. `Openable`: a type of open heap that a `ClosableHeap` can open and close.
 ghost use Rattle.std.specs.Prelude.{◌≡◌, IfSome, is_some};
 ghost use Rattle.std.specs.Borrow.{sem};
 ghost use Rattle.cf_base.specs.Settings.{profile_from, profile_of, setting_fault};
 ghost use Rattle.c_base.specs.Opening.{Opening};
 
-use crate::answers::NphNeeded;
 use crate::block::HeapBlock;
 use crate::codes::{DONE, MEMORY, OPEN, of_setting};
+use crate::results::NphNeeded;
 use cf_base::{BytesNeeded, Settings};
 use std::alloc::Global;
 use std::rt::Memory;
 
-/// A type of open heaps, each in a block of its own.
+/// A type of open heap that a `ClosableHeap` can open and close.
 pub trait Openable: Sized {
-    /// What is true of a heap that was just opened, and what it needs; and the largest handle.
+    /// The bounds k that an open takes, the memory that it needs, what is true of a heap just
+    /// opened, and the largest handle of a heap.
     ghost opening: { Opening Self };
 
-    /// The memory that `Openable::open` asks for.
+    /// The memory that `Openable::open` with these settings asks for.
     fn bytes_needed(s: &Settings) -> BytesNeeded
         ensures { opening.needs (profile_of s.now) result };
 
-    /// `Openable`: opens a heap whose handles are larger than `last`. Returns `None` if out of memory.
+    /// `Openable`: opens a heap with these settings. Its handles, if it has any, are larger than
+    /// `last`, or from 0 on if too few are larger. Returns `None` if out of memory.
     fn open(memory: Memory, s: &Settings, last: u32) -> Option<Box<Self, Global>>
         requires { opening.takes s.now.k }
         ensures { IfSome result (λ b. opening.is_fresh (profile_of s.now) last b.value) };
 
-    /// `Openable`: the largest handle that a number has; 0 if objects have no handles.
+    /// `Openable`: the largest of the heap's handles; 0 if its objects have no handles.
     fn last(&self) -> u32
         ensures { result ≡ opening.last self.now };
 }
 
-/// A heap in memory of a caller in C, closed or open. `shown` says that the flag is true if and only if the `HeapBlock` has a
-/// heap. `last` is the largest handle of the heaps that it had. Call `close` before it is dropped: a drop does not free the
-/// memory of a heap.
+/// The struct in a C caller's memory for a heap, closed or open. `shown` says that `is_open` is
+/// true if and only if `place` has a heap. `last` is the largest handle of the heap that was closed
+/// last here, 0 at first. Call `close` before a drop: a drop does not free the memory of a heap.
 #[repr(C)]
 #[derive(Drop)]
 pub struct ClosableHeap<T> {
@@ -70,7 +73,7 @@ impl<T: Drop> ClosableHeap<T> {
     ghost use Rattle.c_base.specs.CallerHeap.{Opened, closed_now};
     ghost use Rattle.c_base.specs.ClosablePlace.{caller_heap};
 
-    /// Opens a `ClosableHeap` that is closed: it is this one.
+    /// Puts the open heap `heap` into this closed `ClosableHeap`, which is open then.
     pub fn put(&mut self, heap: Box<T, Global>)
         requires { IsOk (closed_now (caller_heap self.old)) }
         ensures { caller_heap self.new ≡ Opened heap.value }
@@ -86,8 +89,9 @@ impl<T: Openable + Drop> ClosableHeap<T> {
     ghost use Rattle.c_base.specs.ClosablePlace.{caller_heap};
     ghost use Rattle.c_base.specs.Needed.{AreNeeded};
 
-    /// Writes into `needed` what `ClosableHeap::open` with these settings asks for. Returns `DONE`, or the code of the
-    /// first setting out of range, and then `needed` is unchanged.
+    /// Writes into `needed` the memory that `ClosableHeap::open` with these settings asks for.
+    /// Returns `DONE`, or the code of the first setting out of range, and then `needed` is
+    /// unchanged.
     pub fn bytes_needed(
         pages: u32,
         page_bytes: u32,
@@ -132,7 +136,8 @@ impl<T: Openable + Drop> ClosableHeap<T> {
         }
     }
 
-    /// Closes this `ClosableHeap` and frees its memory; does nothing if it is closed.
+    /// Closes this `ClosableHeap`, frees its memory, and keeps its largest handle for the next
+    /// open; does nothing if it is closed.
     pub fn close(&mut self, memory: Memory)
         ensures { caller_heap self.new ≡ closed_with T.opening.last (caller_heap self.old) }
     {

@@ -10,8 +10,9 @@ use cf_base::{BytesNeeded, Handle, numbers_from};
 use std::alloc::Global;
 use std::marker::Model;
 
-/// For each number the handle that names it now. The low bits of a handle, those of `mask`, are its number, and each number
-/// that they can be is in the list. A handle above `limit` is of the last generation.
+/// For each number of an object, the handle that names it now (`of`). The low bits of a handle,
+/// those of `mask`, are its number, and each number of so many bits has a handle. A handle above
+/// `limit` is of the last generation.
 #[derive(Drop)]
 pub struct Handles {
     of: Vec<u32>,
@@ -33,8 +34,8 @@ impl Model for Handles {
     ghost invariant = { λ h. AreCounted h.of.items h.mask h.limit };
 }
 
-/// C's handle of number 0 in a heap with `count` numbers: the least multiple of `count` that is larger than `last`; or
-/// 0, if it would be too large.
+/// C's handle of number 0 in a heap just opened with `count` numbers: the least multiple of `count`
+/// that is larger than `last`, the largest handle before; or 0 if too few are larger.
 fn base(count: u32, last: u32) -> u32
     requires some { 1 ≤ count }
     requires few { count < 131072 }
@@ -48,8 +49,9 @@ fn base(count: u32, last: u32) -> u32
 }
 
 impl Handles {
-    /// The handles of a heap with this many proxies that was just opened, all larger than `last`. Returns `None` if
-    /// out of memory.
+    /// The handles of a heap just opened with `proxies` proxies, as many as `proxies` rounded up to
+    /// a power of two. They are larger than `last`, or from 0 on if too few are larger. Returns
+    /// `None` if out of memory.
     pub fn new(alloc: Global, proxies: u32, last: u32) -> Option<Handles>
         requires some { 1 ≤ proxies }
         requires few { proxies ≤ 65536 }
@@ -65,7 +67,7 @@ impl Handles {
         })
     }
 
-    /// The memory that the handles of C ask for.
+    /// The memory that the handles of a heap with `proxies` proxies need: one block.
     pub fn bytes_needed(proxies: u32) -> BytesNeeded
         requires some { 1 ≤ proxies }
         requires few { proxies ≤ 65536 }
@@ -83,7 +85,7 @@ impl Handles {
         self.mask + 1
     }
 
-    /// The number of C's handle: its low bits.
+    /// Returns the number in C's handle: the low bits of the handle.
     fn number(&self, handle: u32) -> u32
         ensures value { result ≡ handle % length self.now }
         ensures within { result < length self.now }
@@ -98,8 +100,8 @@ impl Handles {
         self.of[self.number(number) as usize]
     }
 
-    /// The number of the object that a handle of C names; `NONE`, which is never live, if it is not the handle that its
-    /// number has now.
+    /// The number that a handle of C names; `NONE`, which no object has, if that number has another
+    /// handle now.
     pub fn number_in(&self, handle: u32) -> u32
         ensures { result ≡ number_in self.now handle }
     {
@@ -122,7 +124,7 @@ impl Handles {
         }
     }
 
-    /// Raises C's handle of an object that was freed.
+    /// After a free of the object that `handle` named: gives its number C's next handle (`next`).
     pub fn raise(&mut self, handle: u32)
         ensures { self.new ≡ raised self.old (handle % length self.old) }
     {
@@ -140,7 +142,7 @@ impl Handles {
         }
     }
 
-    /// C's largest handle.
+    /// Returns the largest of all these handles of C.
     pub fn largest(&self) -> u32
         ensures { result ≡ largest self.now }
     {

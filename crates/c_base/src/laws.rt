@@ -4,16 +4,18 @@ ghost use Rattle.c_base.specs.Frees.{raised_all, times_in};
 ghost use Rattle.c_base.specs.HandleRules.{AreFirstHandles, AreHandles};
 ghost use Rattle.c_base.specs.Handles.{handle_of, largest, none, number_in};
 
-/// C's handle of an object names it. From the first free of its number on, it names nothing until that number was freed
-/// `2 ^ 32 / length handles - 1` times, where `ns` are the numbers that were freed since, in any order.
+/// The handle that C has for a number names that number (`names`). After a free of the number this
+/// handle names nothing, until the number was freed `2 ^ 32 / length handles - 1` times (`freed`).
+/// `ns` are the numbers that were freed since, in any order.
 pub fn a_freed_handle_names_nothing()
     ensures names { (handles : List ℕ) (n : ℕ) → AreHandles handles → n < length handles → number_in handles (handle_of handles n) ≡ n }
     ensures freed { (handles ns : List ℕ) (n : ℕ) → AreHandles handles → n < length handles → 1 ≤ times_in n ns
         → times_in n ns + 1 < 2 ^ 32 / length handles → number_in (raised_all handles ns) (handle_of handles n) ≡ none }
 {}
 
-/// If no handle has reached the last three generations, C's handle of a heap names nothing in the next heap of the same
-/// `nph_heap`, whatever its number of proxies.
+/// A handle that C has when a heap is closed (`old`) names nothing in the next heap just opened in
+/// the same C struct `nph_heap` (`new`), whatever its number of proxies; provided that no handle in
+/// `old` has reached the last three generations of `new`.
 pub fn a_handle_of_an_earlier_heap_names_nothing()
     ensures { (old new : List ℕ) (n proxies : ℕ) → n < length old → AreFirstHandles proxies (largest old) new
         → largest old + 3 * length new < 2 ^ 32 → number_in new (handle_of old n) ≡ none }

@@ -1,20 +1,20 @@
-//! What each library for C needs, whatever its heap: the codes that calls return, the handles that C has, the structures
-//! into which calls write, and a box taken apart, for a heap whose address C has.
+//! What the libraries for C share, whatever their heap: the codes that calls return, the handles
+//! that C has, the structures into which calls write, and how a heap whose address C has is opened,
+//! lent and closed.
 #![tactic(auto)]
 
-mod answers;
 mod block;
 mod closable;
 mod codes;
 mod handles;
-mod heap;
 pub mod laws;
+mod lendable;
 mod loan;
 mod needed;
-mod place;
+mod results;
+mod sealed;
 mod unboxed;
 
-pub use answers::{NphClass, NphCounted, NphFreed, NphHeapTotals, NphNeeded, NphResized};
 pub use block::HeapBlock;
 pub use closable::{ClosableHeap, Openable};
 pub use codes::{
@@ -23,8 +23,9 @@ pub use codes::{
     of_access, of_refusal, of_resize, of_setting,
 };
 pub use handles::Handles;
-pub use heap::LendableHeap;
+pub use lendable::LendableHeap;
 pub use loan::{Lendable, Loan};
 pub use needed::needed_with;
-pub use place::{Nothing, Sealed};
+pub use results::{NphClass, NphCounted, NphFreed, NphHeapTotals, NphNeeded, NphResized};
+pub use sealed::{Nothing, Sealed};
 pub use unboxed::Unboxed;

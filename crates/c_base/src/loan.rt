@@ -1,4 +1,5 @@
-//! `Loan`: the words of an open heap, apart from it, which C may read and write while it has them.
+//! `Loan`: owns the words of a lent heap, apart from the heap, while C may read and write them.
+//! `Lendable`: a type of open heap whose words can be lent.
 ghost use Rattle.std.specs.Prelude.{◌≡◌, [], Option, None, IsSome};
 ghost use Rattle.std.specs.Borrow.{Array, Lends, sem, u64};
 ghost use Rattle.c_base.specs.Lending.{AreOf, AreWords, IsFit, Lending};
@@ -8,18 +9,19 @@ ghost use denote.RawPtr.{Ptr, coded_ptr};
 use crate::block::HeapBlock;
 use std::marker::{Model, PhantomData};
 
-/// A type of open heaps whose words can be lent. S is the type of its fields: in the same memory, but without an invariant,
-/// since a caller in C may write any words.
+/// A type of open heap whose words can be lent. The type `S` has the same fields in the same
+/// memory, but no invariant, since a caller in C may write any words.
 pub trait Lendable<S>: Sized {
-    /// The words of a heap, and which fields are those of a heap.
+    /// The words and the largest handle of a heap, which values of `S` are the fields of which
+    /// heap, and these fields with other words.
     ghost lending: { Lending Self S };
 
-    /// For a loan, returns the same block, as one of the fields.
+    /// For a loan, returns the same block as one of type `S`.
     fn loosened(block: HeapBlock<Self>) -> HeapBlock<S>
         requires { IsSome block.held }
         ensures { AreOf lending result.held block.held };
 
-    /// After a loan, returns the same block, as one of a heap.
+    /// After a loan, returns the same block, its type that of a heap.
     fn tightened(block: HeapBlock<S>) -> HeapBlock<Self>
         requires { IsFit lending block.held }
         ensures { AreOf lending block.held result.held };
@@ -30,19 +32,20 @@ pub trait Lendable<S>: Sized {
         ensures* writes_back { sem 𝓛 (Lends S.row (Array u64 0) parts.entry result (lending.with_words parts.old)) }
         ensures value { result.now ≡ lending.words (lending.state parts.old) };
 
-    /// `Lendable`: the largest handle that a number has.
+    /// `Lendable`: the largest of the heap's handles.
     fn last(&self) -> u32
         ensures { result ≡ lending.last self.now };
 
-    /// A heap with its own words in their place is the same.
+    /// Fields into which the heap's own words are put are unchanged.
     ghost restored: { (a : S) → lending.fits a → AreWords (lending.words (lending.state a)) → lending.with_words a (lending.words (lending.state a)) ≡ a };
 
     /// The fields hold no borrow.
     ghost forever: { S.row.lives ≡ [] };
 }
 
-/// The words of the heap `heap` of a block, apart from it, and what makes the heap whole again; nothing if it is `None`.
-/// `block` is the address of the block, `words` that of the words.
+/// Owns the words of a lent heap, and what makes the heap whole again when the loan ends; nothing
+/// if `heap`, the heap's state, is `None`. `block` is the address of the heap's block, `words` that
+/// of its words.
 #[derive(Drop)]
 pub struct Loan<T: Lendable<S>, S> {
     of: PhantomData<(T, S)>,
@@ -56,7 +59,7 @@ impl<T: Lendable<S>, S> Model for Loan<T, S> {
 }
 
 impl<T: Lendable<S>, S> Loan<T, S> {
-    /// Returns the `Loan` of nothing.
+    /// Returns a `Loan` of nothing.
     pub fn none() -> Loan<T, S>
         ensures { result.heap ≡ None }
     {
@@ -75,7 +78,7 @@ impl<T: Lendable<S>, S> Loan<T, S> {
         split(T::loosened(block))
     }
 
-    /// Ends the loan of the words of the block's heap. Returns the block with the heap, which has the words as they are then.
+    /// Ends this loan: returns the block with its heap again, which has the words as they are then.
     pub fn end(self, block: HeapBlock<T>) -> HeapBlock<T>
         requires some { IsSome self.heap }
         requires address { self.block ≡ block.at }
@@ -85,7 +88,7 @@ impl<T: Lendable<S>, S> Loan<T, S> {
     }
 }
 
-/// `Loan::new` for a block that has the fields of a heap.
+/// `Loan::new` for a block of type `S`, which has the fields of a heap.
 fn split<T: Lendable<S>, S>(block: HeapBlock<S>) -> (HeapBlock<T>, Loan<T, S>, *mut u64)
     requires { IsFit T.lending block.held }
     ensures block { result.0.held ≡ None }
@@ -102,7 +105,7 @@ fn split<T: Lendable<S>, S>(block: HeapBlock<S>) -> (HeapBlock<T>, Loan<T, S>, *
     )
 }
 
-/// `Loan::end`, which returns the fields of the heap.
+/// `Loan::end`, but returns the block as one with the heap's fields.
 fn joined<T: Lendable<S>, S>(loan: Loan<T, S>, block: HeapBlock<T>) -> HeapBlock<S>
     requires some { IsSome loan.heap }
     requires address { loan.block ≡ block.at }

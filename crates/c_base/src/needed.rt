@@ -1,15 +1,15 @@
-//! The memory that `nph_open` asks for, as a caller in C gets it.
+//! The memory that opening a heap asks for, in numbers for C (`NphNeeded`).
 ghost use Rattle.std.specs.Prelude.{◌≡◌, ◌*◌, ◌^◌, ◌<◌, ◌≤◌};
 ghost use Rattle.cf_base.specs.Needed.{both, one_block};
 ghost use Rattle.cf_base.specs.declared.needed.BytesNeeded.{BytesNeeded};
 ghost use Rattle.c_base.specs.Needed.{IsOfHandles, shown_bytes};
 
-use crate::answers::NphNeeded;
 use crate::handles::Handles;
+use crate::results::NphNeeded;
 use cf_base::BytesNeeded;
 
-/// What `nph_open` asks for: what the manager does (`manager`), the handles of this many proxies, and a block of
-/// `held_bytes` bytes for the open heap.
+/// Returns the memory that opening a heap asks for: what its manager asks for (`manager`), a block
+/// for the handles of `proxies` proxies, and a block of `held_bytes` bytes for the open heap.
 pub fn needed_with(manager: BytesNeeded, proxies: u32, held_bytes: u64) -> NphNeeded
     requires some { 1 ≤ proxies }
     requires low { proxies ≤ 65536 }

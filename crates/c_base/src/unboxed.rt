@@ -6,8 +6,7 @@ ghost use Rattle.std_alloc.specs.Box.Ownership.{box_owns};
 use std::alloc::Allocator;
 use std::marker::Model;
 
-/// A value (`value`, known to proofs alone) in a block at the address `at`, which `alloc` allocated and may
-/// free.
+/// A value (`value`, known to proofs alone) in a block at the address `at`, which `alloc` may free.
 pub struct Unboxed<T, A: Allocator> {
     pub alloc: A,
     pub at: *mut T,

@@ -1,4 +1,4 @@
--- Lists in which two runs of n entries change places, one from a on, the other from b on.
+-- Lists in which two ranges of n entries change places, one from a on, the other from b on.
 use Rattle.std.specs.Prelude.{ℕ, Bool, ◌+◌, ◌-◌, List, length, map, slice_index, if◌then◌else◌, nat_le, nat_lt, ◌&&◌}
 use Rattle.std.specs.List.{range_with_len}
 

@@ -23,7 +23,7 @@ impl BytesNeeded {
         }
     }
 
-    /// `BytesNeeded` of these blocks `n` times over.
+    /// `BytesNeeded` of the blocks of `self`, `n` times over.
     pub fn times(self, n: u32) -> BytesNeeded
         requires some { 1 ≤ n }
         requires few { n * self.blocks < 2 ^ 32 }
@@ -37,7 +37,7 @@ impl BytesNeeded {
         }
     }
 
-    /// `BytesNeeded` of the blocks of both.
+    /// `BytesNeeded` of the blocks of `self` and of `other` together.
     pub fn and(self, other: BytesNeeded) -> BytesNeeded
         requires few { self.blocks + other.blocks < 2 ^ 32 }
         requires fits { self.total + other.total < 2 ^ 64 }

@@ -1,10 +1,10 @@
-//! The bytes of a chunk, and lists of numbers.
+//! The most bytes of a chunk (`CHUNK`), and lists of numbers in rising order.
 ghost use Rattle.std.specs.Prelude.{◌≡◌, ◌+◌, ◌^◌, ◌<◌, IfOk};
 ghost use Rattle.std.specs.List.{range_with_len};
 
 use std::alloc::{AllocError, Global};
 
-/// The most bytes of a chunk: of what is taken from a source at once, and of one write or read of a script.
+/// The most bytes that are taken from a source at once, and that one write or read of a script has.
 pub const CHUNK: usize = 4_096;
 
 /// The numbers from 0 to n - 1, in rising order, in one block of 4 n bytes. Fails only if memory runs out.

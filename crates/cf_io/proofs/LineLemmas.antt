@@ -6,7 +6,7 @@ use Rattle.std.specs.Result.{IsOk}
 use Rattle.cf_io.specs.Lines.{Pushes, line_capacity}
 use Rattle.cf_io.specs.declared.line.Full.{Full}
 use Rattle.std.proofs.lemmas.Fmt.{length-decimal-le}
-use Rattle.cf_base.specs.declared.answers.Failed.{Failed}
+use Rattle.cf_base.specs.declared.results.Failed.{Failed}
 use Rattle.cf_io.specs.Feeds.{SinkState, Writes, WritesAll}
 use Rattle.cf_io.proofs.Feeding.{appended_after, fails_after}
 use Rattle.cf_io.specs.Texts.{Reply, led, said}

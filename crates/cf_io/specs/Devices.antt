@@ -1,7 +1,7 @@
 -- What contracts see of a source over a reader of std and of a sink over a writer of std: the reader or writer, the counts, and which bytes a call moved.
 use Rattle.std.specs.Prelude.{ℕ, List, Option, None, Result}
 use Rattle.std.specs.Io.KnownBytes.{Appends, ReadConsumes}
-use Rattle.cf_base.specs.declared.answers.Failed.{Failed}
+use Rattle.cf_base.specs.declared.results.Failed.{Failed}
 use Rattle.cf_io.specs.Feeds.{SinkState, SourceState}
 use Rattle.cf_io.specs.declared.devices.StdSource.{StdSource}
 use Rattle.cf_io.specs.declared.devices.StdSink.{StdSink}

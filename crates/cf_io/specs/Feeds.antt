@@ -1,6 +1,6 @@
--- What contracts say of the bytes and the faults of any source or sink. Its bytes are `None` if it isn't observable.
+-- What contracts say of the bytes, calls and faults of any source or sink. Its bytes are `None` if it isn't observable.
 use Rattle.std.specs.Prelude.{◌≡◌, ◌<◌, ◌≤◌, ◌+◌, ◌⊎◌, ◌++◌, ⊤, ℕ, Bool, true, false, List, [], length, take, min, Option, Some, None, option_map, IfSome, Result, Ok, Err}
-use Rattle.cf_base.specs.declared.answers.Failed.{Failed}
+use Rattle.cf_base.specs.declared.results.Failed.{Failed}
 
 -- the last value of a counter of 64 bits
 abbrev pub last_count : ℕ

@@ -1,5 +1,5 @@
 //! The source over a reader of std, for instance standard input, and the sink over a writer of std,
-//! for instance standard output.
+//! for instance standard output. Their calls are counted as the traits `Source` and `Sink` say.
 ghost use Rattle.std.specs.Prelude.{◌≡◌, ◌<◌, ◌≤◌, false, None, length, take, IfOk, IfSome};
 ghost use Rattle.std.specs.Io.KnownBytes.{Appends};
 ghost use Rattle.cf_io.specs.Devices.{ReadsFrom, WritesTo, reader_of, sink_seen, source_seen, writer_of};
@@ -10,9 +10,10 @@ use crate::source::Source;
 use cf_base::Failed;
 use std::io::{Read, Write};
 
-/// A source that reads from a reader of std. `given` counts the bytes that it returned, `calls` its calls,
-/// and `faults` those that failed; all three saturate. `failed` is whether the last call failed. A call fails
-/// if and only if the reader does. The bytes left are not observable.
+/// A source that reads from a reader of std. `given` counts the bytes that the source returned,
+/// `calls` its calls, and `faults` those that failed; all three saturate. `failed` is whether the
+/// last call failed. A call fails if and only if the reader does. The bytes left are not
+/// observable.
 #[derive(Drop)]
 pub struct StdSource<T> {
     reader: T,
@@ -41,8 +42,8 @@ impl<T> StdSource<T> {
 impl<T: Read> Source for StdSource<T> {
     ghost state = { source_seen };
 
-    /// One read of the reader into `buf`. Returns how many bytes it read, or `Failed` if the reader
-    /// fails.
+    /// `StdSource`: reads once from the reader into `buf`. Returns how many bytes it read, or
+    /// `Failed` if the reader fails.
     fn take(&mut self, buf: &mut [u8]) -> Result<usize, Failed>
         ensures bytes { ReadsFrom T.remaining self.old result self.new buf.new }
         ensures takes { Takes (source_seen self.old) result buf.new (source_seen self.new) }
@@ -87,8 +88,8 @@ impl<T> StdSink<T> {
     }
 }
 
-/// Makes one write of the bytes, then flushes. Returns how many bytes the writer took; `None` if the
-/// write or the flush fails, or if there are bytes and the writer takes none.
+/// For `StdSink`, makes one write of the bytes, then flushes. Returns how many bytes the writer
+/// took; `None` if the write or the flush fails, or if there are bytes and the writer takes none.
 fn write_and_flush<T: Write>(writer: &mut T, bytes: &[u8]) -> Option<usize>
     ensures within { IfSome result (λ n. n ≤ length bytes.now) }
     ensures some { 0 < length bytes.now → IfSome result (λ n. 0 < n) }
@@ -106,8 +107,8 @@ fn write_and_flush<T: Write>(writer: &mut T, bytes: &[u8]) -> Option<usize>
 impl<T: Write> Sink for StdSink<T> {
     ghost state = { sink_seen };
 
-    /// One write of the bytes and a flush (`write_and_flush`). Returns how many bytes the writer
-    /// took, or `Failed`.
+    /// `StdSink`: writes the bytes once, then flushes. Returns how many bytes the writer took.
+    /// Fails if the write or the flush fails, or if there are bytes and the writer takes none.
     fn put(&mut self, bytes: &[u8]) -> Result<usize, Failed>
         ensures bytes { IfOk result (λ n. WritesTo T.contents self.old (take n bytes.now) self.new) }
         ensures puts { PutsSome (sink_seen self.old) bytes.now result (sink_seen self.new) }

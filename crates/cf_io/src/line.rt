@@ -19,7 +19,8 @@ pub struct Full;
 /// allocates.
 #[derive(Drop)]
 pub struct Line {
-    /// Always full, so that hex digits are written in their place: the line is its first `len` bytes.
+    /// Always has 9,000 bytes, so that hex digits are written in place. The line is its first `len`
+    /// bytes.
     buffer: ArrayVec<u8, LINE_CAPACITY>,
     len: usize,
 }
@@ -46,7 +47,7 @@ impl Line {
         }
     }
 
-    /// The bytes of the reply's line.
+    /// The bytes of the reply's line, at most 9,000.
     pub fn bytes(&self) -> &[u8]
         ensures value { result.now ≡ self.now }
         ensures fits { length self.now ≤ line_capacity }
@@ -54,7 +55,8 @@ impl Line {
         &self.buffer.as_slice()[..self.len]
     }
 
-    /// Appends the bytes to the reply's line. Fails with `Full` if and only if the line would pass 9,000 bytes.
+    /// Appends the bytes to the reply's line. Fails with `Full`, and leaves the line unchanged, if
+    /// and only if it would pass 9,000 bytes.
     pub fn push(&mut self, bytes: &[u8]) -> Result<(), Full>
         ensures { Pushes self.old bytes.now result self.new }
     {
@@ -68,8 +70,8 @@ impl Line {
         Ok(())
     }
 
-    /// `Line`: appends the number `n` in decimal. Fails with `Full` if and only if the line would pass 9,000
-    /// bytes.
+    /// `Line`: appends the number `n` in decimal. Fails with `Full`, and leaves the line unchanged,
+    /// if and only if it would pass 9,000 bytes.
     pub fn push_number(&mut self, n: u64) -> Result<(), Full>
         ensures { Pushes self.old (decimal n) result self.new }
     {
@@ -77,8 +79,8 @@ impl Line {
         self.push(digits.format(n).as_bytes())
     }
 
-    /// Appends the bytes in hex, two lower-case digits each. Fails with `Full` if and only if the line
-    /// would pass 9,000 bytes.
+    /// Appends the bytes in hex, two lower-case digits each. Fails with `Full`, and leaves the line
+    /// unchanged, if and only if it would pass 9,000 bytes.
     // Not inlined: in a function of its own, the loop of `encode_to_slice` keeps its values in registers.
     #[inline(never)]
     #[tactic(auto, using(crate::proofs::CallerLemmas::length_in_hex))]
@@ -95,8 +97,9 @@ impl Line {
         Ok(())
     }
 
-    /// `Line`: appends the word `v` of eight bytes in hex, as 16 lower-case digits, the most significant
-    /// first. Fails with `Full` if and only if the line would pass 9,000 bytes.
+    /// `Line`: appends the word `v` of eight bytes in hex, as 16 lower-case digits, the most
+    /// significant first. Fails with `Full`, and leaves the line unchanged, if and only if it would
+    /// pass 9,000 bytes.
     pub fn push_word(&mut self, v: u64) -> Result<(), Full>
         ensures { Pushes self.old (word_text v) result self.new }
     {

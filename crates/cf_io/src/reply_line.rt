@@ -1,4 +1,6 @@
-//! Builds one line of a reply in a buffer, from its lead, texts and numbers, and then writes it as a whole.
+//! Builds one line of a reply in a buffer, from its lead, texts and numbers, and then writes it as
+//! a whole. The lead is the text that mode `compare` puts before each line: the name of a manager's
+//! kind, and a space.
 ghost use Rattle.std.specs.Prelude.{◌≡◌, ◌+◌, ◌<◌, ◌≤◌, ◌++◌, ◌∷◌, [], length};
 ghost use Rattle.cf_io.specs.Feeds.{Writes};
 ghost use Rattle.cf_io.specs.Lines.{line_capacity};
@@ -9,10 +11,10 @@ use crate::sink::Sink;
 use crate::writing::put_all;
 use cf_base::Failed;
 
-/// The most bytes of a line's lead, which mode `compare` puts before each line.
+/// The most bytes of a line's lead, the text that mode `compare` puts before each line.
 pub const MOST_LEAD: usize = 8;
 
-/// Empties the reply's line, then appends its lead.
+/// Empties the line of a reply, then appends its lead, which has at most 8 bytes and may be empty.
 pub fn begin_line(line: &mut Line, lead: &[u8])
     requires { length lead.now ≤ 8 }
     ensures { line.new ≡ lead.now }
@@ -21,7 +23,7 @@ pub fn begin_line(line: &mut Line, lead: &[u8])
     line.push(lead).unwrap();
 }
 
-/// To a reply's line, appends a text. The line must have room for it.
+/// Appends a text to the line of a reply, which must have room for it.
 pub fn push_text(line: &mut Line, text: &[u8])
     requires { length line.old + length text.now ≤ line_capacity }
     ensures { line.new ≡ line.old ++ text.now }
@@ -29,8 +31,8 @@ pub fn push_text(line: &mut Line, text: &[u8])
     line.push(text).unwrap();
 }
 
-/// To a reply's line, appends a text and the number `n` in decimal. The line must have room for the text and 20 digits,
-/// the most that a number has.
+/// Appends a text and the number `n` in decimal to the line of a reply. The line must have room for
+/// the text and 20 digits, the most that a number has.
 pub fn push_field(line: &mut Line, text: &[u8], n: u64)
     requires { length line.old + (length text.now + 20) ≤ line_capacity }
     ensures text { line.new ≡ line.old ++ with_number text.now n }

@@ -41,15 +41,15 @@ impl Schedule {
         }
     }
 
-    /// By the schedule, whether the next call is one of those that fail.
+    /// Whether the next call of the source or sink is one that fails by the schedule.
     pub fn is_due(&self) -> bool
         ensures { result ≡ is_due self.now }
     {
         self.fails.contains(&self.call)
     }
 
-    /// By the schedule, how many bytes the next call moves if n could be moved: at most its entry in `cuts`, where 0
-    /// counts as 1. Without an entry it moves all n.
+    /// How many bytes the next call of the source or sink moves by the schedule, if n could be
+    /// moved: at most its entry in `cuts`, where 0 counts as 1; without an entry all n.
     pub fn count_moved(&self, n: usize) -> usize
         ensures { result ≡ count_moved self.now n }
     {
@@ -59,7 +59,7 @@ impl Schedule {
         }
     }
 
-    /// In the schedule, counts a call that failed.
+    /// Counts, in the schedule, a call of the source or sink that failed.
     pub fn go_wrong(&mut self)
         ensures grows { self.old.faults ≤ self.new.faults }
         ensures value { self.new ≡ gone_wrong self.old }
@@ -69,7 +69,7 @@ impl Schedule {
         self.failed = true;
     }
 
-    /// In the schedule, counts a call that did not fail.
+    /// Counts, in the schedule, a call of the source or sink that did not fail.
     pub fn go_well(&mut self)
         ensures { self.new ≡ gone_well self.old }
     {

@@ -1,5 +1,5 @@
-//! The sinks that are not over a writer of std: `MemSink` keeps the bytes in memory and fails by a schedule,
-//! and `NullSink` drops them.
+//! The sinks that are not over a writer of std: `MemSink` keeps the bytes in memory and fails by a
+//! schedule, and `NullSink` drops them. Failed calls are counted as the trait `Sink` says.
 ghost use Rattle.std.specs.Prelude.{◌≡◌, ◌≤◌, false, None, Ok, Some, length, IfOk};
 ghost use Rattle.std.specs.Result.{result_ok};
 ghost use Rattle.cf_io.specs.Sinks.{mem_sink, put_after, put_answer};
@@ -28,10 +28,11 @@ impl Sink for NullSink {
 /// A sink that keeps the bytes in memory while it has room for them, and fails by a schedule.
 /// `room` is how many more bytes fit.
 ///
-/// Its calls are numbered from 0; the number, and the count of the calls that failed, saturate at `2^64 - 1`.
-/// `fails` and `cuts`, the arguments of `new`, are the schedule. Call j fails if and only if j is in `fails`,
-/// or it has bytes to write and no room is left. Else it writes the bytes that it has room for, at most
-/// `max(1, cuts[j])` of them if j is below the length of `cuts`.
+/// Calls are numbered from 0; the number, and the count of the calls that failed, saturate at the
+/// last value of a u64. `fails` and `cuts`, the arguments of `new`, are the schedule. Call j fails
+/// if and only if j is in `fails`, or there are bytes to write and no room is left. Else it writes
+/// the bytes that there is room for, at most `max(1, cuts[j])` of them if j is below the length of
+/// `cuts`.
 #[derive(Drop)]
 pub struct MemSink {
     bytes: Vec<u8>,

@@ -10,9 +10,10 @@ pub trait Source {
     /// fall, and saturate at the last value of a u64.
     ghost state: { Self → SourceState };
 
-    /// `Source`: reads bytes into the start of `buf` and returns how many. If `buf` isn't empty, 0 means the end of the
-    /// input. A call that fails leaves `rest` and `given` unchanged and adds one to `faults`, which saturates. A call
-    /// that does not fail leaves `faults` unchanged.
+    /// `Source`: reads bytes into the start of `buf` and returns how many. If `buf` isn't empty, 0
+    /// means the end of the input. Each call adds one to the count of calls. One that fails reads
+    /// nothing, and adds one to the count of those that failed; any other adds the bytes read to
+    /// the count of those returned.
     fn take(&mut self, buf: &mut [u8]) -> Result<usize, Failed>
         ensures { Takes (state self.old) result buf.new (state self.new) };
 }

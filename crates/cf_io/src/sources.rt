@@ -1,5 +1,5 @@
-//! The sources in memory: `SureSource` never fails, `MemSource` fails by a schedule, and `LoopSource` never
-//! ends.
+//! The sources in memory: `SureSource` never fails, `MemSource` fails by a schedule, and
+//! `LoopSource` never ends. Their calls are counted as the trait `Source` says.
 ghost use Rattle.std.specs.Prelude.{◌≡◌, ◌<◌, ◌≤◌, ◌+◌, ◌%◌, ◌++◌, false, Some, None, length, take, drop, IfOk};
 ghost use Rattle.std.specs.Result.{result_ok};
 ghost use Rattle.cf_io.specs.Sources.{RepeatsPattern, filled, loop_after, loop_source};
@@ -11,8 +11,8 @@ use crate::source::Source;
 use cf_base::Failed;
 use std::marker::Model;
 
-/// A source in memory that never fails. The bytes from index `at` on are left; they are observable. `given`
-/// counts the bytes that it returned, and `calls` its calls; both saturate.
+/// A source in memory that never fails. The bytes from index `at` on are left; they are observable.
+/// `given` counts the bytes that the source returned, and `calls` its calls; both saturate.
 #[derive(Drop)]
 pub struct SureSource {
     bytes: Vec<u8>,
@@ -66,12 +66,13 @@ impl Source for SureSource {
     }
 }
 
-/// A source in memory that fails by a schedule. Its bytes left are observable.
+/// A source in memory that fails by a schedule. The bytes from index `at` on are left; they are
+/// observable. `given` counts the bytes that the source returned, and saturates.
 ///
-/// Its calls are numbered from 0; the number, and the count of the calls that failed, saturate at `2^64 - 1`.
-/// `fails` and `cuts`, the arguments of `new`, are the schedule. Call j fails if and only if j is in `fails`.
-/// Else it returns the bytes left that fit the buffer, at most `max(1, cuts[j])` of them if j is below the
-/// length of `cuts`.
+/// Calls are numbered from 0; the number, and the count of the calls that failed, saturate at the
+/// last value of a u64. `fails` and `cuts`, the arguments of `new`, are the schedule. Call j fails
+/// if and only if j is in `fails`. Else it returns the bytes left that fit the buffer, at most
+/// `max(1, cuts[j])` of them if j is below the length of `cuts`.
 #[derive(Drop)]
 pub struct MemSource {
     bytes: Vec<u8>,
@@ -115,8 +116,9 @@ impl Source for MemSource {
       last_failed = s.schedule.failed;
     } };
 
-    /// `MemSource`: fails if the schedule lists this call; `buf` stays then. Else copies the first bytes left to the
-    /// start of `buf`, as far as the buffer and the schedule allow, and returns how many it copied.
+    /// `MemSource`: fails if the schedule lists this call, and then leaves `buf` unchanged. Else
+    /// copies the first bytes left to the start of `buf`, as many as the buffer and the schedule
+    /// allow, and returns how many.
     fn take(&mut self, buf: &mut [u8]) -> Result<usize, Failed>
         ensures grows { self.old.schedule.faults ≤ self.new.schedule.faults }
         ensures answer { result_ok result ≡ mem_answer self.old (length buf.old) }
@@ -138,10 +140,10 @@ impl Source for MemSource {
     }
 }
 
-/// A source that fills each buffer with its pattern, over and over, and never fails. Each call continues the
-/// pattern where the call before ended: `at` is the index of the pattern's byte that is next. `given` counts
-/// the bytes that it returned, and `calls` its calls; both saturate. Its input never ends, so no list holds
-/// its bytes left, and they are not observable.
+/// A source that fills each buffer with its pattern, over and over, and never fails. Each call
+/// continues the pattern where the call before ended: `at` is the index of the pattern's byte that
+/// is next. `given` counts the bytes that the source returned, and `calls` its calls; both
+/// saturate. The input never ends, so the bytes left are not observable.
 #[derive(Drop)]
 pub struct LoopSource {
     pattern: Vec<u8>,
@@ -179,7 +181,8 @@ impl LoopSource {
 impl Source for LoopSource {
     ghost state = { λ s. record { rest = None; given = s.given; calls = s.calls; faults = 0; last_failed = false } };
 
-    /// `LoopSource`: fills `buf` with the next bytes of the endless pattern, and returns its length.
+    /// `LoopSource`: fills `buf` with the next bytes of the repeated pattern, and returns the
+    /// length of `buf`.
     fn take(&mut self, buf: &mut [u8]) -> Result<usize, Failed>
         ensures full { result ≡ Ok (length buf.old) }
         ensures source { self.new ≡ loop_after self.old (length buf.old) }
@@ -193,7 +196,7 @@ impl Source for LoopSource {
     }
 }
 
-/// For a source, copies the first n of these bytes to the start of `buf`; the rest of the buffer stays.
+/// For a source, copies the first n of `bytes` to the start of `buf`; the rest of `buf` stays.
 fn copy_first(bytes: &[u8], n: usize, buf: &mut [u8])
     requires some { n ≤ length bytes.now }
     requires room { n ≤ length buf.old }
@@ -202,8 +205,8 @@ fn copy_first(bytes: &[u8], n: usize, buf: &mut [u8])
     buf[..n].copy_from_slice(&bytes[..n]);
 }
 
-/// Fills `buf` with the pattern over and over, beginning with the pattern's byte `at`. Returns the
-/// index in the pattern of the byte that is next.
+/// For `LoopSource`, fills `buf` with the pattern over and over, beginning with the pattern's byte
+/// `at`. Returns the index of the pattern's byte that is next.
 fn fill_over(pattern: &[u8], at: usize, buf: &mut [u8]) -> usize
     requires { at < length pattern.now }
     ensures next { result ≡ (at + length buf.old) % length pattern.now }
@@ -223,8 +226,8 @@ fn fill_over(pattern: &[u8], at: usize, buf: &mut [u8]) -> usize
     next
 }
 
-/// Copies n bytes of the pattern, from its index `from` on, into `buf` from index `to` on. The other bytes of
-/// `buf` stay.
+/// For `LoopSource`, copies n bytes of the pattern, from its index `from` on, into `buf` from index
+/// `to` on. The other bytes of `buf` stay.
 fn copy_part(pattern: &[u8], from: usize, n: usize, buf: &mut [u8], to: usize)
     requires some { from + n ≤ length pattern.now }
     requires room { to + n ≤ length buf.old }

@@ -4,7 +4,7 @@ ghost use Rattle.cf_io.specs.Feeds.{Writes};
 use crate::sink::Sink;
 use cf_base::Failed;
 
-/// Calls `put` with the bytes, then with the bytes left, until the sink has written all. If a call fails, the
+/// Writes all bytes to the sink, in as many calls of `put` as that takes. If a call fails, the
 /// result is `Failed`, and a prefix of the bytes was written.
 pub fn put_all<K: Sink>(sink: &mut K, bytes: &[u8]) -> Result<(), Failed>
     ensures { Writes (K.state sink.old) bytes.now result (K.state sink.new) }

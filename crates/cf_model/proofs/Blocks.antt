@@ -1,10 +1,10 @@
--- For `blocks_of_others_stay`: with a block table, the physical blocks of the other objects stay in a free or a resize, refused or not.
+-- For `calls_keep_the_blocks_of_others`: with a block table, the physical blocks of the other objects stay in a free or a resize, refused or not.
 use Rattle.std.proofs.Common.{◌≡◌, ◌≢◌, ℕ, ◌+◌, ◌*◌, ◌/◌, ◌%◌, ◌<◌, List, Some, length, get_or, arith, sym, ◌∙◌, subst, ap, refl}
 use Rattle.std.proofs.lemmas.Option.{same_Some as some_equal, same_Some as placed_equal}
 use Rattle.std.specs.FinMap.{get}
 use Rattle.cf_base.proofs.Maps.{get_insert_other, get_remove_other}
-use Rattle.cf_base.specs.declared.answers.Freed.{Freed}
-use Rattle.cf_base.specs.declared.answers.Resized.{Resized}
+use Rattle.cf_base.specs.declared.results.Freed.{Freed}
+use Rattle.cf_base.specs.declared.results.Resized.{Resized}
 use Rattle.cf_base.specs.declared.kind.Kind.TheVariants.{NonMoving}
 use Rattle.page_model.specs.Held.{Placed, objects}
 use Rattle.page_model.specs.Paging.{IsPaging, paging_of}

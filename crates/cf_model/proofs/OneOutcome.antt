@@ -5,16 +5,16 @@ use Rattle.std.specs.Prelude.{IfSome, IsSome, is_some, option_map, slice_index}
 use Rattle.std.specs.FinMap.{get, insert}
 use Rattle.cf_base.proofs.Maps.{found_once, get_inserted}
 use Rattle.cf_base.specs.Classes.{need}
-use Rattle.cf_base.specs.declared.answers.AccessFault.{AccessFault}
-use Rattle.cf_base.specs.declared.answers.AccessFault.TheVariants as access
-use Rattle.cf_base.specs.declared.answers.Freed.{Freed}
-use Rattle.cf_base.specs.declared.answers.Handle.{Handle}
-use Rattle.cf_base.specs.declared.answers.NotLive.{NotLive}
-use Rattle.cf_base.specs.declared.answers.Refusal.{Refusal}
-use Rattle.cf_base.specs.declared.answers.Refusal.TheVariants as refusal
-use Rattle.cf_base.specs.declared.answers.Resized.{Resized}
-use Rattle.cf_base.specs.declared.answers.ResizeFault.{ResizeFault}
-use Rattle.cf_base.specs.declared.answers.ResizeFault.TheVariants as resize
+use Rattle.cf_base.specs.declared.results.AccessFault.{AccessFault}
+use Rattle.cf_base.specs.declared.results.AccessFault.TheVariants as access
+use Rattle.cf_base.specs.declared.results.Freed.{Freed}
+use Rattle.cf_base.specs.declared.results.Handle.{Handle}
+use Rattle.cf_base.specs.declared.results.NotLive.{NotLive}
+use Rattle.cf_base.specs.declared.results.Refusal.{Refusal}
+use Rattle.cf_base.specs.declared.results.Refusal.TheVariants as refusal
+use Rattle.cf_base.specs.declared.results.Resized.{Resized}
+use Rattle.cf_base.specs.declared.results.ResizeFault.{ResizeFault}
+use Rattle.cf_base.specs.declared.results.ResizeFault.TheVariants as resize
 use Rattle.cf_base.specs.declared.kind.Kind.{Kind}
 use Rattle.page_model.specs.Bytes.{written}
 use Rattle.page_model.specs.Held.{Held, Placed}

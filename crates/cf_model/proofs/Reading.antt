@@ -8,7 +8,7 @@ use Rattle.std.proofs.lemmas.Option.{same_Some as placed_equal}
 use Rattle.std.specs.FinMap.{get}
 use Rattle.cf_base.proofs.Maps.{get_inserted, get_insert_other, get_removed}
 use Rattle.cf_base.proofs.MapValues.{get-map_values}
-use Rattle.cf_base.specs.declared.answers.Freed.{Freed}
+use Rattle.cf_base.specs.declared.results.Freed.{Freed}
 use Rattle.page_model.specs.Held.{Placed, objects}
 use Rattle.page_model.specs.Bytes.{written}
 use Rattle.cf_model.specs.State.{HeapState}

@@ -1,16 +1,16 @@
--- How many steps each call of a manager takes (`Bounds`).
+-- The steps that a manager may claim for a malloc, free, resize, read, write, `has_room` and `totals` (`Bounds`).
 use Rattle.std.specs.Prelude.{ℕ, ⊤, Option, Some, None, Result}
-use Rattle.cf_base.specs.declared.answers.Handle.{Handle}
-use Rattle.cf_base.specs.declared.answers.Freed.{Freed}
-use Rattle.cf_base.specs.declared.answers.NotLive.{NotLive}
-use Rattle.cf_base.specs.declared.answers.Refusal.{Refusal}
-use Rattle.cf_base.specs.declared.answers.AccessFault.{AccessFault}
-use Rattle.cf_base.specs.declared.answers.Resized.{Resized}
-use Rattle.cf_base.specs.declared.answers.ResizeFault.{ResizeFault}
-use Rattle.cf_base.specs.declared.answers.Totals.{Totals}
+use Rattle.cf_base.specs.declared.results.Handle.{Handle}
+use Rattle.cf_base.specs.declared.results.Freed.{Freed}
+use Rattle.cf_base.specs.declared.results.NotLive.{NotLive}
+use Rattle.cf_base.specs.declared.results.Refusal.{Refusal}
+use Rattle.cf_base.specs.declared.results.AccessFault.{AccessFault}
+use Rattle.cf_base.specs.declared.results.Resized.{Resized}
+use Rattle.cf_base.specs.declared.results.ResizeFault.{ResizeFault}
+use Rattle.cf_base.specs.declared.results.Totals.{Totals}
 use Rattle.cf_model.specs.State.{HeapState}
 
--- For each call its most steps, as a function of its result; `access` is a read or a write, `room` is `has_room`. A resize has its new length in bytes as
+-- For each of these calls its most steps, as a function of its result; `access` is a read or a write, `room` is `has_room`. A resize has its new length in bytes as
 -- another argument; an access has two, the first byte and the count of bytes. The numbers of an access are exact. So are `room_exact`, by the heap, the bytes
 -- asked for and the result, and `totals_exact`, by the heap.
 pub record Bounds : Type 0 where

@@ -1,11 +1,11 @@
--- The bounds that `Manager` sets on the steps of a free, a resize, a read and a write, and the exact steps of its queries, by their results; and relations
--- between the count of steps before and after a call.
+-- The bounds that `Manager` sets on the steps of a free, a resize, a read and a write; the exact steps of `peek`, `length` and `block`; and relations between
+-- the count of steps before and after a call.
 use Rattle.std.specs.Prelude.{◌≡◌, ℕ, ◌+◌, ◌*◌, ◌/◌, ◌%◌, ⊤, Option, Some, None, Result, Ok, Err, if◌then◌else◌, nat_eq, max}
 use Rattle.step_ledger.specs.Counting.{RoseAtMost}
-use Rattle.cf_base.specs.declared.answers.Freed.{Freed}
-use Rattle.cf_base.specs.declared.answers.NotLive.{NotLive}
-use Rattle.cf_base.specs.declared.answers.Resized.{Resized}
-use Rattle.cf_base.specs.declared.answers.ResizeFault.{ResizeFault}
+use Rattle.cf_base.specs.declared.results.Freed.{Freed}
+use Rattle.cf_base.specs.declared.results.NotLive.{NotLive}
+use Rattle.cf_base.specs.declared.results.Resized.{Resized}
+use Rattle.cf_base.specs.declared.results.ResizeFault.{ResizeFault}
 use Rattle.cf_base.specs.declared.kind.Kind.{Kind}
 use Rattle.cf_base.specs.declared.kind.Kind.TheVariants.{Moving, NonMoving, Tlsf, HalfFit}
 use Rattle.page_model.specs.Held.{Placed}

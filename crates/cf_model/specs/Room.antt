@@ -1,7 +1,7 @@
 -- For `has_room` and `length`: what a malloc would return now, and how long an object is.
 use Rattle.std.specs.Prelude.{ℕ, length, Option, Result, Ok, Err, option_map}
 use Rattle.std.specs.FinMap.{get}
-use Rattle.cf_base.specs.declared.answers.Refusal.{Refusal}
+use Rattle.cf_base.specs.declared.results.Refusal.{Refusal}
 use Rattle.page_model.specs.Held.{Placed}
 use Rattle.cf_model.specs.State.{HeapState}
 use Rattle.cf_model.specs.Steps.{IsRefusedBy}

@@ -1,5 +1,5 @@
 -- What contracts see of a manager, as one record (`HeapState`): its settings, its objects, its words, its block table or its blocks, its order, and the cost of
--- the last call.
+-- the last malloc, free or resize.
 use Rattle.std.specs.Prelude.{ℕ, Bool, false, List, [], Option, Some, ◌*◌, refl}
 use Rattle.std.specs.FinMap as map
 use Rattle.std.specs.Coded.{Coded, code_by, coded×, coded_ℕ, coded_list, coded_bool, coded_option}

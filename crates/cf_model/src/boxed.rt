@@ -7,8 +7,8 @@ use cf_base::{
 };
 use step_ledger::Steps;
 
-/// A manager of any kind, behind a box. Each call of `Boxed` makes the same call of `inner`, and its state is
-/// that of `inner`.
+/// A manager of any kind, behind a box. Each call of a `Boxed` makes the same call of `inner`, and the
+/// state of the `Boxed` is that of `inner`. It claims no step bounds of its own (`StepBounds`).
 #[derive(Drop)]
 pub struct Boxed {
     pub inner: Box<dyn Manager>,
@@ -20,7 +20,7 @@ impl StepBounds for Boxed {
     ghost most = { None };
 }
 
-// Each call has the contract of `Manager`, which is that of the manager in the box.
+// Each call is that of the manager in the box.
 impl Manager for Boxed {
     ghost state = { λ b. (Manager-box b.inner).Manager.state b.inner.value };
 

@@ -3,13 +3,13 @@
 //! contract is a law.
 ghost use Rattle.std.specs.Prelude.{◌≡◌, ◌≢◌, ℕ, ◌+◌, ◌<◌, ◌≤◌, IsSome, List, None, Option, Result, Some, length, replicate, slice_index};
 ghost use Rattle.std.specs.FinMap.{get, insert, remove};
-ghost use Rattle.cf_base.specs.declared.answers.AccessFault.{AccessFault};
-ghost use Rattle.cf_base.specs.declared.answers.Freed.{Freed};
-ghost use Rattle.cf_base.specs.declared.answers.Handle.{Handle};
-ghost use Rattle.cf_base.specs.declared.answers.NotLive.{NotLive};
-ghost use Rattle.cf_base.specs.declared.answers.Refusal.{Refusal};
-ghost use Rattle.cf_base.specs.declared.answers.ResizeFault.{ResizeFault};
-ghost use Rattle.cf_base.specs.declared.answers.Resized.{Resized};
+ghost use Rattle.cf_base.specs.declared.results.AccessFault.{AccessFault};
+ghost use Rattle.cf_base.specs.declared.results.Freed.{Freed};
+ghost use Rattle.cf_base.specs.declared.results.Handle.{Handle};
+ghost use Rattle.cf_base.specs.declared.results.NotLive.{NotLive};
+ghost use Rattle.cf_base.specs.declared.results.Refusal.{Refusal};
+ghost use Rattle.cf_base.specs.declared.results.ResizeFault.{ResizeFault};
+ghost use Rattle.cf_base.specs.declared.results.Resized.{Resized};
 ghost use Rattle.cf_base.specs.declared.kind.Kind.{Kind};
 ghost use Rattle.cf_base.specs.declared.kind.Kind.TheVariants.{NonMoving};
 ghost use Rattle.cf_base.specs.Settings.{Profile, profile_of};
@@ -33,11 +33,11 @@ ghost use Rattle.cf_model.specs.Steps.{ReadsBytes, ResizesObject, WritesBytes, e
 
 use block_model::free_order::lists_stay_lists_of_the_blocks;
 
-/// The state of a manager's heap that was just opened keeps the rules (`KeepsRules`). With pages its words are zeros,
-/// and it has no order or the opening one (clause `pages`). With blocks word 0 is the header of the one free block, and
-/// the words from 2 on are zeros. Word 1 may be any word if the state has no order (`blocks`). If it has the opening
-/// order, word 1 links the block with no other (`linked`). So each kind has such words, without an order (`there`) and
-/// with the opening one (`ordered`).
+/// A manager's heap that was just opened, with settings in their ranges, keeps the rules (`KeepsRules`). With pages its
+/// words are zeros, and it has no order or the opening one (clause `pages`). With blocks word 0 is the header of the one
+/// free block, and the words from 2 on are zeros. Word 1 may be any word if the state has no order (`blocks`). If it has
+/// the opening order, word 1 links the block with no other (`linked`). So for each kind there are words with which the
+/// heap keeps the rules, without an order (`there`) and with the opening one (`ordered`).
 pub fn an_empty_heap_keeps_the_rules()
     ensures pages { (kind : Kind) (p : Profile) (order : Option Order) → IsPaged kind → AreInRange p → IsOpeningOrder kind p order
         → KeepsRules (ordered_heap kind p (replicate (region_words p) 0) order) }
@@ -57,8 +57,8 @@ pub fn an_empty_heap_keeps_the_rules()
     lists_stay_lists_of_the_blocks();
 }
 
-/// A manager that was never open promises an order (clause `closed`). A manager that promises one,
-/// and is then opened, has the opening order (`opens`).
+/// The state of a manager that was never open (`closed_state`) promises an order (clause `closed`). If
+/// a manager promises an order and is then opened, it has the opening order (`opens`).
 pub fn a_promise_is_an_opening_order()
     ensures closed { (kind : Kind) → IsSome (closed_state kind).order }
     ensures opens { (s : Settings) (old new : HeapState) → IsSome old.order → IsEmptyHeap old.kind s new → KeepsPromise old new
@@ -81,8 +81,8 @@ pub fn what_is_freed_is_gone()
 {}
 
 /// In any non-moving `Manager`, a free and a resize, refused or not, leave each other object in its physical blocks,
-/// and leave the words there unchanged. This follows from their other clauses.
-pub fn blocks_of_others_stay()
+/// and leave the words there unchanged. So clause `blocks` of these calls follows from their other clauses.
+pub fn calls_keep_the_blocks_of_others()
     ensures free { (old new : HeapState) (h : ℕ) (freed : Freed) → old.kind ≡ NonMoving
         → KeepsRules old → KeepsRules new → FreesObject old h freed new → BlocksStay old h new }
     ensures resize { (old new : HeapState) (asked : Request) (done : Resized) → old.kind ≡ NonMoving
@@ -91,9 +91,9 @@ pub fn blocks_of_others_stay()
         → KeepsRules old → KeepsRules new → ChangesCost old new → BlocksStay old h new }
 {}
 
-/// A manager's call that succeeds has no cause for a refusal, so each refusal happens if and only if its cause holds. A
-/// malloc has at most one cause.
-pub fn refusals_come_exactly_by_their_causes()
+/// If a malloc, free, write, read or resize of a manager succeeds, no cause to refuse it held before it. So the call
+/// is refused if and only if a cause holds. A malloc has at most one cause (`one_cause`).
+pub fn a_cause_is_always_refused()
     ensures malloc { (old new : HeapState) (asked : Request) (e : Refusal)
         → AddsObject old asked new → ¬ IsRefusedBy old asked.length e }
     ensures one_cause { (s : HeapState) (bytes : ℕ) (e f : Refusal)
@@ -109,10 +109,9 @@ pub fn refusals_come_exactly_by_their_causes()
 {}
 
 /// On managers with blocks, a malloc and a free keep each object in a block of its own, and each used block has an
-/// object.
-/// `m` are the objects before the call, `old` and `new` the blocks before and after it. `rule` is the free-list
-/// rule, and the region has `words` words. The malloc adds an object of n bytes under the number h at the
-/// address `place`; the free removes object h, which is x.
+/// object. `m` are the objects before the call, `old` and `new` the blocks before and after it. `rule` is the free-list
+/// rule, and the region has `words` words. The malloc adds an object of n bytes under the unused number h at the
+/// address `place`, in a block as large as it needs (`IsCarvedTo`). The free removes object h, which is x.
 pub fn blocks_stay_owned()
     ensures malloc { (rule : FreeLists) (words : ℕ) (m : Held) (old new : List Block) (h n place : ℕ)
         → IsTiling words old → AreOwned m old → get m h ≡ None

@@ -4,7 +4,7 @@ ghost use Rattle.std.specs.FinMap as map;
 ghost use Rattle.step_ledger.specs.Counting.{RoseAtMost, RoseBy};
 ghost use Rattle.cf_model.specs.Answers.{place_of, block_in, classes_in, figures_in, totals_in, usage_in, class_with, with_bound};
 ghost use Rattle.cf_model.specs.Bounds.{Bounds, ByOwn};
-ghost use Rattle.cf_base.specs.declared.answers.Refusal.{Refusal};
+ghost use Rattle.cf_base.specs.declared.results.Refusal.{Refusal};
 ghost use Rattle.cf_model.specs.Room.{length_of};
 ghost use Rattle.cf_model.specs.Costs.{
   TakesAtMost,
@@ -39,19 +39,20 @@ use cf_base::{
 };
 use step_ledger::Steps;
 
-/// The most steps of a malloc with pages.
+/// The most steps of a malloc of a manager with pages.
 pub const MALLOC_BOUND: u64 = 64;
 
-/// The most steps of a free with pages, beside two for each word of the freed slot.
+/// The most steps of a free of a manager with pages, besides two for each word of the freed slot.
 pub const FREE_BOUND: u64 = 96;
 
-/// The most steps of a resize with pages, beside three for each word of the larger slot.
+/// The most steps of a resize of a manager with pages, besides three for each word of the larger of the
+/// old and the new slot.
 pub const RESIZE_BOUND: u64 = 160;
 
-/// The step bounds of a manager's own. They are in a trait of their own, above `Manager`, because the proofs of
-/// `Boxed` are found only if `Manager` has one ghost member.
+/// The step bounds that a manager claims besides those of `Manager`. They are in a trait of their own, above
+/// `Manager`, because the proofs of `Boxed` are found only if `Manager` has one ghost member.
 pub trait StepBounds {
-    /// The most steps of each call, tighter than those for all kinds; none if the manager claims none.
+    /// For some calls the most or the exact steps (`Bounds`); none if the manager claims only those of `Manager`.
     ghost most: { Option Bounds };
 }
 
@@ -62,12 +63,13 @@ pub trait StepBounds {
 /// TLSF (2004) or Half-Fit (1995).
 ///
 /// A manager may promise an order (`HeapState`, field `order`), closed or open. Then the order determines each
-/// choice of a malloc, free or resize: the number, slot or block taken, and the object moved. It also
-/// determines their steps exactly (clause `ordered`). With blocks a resize is always refused, and the clause
-/// leaves its steps open. No call changes whether a manager promises an order.
+/// choice of a malloc, free or resize: the number, slot or block taken, and the object moved. The order and the
+/// state also determine the exact steps of these calls (clause `ordered`). With blocks a resize is always
+/// refused, and the clause leaves its steps open. No call changes whether a manager promises an order.
 ///
-/// Only `kind`, `is_open` and `open_heap` may be called while the heap is closed. Calls add their steps to the
-/// ledger `steps`. Before a malloc, free, write, read or resize its count is at most 2 ^ 63 (clause `room`).
+/// Only `kind`, `is_open` and `open_heap` may be called while the heap is closed. A call that takes the ledger
+/// `steps` adds its steps to it; the others count none. Before a malloc, free, write, read or resize the ledger's
+/// count is at most 2 ^ 63 (clause `room`).
 pub trait Manager: StepBounds + Drop {
     /// What contracts see of a manager.
     ghost state: { Self → HeapState };
@@ -91,9 +93,9 @@ pub trait Manager: StepBounds + Drop {
         ensures promise { KeepsPromise (state self.old) (state self.new) };
 
     /// On any manager, adds an object of `bytes` bytes, all zero, under a handle that wasn't live. Refused, in this
-    /// order: `Size` if it needs more than a page; `Proxy` if every proxy is in use; `Space` if its class has no slot
-    /// left or, with blocks, if no free list that is searched for its size has a block. A refusal changes only the
-    /// cost. At most 64 steps with pages, 25 with blocks.
+    /// order: `Size` if the object with its header is larger than a page; `Proxy` if every proxy is in use; `Space` if
+    /// its class has no slot left or, with blocks, if no free list that is searched for its size has a block. A refusal
+    /// changes only the cost. At most 64 steps with pages, 25 with blocks.
     fn malloc(&mut self, bytes: u32, steps: &mut Steps) -> Result<Handle, Refusal>
         requires open { IsTrue (state self.old).is_open }
         requires room { steps.old ≤ 2 ^ 63 }
@@ -104,9 +106,10 @@ pub trait Manager: StepBounds + Drop {
         ensures most { ByOwn Self.most (λ b. RoseAtMost steps.old steps.new (b.malloc result)) }
         ensures cost { steps.new ≡ steps.old + (state self.new).cost };
 
-    /// On any manager, removes an object, and returns the words of its slot or block. Refused if the handle isn't live.
+    /// On any manager, removes an object, and returns how many words its slot or block has. Refused if the handle isn't
+    /// live.
     /// With pages, another object of the class moves to the freed address if the class would else pass its bound on
-    /// partly full pages (`MustMove`). `moved` is that object. A refusal changes only the cost. With pages at most 96
+    /// partly full pages (`MustMove`). `moved` is its handle. A refusal changes only the cost. With pages at most 96
     /// steps plus twice the words of the slot; with blocks at most 41 plus the words of the block, 1 if refused.
     fn free(&mut self, h: Handle, steps: &mut Steps) -> Result<Freed, NotLive>
         requires open { IsTrue (state self.old).is_open }
@@ -148,10 +151,10 @@ pub trait Manager: StepBounds + Drop {
 
     /// On any manager, changes an object's length: its first bytes stay, and added bytes are zeros. With pages the
     /// object stays in its slot if its class stays. Otherwise it takes a slot of the new class, and its old slot is
-    /// freed, into which another object may move; `moved` is that object. Refused, in this order: `Unknown` if the
+    /// freed, into which another object may move; `moved` is its handle. Refused, in this order: `Unknown` if the
     /// handle isn't live; `Kind` with blocks; `Size` if the object would need more than a page; `Space` if the class
     /// changes and the new one has no slot left. A refusal changes only the cost, with blocks nothing. With pages at
-    /// most 160 steps plus three times the words of the larger slot, 160 if refused; with blocks 1.
+    /// most 160 steps plus three times the words of the larger slot, 160 if refused; with blocks at most 1.
     fn resize(&mut self, h: Handle, bytes: u32, steps: &mut Steps) -> Result<Resized, ResizeFault>
         requires open { IsTrue (state self.old).is_open }
         requires room { steps.old ≤ 2 ^ 63 }
@@ -165,7 +168,7 @@ pub trait Manager: StepBounds + Drop {
 
     /// On any manager, sets the bound of the class whose slots have `slot_words` words to `k`: how many of its pages
     /// may be partly full, 1 to 64. No object may be live. Returns false, and changes nothing, if there is no such
-    /// class.
+    /// class, so always with blocks.
     fn set_bound(&mut self, slot_words: u32, k: u32) -> bool
         requires open { IsTrue (state self.old).is_open }
         requires empty { (state self.old).held ≡ map.empty }
@@ -176,14 +179,14 @@ pub trait Manager: StepBounds + Drop {
         ensures rules { KeepsRules (state self.new) };
 
     /// On any manager, the address of the object: the index of the first word of its slot or block in the region or,
-    /// with a block table, among the virtual words. None if the handle isn't live.
+    /// with a block table, among the virtual words. None if the handle isn't live. Takes one step.
     fn place(&self, h: Handle, steps: &mut Steps) -> Option<u32>
         requires { IsTrue (state self.now).is_open }
         ensures value { result ≡ place_of (state self.now) h.0 }
         ensures steps { RoseBy steps.old steps.new 1 };
 
     /// On any manager, the word of the region at the index `word`; none if that is beyond the region's end. With a
-    /// block table the index counts virtual words.
+    /// block table the index counts virtual words. Takes one step, with a block table two; none beyond the end.
     fn peek(&self, word: u32, steps: &mut Steps) -> Option<u64>
         requires { IsTrue (state self.now).is_open }
         ensures value { result ≡ slice_get (state self.now).words word }
@@ -192,7 +195,7 @@ pub trait Manager: StepBounds + Drop {
 
     /// On any manager, the number of the physical block that holds block i of the object's slot. Blocks have four
     /// words, and i counts from 0. None if the kind isn't `NonMoving`, the handle isn't live, or the slot has no block
-    /// i.
+    /// i. Takes at most 5 steps, without a block table none.
     fn block(&self, h: Handle, i: u32, steps: &mut Steps) -> Option<u32>
         requires { IsTrue (state self.now).is_open }
         ensures value { result ≡ block_in (state self.now).kind (state self.now) h.0 i }
@@ -203,13 +206,13 @@ pub trait Manager: StepBounds + Drop {
         requires { IsTrue (state self.now).is_open }
         ensures { result ≡ classes_in (state self.now).kind (state self.now) };
 
-    /// A manager's figures of class c, counted from 0; none if there is no such class.
+    /// A manager's figures of the class with number c, from 0 on; none if there is no such class.
     fn figures(&self, c: u32) -> Option<Figures>
         requires { IsTrue (state self.now).is_open }
         ensures { result ≡ figures_in (state self.now) c };
 
-    /// A manager's figures of the whole heap. With blocks this takes time linear in the free blocks, because it
-    /// searches for the largest one; `usage` doesn't.
+    /// A manager's figures of the whole heap. With blocks the call searches a free list for the largest block, so its
+    /// steps may grow with the number of free blocks; `usage` takes none.
     fn totals(&self, steps: &mut Steps) -> Totals
         requires { IsTrue (state self.now).is_open }
         ensures value { result ≡ totals_in (state self.now).kind (state self.now) }
@@ -217,13 +220,15 @@ pub trait Manager: StepBounds + Drop {
         ensures most { ByOwn Self.most (λ b. RoseAtMost steps.old steps.new (b.totals result)) }
         ensures exact { ByOwn Self.most (λ b. RoseBy steps.old steps.new (b.totals_exact (state self.now))) };
 
-    /// On any manager, the number of bytes of an object; none if the handle isn't live.
+    /// On any manager, the number of bytes of an object; none if the handle isn't live. Takes two steps, with a block
+    /// table three; one if not live.
     fn length(&self, h: Handle, steps: &mut Steps) -> Option<u32>
         requires { IsTrue (state self.now).is_open }
         ensures value { result ≡ length_of (state self.now) h.0 }
         ensures steps { RoseBy steps.old steps.new (length_steps (state self.now).kind result) };
 
-    /// What a manager's malloc of `bytes` bytes would return now, without the handle: `Ok`, or its refusal.
+    /// What a manager's malloc of `bytes` bytes would return now, without the handle: `Ok`, or its refusal. Only
+    /// `StepBounds` bounds its steps.
     fn has_room(&self, bytes: u32, steps: &mut Steps) -> Result<(), Refusal>
         requires { IsTrue (state self.now).is_open }
         ensures ok { IfOk result (λ u. (e : Refusal) → ¬ IsRefusedBy (state self.now) bytes e) }
@@ -232,8 +237,8 @@ pub trait Manager: StepBounds + Drop {
         ensures most { ByOwn Self.most (λ b. RoseAtMost steps.old steps.new (b.room result)) }
         ensures exact { ByOwn Self.most (λ b. RoseBy steps.old steps.new (b.room_exact (state self.now) bytes result)) };
 
-    /// The bytes that live objects asked for, those of their slots or blocks, and those that the heap holds for
-    /// them: three of the figures of `totals`. It costs no step.
+    /// The bytes requested for a manager's live objects, those of their slots or blocks, and those of the pages in use
+    /// or, with blocks, of the region: three of the figures of `totals`. Takes no step.
     fn usage(&self) -> Usage
         requires { IsTrue (state self.now).is_open }
         ensures { result ≡ usage_in (state self.now).kind (state self.now) };

@@ -15,7 +15,7 @@ pub struct Usage {
 }
 
 impl Usage {
-    /// The three of these totals that count used bytes.
+    /// The fields `asked`, `taken` and `held` of a heap's totals.
     pub fn of(totals: &Totals) -> Usage
         ensures { result ≡ usage_of totals.now }
     {

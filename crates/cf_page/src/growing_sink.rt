@@ -5,8 +5,8 @@ use cf_base::Failed;
 use cf_io::Sink;
 use std::alloc::Global;
 
-/// A sink that keeps all bytes in memory. A call fails if and only if an allocation does. `faults` counts these
-/// calls and saturates; `failed` is whether the last call failed.
+/// A sink that keeps all bytes in memory. A call fails if and only if an allocation does. `faults`
+/// counts the calls that failed, and saturates; `failed` is whether the last call failed.
 #[derive(Drop)]
 pub struct GrowingSink {
     pub bytes: Vec<u8>,
@@ -15,7 +15,7 @@ pub struct GrowingSink {
 }
 
 impl GrowingSink {
-    /// An empty growing sink, before its first call.
+    /// `GrowingSink`: an empty one, before its first call.
     pub fn new(alloc: Global) -> GrowingSink
         ensures bytes { result.bytes.items ≡ [] }
         ensures faults { result.faults ≡ 0 }
@@ -32,7 +32,8 @@ impl GrowingSink {
 impl Sink for GrowingSink {
     ghost state = { λ s. record { written = Some s.bytes.items; faults = s.faults; last_failed = s.failed } };
 
-    /// `GrowingSink`: writes all the bytes, and returns their number.
+    /// `GrowingSink`: writes all the bytes, and returns their number. Fails, with none written, if
+    /// memory runs out.
     fn put(&mut self, bytes: &[u8]) -> Result<usize, Failed> {
         match self.bytes.extend_from_slice(bytes) {
             Ok(()) => {

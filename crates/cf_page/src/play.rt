@@ -15,10 +15,10 @@ use std::rt::Memory;
 use tlsf_heap::TlsfHeap;
 use top_call::run_arguments;
 
-/// For the page, runs the tool with these arguments and this script on a closed manager of each kind, as the program
-/// does.
-/// Writes the output to the start of `out` if it fits, and returns the status and the length of the output.
-/// `None` if an allocation fails: then `out` stays as it was.
+/// For the page, runs the tool with these arguments and this script on a closed manager of each
+/// kind, as the program does. Writes the output to the start of `out` if it fits, and returns the
+/// status and the length of the output. `None` if memory for the managers, the script or the output
+/// runs out: then `out` stays as it was.
 pub fn play(
     memory: Memory,
     words: &[String],
@@ -59,7 +59,8 @@ fn add<H: Manager>(kind: Kind, managers: &mut Vec<H>, manager: H) -> Result<(), 
     }
 }
 
-/// For the page, `play` on the given managers, one of each kind, which were never open.
+/// For the page, runs the tool as `play` does, but on the given managers, one of each kind, which
+/// were never open.
 fn play_on<H: Manager>(
     memory: Memory,
     alloc: Global,

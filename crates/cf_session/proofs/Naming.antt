@@ -2,7 +2,7 @@
 use Rattle.std.proofs.Common.{◌≡◌, ◌≢◌, ◌∙◌, ◌+◌, ℕ, Bool, true, false, List, Option, Some, None, length, refl, ap, sym, subst, Result, Ok, Err, is_ok}
 use Rattle.std.specs.Bool.{OnFalse, OnTrue}
 use Rattle.run_model.specs.Terms.{AccessFault, Free, get, Handle, Malloc, Refusal, Reply, RunState, said, Write}
-use Rattle.cf_base.specs.declared.answers.Refusal.TheVariants as refusal
+use Rattle.cf_base.specs.declared.results.Refusal.TheVariants as refusal
 use Rattle.cf_model.specs.Steps.{IsWriteStep, WritesBytes}
 use Rattle.id_table.specs.Named.{FreesNamed, HasBytes, MakesNamed, WritesNamed}
 use Rattle.id_table.proofs.CallerLemmas.{no_fault}

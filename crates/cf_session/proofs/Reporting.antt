@@ -17,8 +17,8 @@ use Rattle.script_reader.specs.declared.command_ref.CommandRef.{CommandRef}
 use Rattle.run_model.specs.Steps.{Step}
 use Rattle.std.specs.Result.{is_err}
 use Rattle.std.proofs.lemmas.List.{nil_from_length}
-use Rattle.cf_base.specs.declared.answers.Totals.{Totals}
-use Rattle.cf_base.specs.declared.answers.Figures.{Figures}
+use Rattle.cf_base.specs.declared.results.Totals.{Totals}
+use Rattle.cf_base.specs.declared.results.Figures.{Figures}
 use Rattle.cf_io.specs.Feeds.{WritesAll}
 use Rattle.page_model.specs.Figures.{figures_of}
 use Rattle.cf_io.proofs.CallerLemmas.{puts_line, puts_same}
@@ -29,7 +29,7 @@ use Rattle.run_model.proofs.CallerLemmas.{step_meets_bounds, step_going}
 use Rattle.cf_session.specs.Short.{short_text}
 use Rattle.cf_session.specs.declared.short.OneLine.{OneLine}
 use Rattle.cf_session.specs.declared.short.Short.{Short}
-use Rattle.cf_base.specs.declared.answers.AccessFault.TheVariants as access
+use Rattle.cf_base.specs.declared.results.AccessFault.TheVariants as access
 use Rattle.cf_session.specs.declared.short.OneLine.TheVariants as reply
 use Rattle.script_reader.specs.declared.command_ref.CommandRef.TheVariants as borrowed
 

@@ -1,5 +1,6 @@
-//! The commands that change objects or bounds: each calls the heap and returns the reply to print. Each malloc,
-//! free or resize that calls the heap sets `counters.bound` to its step bound, which command `steps` prints.
+//! The commands that change objects or bounds: each calls the heap and returns the reply to print,
+//! `ok` if it was done. Each malloc, free or resize that calls the heap sets `counters.bound` to
+//! its step bound, which command `steps` prints.
 ghost use Rattle.std.specs.Prelude.{◌≡◌, ◌^◌, ◌≤◌, IsTrue, Err};
 ghost use Rattle.cf_session.specs.Records.{run_with, session_of};
 ghost use Rattle.cf_session.specs.Short.{short_text};
@@ -13,8 +14,9 @@ use cf_base::ResizeFault;
 use cf_model::{FREE_BOUND, MALLOC_BOUND, Manager, RESIZE_BOUND};
 use step_ledger::Steps;
 
-/// `m`: on a manager, makes an object of `bytes` bytes, which `id` then names. If the id is live already, the reply is
-/// `live`; if the heap refuses the malloc, it is `refused` and the cause. Then no id and no object changes.
+/// `m`: on a manager, makes an object of `bytes` zero bytes, which `id` then names. The reply is
+/// `live` if the id is live already, or `refused` and the cause if the heap refuses the malloc; in
+/// both cases no id and no object changes.
 pub(crate) fn malloc<H: Manager>(
     records: &mut Records,
     heap: &mut H,
@@ -40,7 +42,8 @@ pub(crate) fn malloc<H: Manager>(
     }
 }
 
-/// `f`: on a manager, frees the object of an id; `unknown` if the id isn't live.
+/// `f`: on a manager, frees the object of an id, which then isn't live. Counts the move if another
+/// object moved into the slot. The reply is `unknown` if the id isn't live.
 pub(crate) fn free<H: Manager>(
     records: &mut Records,
     heap: &mut H,
@@ -65,8 +68,8 @@ pub(crate) fn free<H: Manager>(
     Short::Done
 }
 
-/// `w`: writes bytes into the object of an id, from byte `at` on; `unknown` if the id isn't live, `range` if
-/// they would pass the end of the object.
+/// `w`: writes bytes into the object of an id, from byte `at` on. The reply is `unknown` if the id
+/// isn't live, `range` if the bytes would pass the end of the object.
 pub(crate) fn write<H: Manager>(
     records: &Records,
     heap: &mut H,
@@ -89,8 +92,9 @@ pub(crate) fn write<H: Manager>(
     }
 }
 
-/// `z`: changes the length of an id's object to `bytes` bytes; `unknown` if the id isn't live. If the heap
-/// refuses it, the reply shows why.
+/// `z`: changes the length of an id's object to `bytes` bytes. Counts the move if another object
+/// moved into the old slot. The reply is `unknown` if the id isn't live, `none` with blocks, or
+/// `refused` and the cause.
 pub(crate) fn resize<H: Manager>(
     records: &mut Records,
     heap: &mut H,
@@ -132,8 +136,8 @@ fn resize_fault_reply(fault: ResizeFault) -> Short
     }
 }
 
-/// `k`: sets to `k` the bound (how many pages may be partly full) of the class with slots of `slot_words` words;
-/// `none` if an id is live or no class has such slots.
+/// `k`: sets to `k` the bound of the class with slots of `slot_words` words, that is, how many of
+/// its pages may be partly full. The reply is `none` if an id is live or no class has such slots.
 pub(crate) fn set_bound<H: Manager>(
     records: &Records,
     heap: &mut H,

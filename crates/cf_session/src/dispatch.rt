@@ -1,4 +1,5 @@
-//! `answer`, the one match over all commands: does a command on the heap and writes its reply.
+//! `answer`, the one match over all commands: does a command on the heap and writes its reply. Each
+//! line begins with the lead (in mode `compare` the kind's name and a space, else empty).
 ghost use Rattle.std.specs.Prelude.{◌≡◌, ◌^◌, ◌≤◌, length};
 ghost use Rattle.cf_base.specs.declared.numbers.TheConstants.{CHUNK};
 ghost use Rattle.run_model.specs.Terms.{IsGoing, IsWellFormed, owned_command, SinkFailsIf};
@@ -8,7 +9,7 @@ ghost use Rattle.std.specs.Result.{is_err};
 
 use crate::changes::{free, malloc, resize, set_bound, write};
 use crate::outcome::Outcome;
-use crate::queries::{block, peek, place, put_steps_line, read};
+use crate::queries::{block, build_steps_line, peek, place, read};
 use crate::records::Records;
 use crate::reply::{ended, put_reply, put_short_line};
 use crate::short::Short;
@@ -19,10 +20,11 @@ use frag_report::{frag_line, walk_lines};
 use script_reader::CommandRef;
 use step_ledger::Steps;
 
-/// For a `Session`, does command `c` and writes its reply to `out`. Each line begins with `lead` and is passed to the
-/// sink as a whole. Returns the outcome of the reply. If the sink fails, the result is `Failed`: the command has taken
-/// effect, and a prefix of its reply was written. `line`, `buffer` and `text` are scratch: `line` for a line of any
-/// reply, and, for `r` alone, `buffer` for the bytes read and `text` for the line that shows them.
+/// For a `Session`, does command `c` and writes its reply to `out`; a command of another mode gets
+/// `none`. Each line is passed to the sink as a whole. Returns the outcome of the reply. If the
+/// sink fails, the result is `Failed`: the command has taken effect, and a prefix of its reply was
+/// written. `line`, `buffer` and `text` are scratch: `line` for a line of any reply, and, for `r`
+/// alone, `buffer` for the bytes read and `text` for the line that shows them.
 // All commands are in one match: if the compiler knows a caller's command, it inlines that branch alone.
 pub(crate) fn answer<H: Manager, K: Sink>(
     records: &mut Records,
@@ -85,7 +87,12 @@ pub(crate) fn answer<H: Manager, K: Sink>(
             line,
             out,
         ),
-        CommandRef::Steps => put_reply(put_steps_line(records, heap, lead, line), lead, line, out),
+        CommandRef::Steps => put_reply(
+            build_steps_line(records, heap, lead, line),
+            lead,
+            line,
+            out,
+        ),
         CommandRef::Walk => ended(walk_lines(heap, lead, line, out, steps), Outcome::Other),
         CommandRef::Frag => ended(frag_line(heap, lead, line, out, steps), Outcome::Other),
         _ => put_short_line(Short::Lacking, lead, line, out),

@@ -1,4 +1,5 @@
-//! `Namer` for a session: its calls are the commands `m`, `w` and `f`, whose replies are dropped.
+//! `Namer` for a session: its calls make, write and free objects by the commands `m`, `w` and `f`,
+//! and drop the replies.
 ghost use Rattle.std.specs.Prelude.{◌≡◌, ◌≢◌};
 ghost use Rattle.std.specs.Bool.{OnFalse, OnTrue};
 
@@ -44,7 +45,7 @@ impl Namer for Session {
     }
 }
 
-/// Whether a command had the outcome `Good`, that is, did what it asks for.
+/// Whether the outcome of a command is `Good`: its reply is `ok` or begins with `=`.
 fn is_good(outcome: Outcome) -> bool
     ensures good { OnTrue result (outcome ≡ Outcome.Good) }
     ensures other { OnFalse result (outcome ≢ Outcome.Good) }

@@ -1,5 +1,6 @@
-//! The commands that change nothing but the count of steps: `r`, `q`, `b`, `p` and `steps`. Each but `r` builds
-//! its reply in `line`, after the lead, or returns a short reply, and the caller writes it to the sink. `r`
+//! The commands that change nothing but the count of steps: `r`, `q`, `b`, `p` and `steps`. Each
+//! but `r` builds its reply in `line`, after the lead (in mode `compare` the kind's name and a
+//! space, else empty), or returns a short reply (`Short`); the caller writes it to the sink. `r`
 //! writes its reply itself.
 ghost use Rattle.std.specs.Prelude.{◌≡◌, ◌^◌, ◌<◌, ◌≤◌, ◌++◌, IsTrue, codes, length, slice_get, take};
 ghost use Rattle.std.specs.FinMap as map;
@@ -19,9 +20,10 @@ use cf_io::{Line, Sink, begin_line, push_field, put_all};
 use cf_model::Manager;
 use step_ledger::Steps;
 
-/// `r`: writes to the sink `len` bytes of an id's object from byte `at` on, in hexadecimal; `unknown` if the id
-/// isn't live, `range` if they would pass the end of the object. `buffer` and `text` are scratch, for the bytes
-/// and for the line.
+/// `r`: writes to the sink `=` and `len` bytes of an id's object from byte `at` on, in hexadecimal;
+/// `unknown` if the id isn't live, `range` if the bytes would pass the end of the object. If the
+/// sink fails, the result is `Failed`, and a prefix of the reply was written. `buffer` and `text`
+/// are scratch, for the bytes and for the line.
 pub(crate) fn read<H: Manager, K: Sink>(
     records: &Records,
     heap: &H,
@@ -77,7 +79,8 @@ fn spell_bytes(text: &mut [u8], lead: &[u8], bytes: &[u8]) -> usize
     lead.len() + count + 2
 }
 
-/// `q`: the address of an id's object, in words from the start of the region; `unknown` if the id isn't live.
+/// `q`: builds the reply `at` and the address of an id's object, in words from the start of the
+/// region; `unknown` if the id isn't live.
 pub(crate) fn place<H: Manager>(
     records: &Records,
     heap: &H,
@@ -104,8 +107,9 @@ pub(crate) fn place<H: Manager>(
     }
 }
 
-/// `b`: the number of the physical block that holds block `i` (four words) of an id's object. `unknown` if the
-/// id isn't live; else `none` if the kind isn't non-moving; else `range` if the object has no block `i`.
+/// `b`: builds the reply `block` and the number of the physical block that holds block `i` (four
+/// words) of an id's object. `unknown` if the id isn't live; else `none` on any kind but the
+/// non-moving one; else `range` if the object has no block `i`.
 pub(crate) fn block<H: Manager>(
     records: &Records,
     heap: &H,
@@ -137,8 +141,8 @@ pub(crate) fn block<H: Manager>(
     }
 }
 
-/// `p`: the value of word `word` of the region, in hexadecimal; `range` if the region has no such word. With a
-/// block table, the number counts virtual words.
+/// `p`: builds the reply with the value of word `word` of the region (on the non-moving kind, of
+/// the virtual blocks), in hexadecimal; `range` if there is no such word.
 pub(crate) fn peek<H: Manager>(
     heap: &H,
     word: u32,
@@ -160,9 +164,10 @@ pub(crate) fn peek<H: Manager>(
     }
 }
 
-/// `steps`: the steps of the last malloc, free or resize; with pages also the bound on them, how many objects
-/// have moved since the start, and the words of their slots.
-pub(crate) fn put_steps_line<H: Manager>(
+/// `steps`: builds the reply with the steps of the last malloc, free or, with pages, resize; with
+/// pages also the bound on them, how many objects frees and resizes have moved into the slots that
+/// they freed, and the words of these slots.
+pub(crate) fn build_steps_line<H: Manager>(
     records: &Records,
     heap: &H,
     lead: &[u8],

@@ -7,8 +7,9 @@ use cf_base::OutOfMemory;
 use id_table::{Counters, IdTable};
 use std::alloc::Global;
 
-/// The records of a session. `ids` maps each live id to its handle. `counters` has the step bound of the last
-/// malloc, free or resize, how many objects moved, and the words of their slots.
+/// The records of a session. `ids` maps each live id to its handle. `counters` has the step bound
+/// of the last malloc, free or resize, how many objects moved into freed slots, and the words of
+/// these slots.
 #[derive(Drop)]
 pub(crate) struct Records {
     pub(crate) ids: IdTable,

@@ -1,5 +1,6 @@
-//! Writing a reply of one line to the sink. If the sink fails, the result is `Failed`, and a prefix of the
-//! reply was written.
+//! Writing a reply of one line to the sink, after the lead (in mode `compare` the kind's name and a
+//! space, else empty). If the sink fails, the result is `Failed`, and a prefix of the reply was
+//! written.
 ghost use Rattle.std.specs.Prelude.{◌≤◌, List, ℕ, length, ◌≡◌};
 ghost use Rattle.cf_session.specs.Apply.{IsEnded};
 ghost use Rattle.cf_session.specs.OneLine.{HasRoom, IsPut, SaidOn, lines_at};
@@ -10,8 +11,8 @@ use crate::short::{OneLine, Short};
 use cf_base::Failed;
 use cf_io::{Line, Sink, begin_line, push_text, put_all, put_line};
 
-/// For a reply, the result of a command: `outcome` if `written`, the result of writing its reply, is `Ok`, else
-/// `Failed`.
+/// The result of a command whose reply has this `outcome`: the outcome if the reply was written
+/// (`written` is `Ok`), else `Failed`.
 pub fn ended(written: Result<(), Failed>, outcome: Outcome) -> Result<Outcome, Failed>
     ensures { IsEnded written outcome result }
 {
@@ -40,8 +41,9 @@ pub(crate) fn put_reply<K: Sink>(
     }
 }
 
-/// Writes the lead and a short reply to the sink, and returns the outcome of the reply, or `Failed` if the sink
-/// failed; then a prefix was written. If the lead is empty, the text is not copied into `line`, which is scratch.
+/// Writes the lead (in mode `compare` the kind's name and a space, else empty) and a short reply to
+/// the sink, and returns the reply's outcome, or `Failed` if the sink failed; then a prefix was
+/// written. If the lead is empty, the text is not copied into `line`, which is scratch.
 pub(crate) fn put_short_line<K: Sink>(
     short: Short,
     lead: &[u8],

@@ -1,4 +1,5 @@
-//! `Session`: does the commands of a script on one manager and writes their replies.
+//! `Session`: does the commands of a script on one manager and writes their replies. Each line
+//! begins with the lead (in mode `compare` the kind's name and a space, else empty).
 ghost use Rattle.std.specs.Prelude.{◌≡◌, ◌≤◌, IsTrue, IfOk, length};
 ghost use Rattle.std.specs.FinMap as map;
 ghost use Rattle.run_model.specs.Terms.{AreTied, fresh_session, IsGoing, IsWellFormed, KeepsRules, owned_command, SinkFailsIf};
@@ -19,7 +20,8 @@ use std::marker::Model;
 use std::rt::Memory;
 use step_ledger::Meter;
 
-/// The most bytes of the reply to a read: a lead, `=`, two digits for each byte, and a line feed.
+/// The most bytes of the reply to a read: a lead of 8, `=`, two digits for each of 4,096 bytes, and
+/// a line feed.
 const MOST_TEXT: usize = 8_202;
 
 /// The live ids of a script with their handles, the counters that command `steps` prints, the meter that owns
@@ -55,8 +57,8 @@ impl Session {
         Session::for_library(rt.memory(), alloc)
     }
 
-    /// `start` for code that an export calls, which has no runtime value: `memory` makes the meter
-    /// (`Meter::for_library`).
+    /// Does what `start` does, for code without a runtime value, as in a library for C: `memory`
+    /// makes the meter.
     pub fn for_library(memory: Memory, alloc: Global) -> Result<Session, OutOfMemory>
         ensures { IfOk result (λ s. s ≡ fresh_session) }
     {
@@ -69,9 +71,11 @@ impl Session {
         })
     }
 
-    /// `Session`: does command `c` on the heap and writes its reply to `out`; each line begins with `lead` and is
-    /// passed to the sink as a whole. Returns the outcome of the reply. If the sink fails, the result is `Failed`: the
-    /// command has taken effect, and a prefix of its reply was written.
+    /// `Session`: resets the meter, does command `c` on the heap and writes its reply to `out`;
+    /// each line begins with `lead` and is passed to the sink as a whole. Returns the outcome of
+    /// the reply. If the sink fails, the result is `Failed`: the command has taken effect, and a
+    /// prefix of its reply was written. The heap must be open, its objects those that the ids name,
+    /// and with pages its cost within the session's step bound (`AreTied`).
     pub fn apply<H: Manager, K: Sink>(
         &mut self,
         heap: &mut H,
@@ -96,8 +100,8 @@ impl Session {
         self.apply_ref(heap, c.as_ref(), lead, out)
     }
 
-    /// `Session::apply` for a command whose bytes (those of a write) are borrowed from the caller's buffer, in a run in
-    /// progress.
+    /// Does what `Session::apply` does, for a command that borrows the bytes of a write. The run
+    /// must be in progress (`IsGoing`).
     pub fn apply_ref<H: Manager, K: Sink>(
         &mut self,
         heap: &mut H,
@@ -128,14 +132,16 @@ impl Session {
         )
     }
 
-    /// In a session, how many times a call moved an object to another's slot since the start; saturates at `2^64 - 1`.
+    /// In a session, how many frees and resizes moved another object into the slot that became
+    /// free; saturates at `2^64 - 1`.
     pub fn moves(&self) -> u64
         ensures { result ≡ self.now.moves }
     {
         self.records.counters.moves
     }
 
-    /// In a session, the words of all slots to which calls moved an object since the start; saturates at `2^64 - 1`.
+    /// In a session, the words of all slots into which a free or a resize moved another object;
+    /// saturates at `2^64 - 1`.
     pub fn words(&self) -> u64
         ensures { result ≡ self.now.words }
     {

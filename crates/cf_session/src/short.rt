@@ -1,5 +1,5 @@
-//! Replies of one line: the fixed texts that sessions of all modes use (`Short`), which text each refusal of a
-//! heap gets, and how a reply is appended to a line.
+//! Replies of one line: the fixed texts that sessions of all modes use (`Short`), which of them a
+//! malloc, read or write gets that the heap refuses, and how a reply is appended to a line.
 ghost use Rattle.std.specs.Prelude.{◌≡◌, ◌<◌, ◌≤◌, ◌++◌, ◌∷◌, [], Err, codes, length};
 ghost use Rattle.cf_base.specs.declared.numbers.TheConstants.{CHUNK};
 ghost use Rattle.cf_io.specs.Lines.{line_capacity};
@@ -101,7 +101,8 @@ pub fn fault_reply(fault: AccessFault) -> Short
     }
 }
 
-/// Appends the text of a short reply to an empty line, without a line feed, and returns its outcome.
+/// Appends the text of a short reply to an empty line, without a line feed, and returns the reply's
+/// outcome.
 pub fn push_short(line: &mut Line, short: Short) -> Outcome
     requires { line.old ≡ [] }
     ensures text { line.new ≡ short_text short }
@@ -113,8 +114,8 @@ pub fn push_short(line: &mut Line, short: Short) -> Outcome
     short.outcome()
 }
 
-/// Appends the reply to a read to an empty line: `=` and the bytes in hexadecimal, without a line feed. Returns
-/// its outcome.
+/// Appends the reply to a read to an empty line: `=` and the bytes, at most 4,096, in hexadecimal,
+/// without a line feed. Returns the reply's outcome.
 pub fn push_bytes(line: &mut Line, bytes: &[u8]) -> Outcome
     requires empty { line.old ≡ [] }
     requires few { length bytes.now ≤ CHUNK }

@@ -68,7 +68,8 @@ fn run_all(rt: &HostRuntime, words: &[String]) -> Result<Status, AllocError> {
     Ok(cf_main(rt, alloc, words, &mut source, &mut sink, &mut managers))
 }
 
-/// Runs the tool, prints the line of the status on standard error, and exits with the status.
+/// Runs the tool, prints the line of its status on standard error unless the status is `Done`, and
+/// exits with the status.
 fn main(rt: HostRuntime) -> ExitCode {
     let status = match command_words(&rt) {
         Ok(words) => run_all(&rt, words.as_slice()).unwrap_or(Status::OutOfMemory),

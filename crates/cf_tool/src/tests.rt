@@ -1,6 +1,8 @@
-//! Tests of `cf_main` by what a script on the built program can't show: managers that the caller passes in, sources
-//! and sinks that fail at a given call, and memory. `checks/documents` and `checks/one_output` test the replies.
-//! This file has the helpers that its modules share.
+//! Tests of `cf_main` for what no script on the built program can show: managers that the caller
+//! passes in, sources and sinks that fail at a given call, memory, and the choice that arguments
+//! make. `checks/documents` and `checks/one_output` test the replies. This file has the helpers
+//! that its modules share, and a test of a script without end.
+mod arguments;
 mod faults;
 mod managers;
 mod opening;
@@ -125,7 +127,8 @@ impl OutputOn {
     }
 }
 
-/// Runs `cf_main` with these arguments on this script and closed managers of these kinds.
+/// Runs `cf_main` with these arguments on this script and closed managers of these kinds, and
+/// returns what it leaves and writes.
 fn answered_on(
     rt: &HostRuntime,
     words: &[&str],
@@ -138,7 +141,8 @@ fn answered_on(
     Ok(OutputOn { left, sink })
 }
 
-/// Runs `cf_main` on a source that repeats a comment line without end, and returns what it leaves.
+/// Runs `cf_main` without arguments or managers on a source that repeats a comment line without
+/// end, and returns what it leaves and writes.
 fn answered_without_end(rt: &HostRuntime) -> Result<OutputOn, Fail> {
     let mut line = vec![in rt.alloc(); b'#'; 8_999]?;
     line.push(b'\n')?;

@@ -1,4 +1,4 @@
--- The memory that the lists of a heap's pages ask for.
+-- The memory that the page lists of a heap or a task ask for.
 use Rattle.std.specs.Prelude.{ℕ, ◌+◌, ◌*◌}
 use Rattle.cf_base.specs.Needed.{both, one_block, times}
 use Rattle.cf_base.specs.declared.needed.BytesNeeded.{BytesNeeded}

@@ -1,5 +1,5 @@
-//! How many pages each page list has, two counts for each class. They are plain numbers, so reading
-//! them costs no step.
+//! How many pages each page list has (`Counts`), two counts for each class. The counts are plain
+//! numbers, so reading them costs no step.
 ghost use Rattle.std.specs.Prelude.{◌≡◌, ◌+◌, ◌-◌, ◌*◌, ◌^◌, ◌<◌, IfOk, length, replicate, slice_index, slice_set};
 ghost use Rattle.class_lists.specs.PageLists.{list_number};
 
@@ -7,9 +7,8 @@ use crate::Which;
 use std::alloc::{AllocError, Global};
 use std::marker::Model;
 
-/// The lengths of the lists: for each class that of its list of full pages, and that of its list of
-/// partly full ones. Contracts see one list of counts, in which each class has two neighbouring
-/// entries: first that of its full pages, then that of its partly full ones (`list_number`).
+/// The lengths of the two lists of each class. Contracts see one list of counts, in which each
+/// class has two neighbouring entries: its full pages, then its partly full ones (`list_number`).
 #[derive(Drop)]
 pub(crate) struct Counts {
     /// By class, the number of full pages.
@@ -30,7 +29,8 @@ impl Model for Counts {
 }
 
 impl Counts {
-    /// Makes counts of 0 for the two lists of each of `classes` classes.
+    /// Makes counts of 0 for the two lists of each of `classes` classes. Fails if an allocation
+    /// fails.
     pub(crate) fn new(alloc: Global, classes: u32) -> Result<Counts, AllocError>
         ensures { IfOk result (λ counts. counts ≡ replicate (2 * classes) 0) }
     {

@@ -30,8 +30,7 @@ pub enum Which {
 /// one.
 #[derive(Drop)]
 pub struct ClassLists {
-    // Each page and each list has a node. A list is a ring: its own node, then the nodes of its
-    // pages in order.
+    // A list is a ring: its own node, then the nodes of its pages in order.
     links: Links,
     /// How many pages each list has.
     lens: Counts,
@@ -39,8 +38,8 @@ pub struct ClassLists {
     pages: u32,
 }
 
-/// For each node the next and the previous one in its ring. Each page has a node, and after these
-/// each list has one.
+/// The rings of nodes that are the lists: for each node the next and the previous one in its ring.
+/// Each page has a node, and after these each list has one.
 #[derive(Drop)]
 struct Links {
     /// By node, the next node of its ring.
@@ -171,7 +170,8 @@ impl ClassLists {
 }
 
 impl Links {
-    /// For linked page lists, makes `nodes` nodes, each a ring by itself.
+    /// Makes `nodes` nodes for linked page lists, each a ring by itself. Fails if an allocation
+    /// fails.
     fn new(alloc: Global, nodes: u32) -> Result<Links, AllocError>
         ensures next { IfOk result (λ links. links.next ≡ range_with_len 0 nodes) }
         ensures previous { IfOk result (λ links. links.previous ≡ range_with_len 0 nodes) }

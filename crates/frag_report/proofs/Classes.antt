@@ -7,8 +7,8 @@ use Rattle.std.proofs.lemmas.List.{map-append}
 use Rattle.std.specs.Prelude.{Result, Err, Ok, map, not, nat_eq}
 use Rattle.std.specs.List.{range_with_len}
 use Rattle.std.proofs.lemmas.List.Elements.{filter-append}
-use Rattle.cf_base.specs.declared.answers.Failed.{Failed}
-use Rattle.cf_base.specs.declared.answers.Figures.{Figures}
+use Rattle.cf_base.specs.declared.results.Failed.{Failed}
+use Rattle.cf_base.specs.declared.results.Figures.{Figures}
 use Rattle.cf_io.specs.Feeds.{SinkState, Writes, WritesAll}
 use Rattle.cf_io.proofs.CallerLemmas.{led-append, puts_cut, puts_same, puts_then}
 use Rattle.cf_base.proofs.Tests.{lt_no, lt_yes}

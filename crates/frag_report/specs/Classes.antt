@@ -1,8 +1,8 @@
 -- The lines of `walk` on a heap with pages, as they are written one after the other. `p` is the pages and classes, `m` the objects by number, `c` a class.
 use Rattle.std.specs.Prelude.{ℕ, List, [], map, filter, not, nat_eq, if◌then◌else◌}
 use Rattle.std.specs.List.{range_with_len}
-use Rattle.cf_base.specs.declared.answers.Figures.{Figures}
-use Rattle.cf_base.specs.declared.answers.Totals.{Totals}
+use Rattle.cf_base.specs.declared.results.Figures.{Figures}
+use Rattle.cf_base.specs.declared.results.Totals.{Totals}
 use Rattle.page_model.specs.Arrangement.{live}
 use Rattle.page_model.specs.Figures.{figures_of}
 use Rattle.page_model.specs.Held.{Held, objects}

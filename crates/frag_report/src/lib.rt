@@ -1,5 +1,6 @@
-//! The reports of commands `walk` and `frag`: how a heap uses its pages or blocks, and how many bytes are
-//! asked for, taken and held. Sessions write them line by line to a sink.
+//! The reports of commands `walk` and `frag`: how a heap uses its pages or blocks, and how many
+//! bytes its objects asked for, their slots or blocks take, and its pages in use or its region
+//! hold. Sessions write them line by line to a sink.
 #![tactic(auto)]
 
 mod reports;

@@ -1,6 +1,7 @@
-//! The reports of commands `walk` and `frag`. Each line begins with `lead`: in mode `compare` the name of the
-//! manager's kind and a space, else no bytes. Each line is built in `line`, which is scratch, and passed to the
-//! sink `out` as a whole. If the sink fails, the result is `Failed`, and a prefix of the report was written.
+//! The reports of commands `walk` and `frag`. Each line begins with `lead`: in mode `compare` the
+//! name of the manager's kind and a space, else no bytes. Each line is built in `line`, which is
+//! scratch, and passed to the sink `out` as a whole. If the sink fails, the result is `Failed`, and
+//! a prefix of the report was written. `walk` may add to the count `steps`, `frag` does not.
 ghost use Rattle.std.specs.Prelude.{◌≡◌, ◌≤◌, IsTrue, length};
 ghost use Rattle.cf_io.specs.Feeds.{Writes};
 ghost use Rattle.cf_model.specs.Answers.{classes_in, totals_in};
@@ -59,8 +60,8 @@ pub fn frag_line<H: Manager, K: Sink>(
     put_line(line, out)
 }
 
-/// For `walk`, writes the report on pages: a line for each class with live objects, then the line of totals, from
-/// `totals`, which the caller got from the heap.
+/// For `walk`, writes the report on pages: a line for each class with live objects, then a line
+/// with three of the `totals` of the heap.
 fn put_pages<H: Manager, K: Sink>(
     heap: &H,
     totals: &Totals,

@@ -12,16 +12,19 @@ use tag_blocks::Buckets;
 pub struct HalfFitBuckets;
 
 impl Buckets for HalfFitBuckets {
+    /// How many free lists Half-Fit has, for blocks of up to `2^23` words.
     const COUNT: u32 = half_fit::COUNT;
 
     ghost COUNT = { 24 };
 
     ghost rule = { half_fit_lists };
 
+    /// The number of the Half-Fit list for free blocks of `size` words.
     fn bucket(size: u32) -> u32 {
         half_fit::bucket_of(size)
     }
 
+    /// The number of the first Half-Fit list that is searched for `need` words.
     fn search(need: u32) -> u32 {
         half_fit::search_for(need)
     }

@@ -12,6 +12,7 @@ pub type HalfFitHeap = TagHeap<HalfFitBuckets>;
 impl FitPolicy for HalfFitBuckets {
     ghost kind = { HalfFit };
 
+    /// Returns the kind of manager with the free lists of Half-Fit.
     fn kind() -> Kind {
         Kind::HalfFit
     }

@@ -4,7 +4,7 @@ use Rattle.std.proofs.Common.{◌≡◌, ◌∙◌, ◌++◌, ◌+◌, ◌≤◌
 use Rattle.std.specs.Prelude.{Err, Ok}
 use Rattle.std.specs.FinMap.{get}
 use Rattle.std.proofs.lemmas.List.{take-append-drop, take_all}
-use Rattle.cf_base.specs.declared.answers.Failed.{Failed}
+use Rattle.cf_base.specs.declared.results.Failed.{Failed}
 use Rattle.cf_io.specs.Feeds.{SinkState, Writes, WritesAll}
 use Rattle.cf_io.proofs.CallerLemmas.{puts_cut, puts_same, puts_then, writes_more}
 use Rattle.cf_model.specs.State.{HeapState}

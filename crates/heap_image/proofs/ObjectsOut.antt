@@ -3,7 +3,7 @@
 use Rattle.std.proofs.Common.{◌≡◌, ◌∙◌, ◌++◌, ◌+◌, ◌-◌, ℕ, suc, List, [], Some, None, ap, sym, arith, append_assoc, append-nil}
 use Rattle.std.specs.Prelude.{Err, Ok}
 use Rattle.std.specs.FinMap.{entries, get}
-use Rattle.cf_base.specs.declared.answers.Failed.{Failed}
+use Rattle.cf_base.specs.declared.results.Failed.{Failed}
 use Rattle.cf_io.specs.Feeds.{SinkState, Writes, WritesAll}
 use Rattle.cf_io.proofs.CallerLemmas.{puts_cut, puts_same, puts_then, writes_none}
 use Rattle.id_table.specs.Ids.{AreWithin}

@@ -5,8 +5,8 @@ use Rattle.std.specs.Prelude.{Result, Err, Ok}
 use Rattle.std.specs.FinMap.{entries, len}
 use Rattle.std.specs.Int.{w16, w32}
 use Rattle.cf_base.specs.Settings.{Profile}
-use Rattle.cf_base.specs.declared.answers.Failed.{Failed}
-use Rattle.cf_base.specs.declared.answers.Totals.{Totals}
+use Rattle.cf_base.specs.declared.results.Failed.{Failed}
+use Rattle.cf_base.specs.declared.results.Totals.{Totals}
 use Rattle.cf_base.specs.declared.kind.Kind.{Kind}
 use Rattle.cf_base.specs.declared.kind.Kind.TheVariants.{Moving}
 use Rattle.cf_io.specs.Feeds.{SinkState, Writes, WritesAll}

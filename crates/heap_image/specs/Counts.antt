@@ -1,7 +1,7 @@
 -- How a load of an image changes the counters of a session: its step bound, and the objects and words that moved.
 use Rattle.std.specs.Prelude.{◌≡◌, ◌⊎◌, ◌+◌, ◌*◌, Bool, Result, Ok, Err, if◌then◌else◌, nat_lt}
 use Rattle.std.specs.FinMap.{len}
-use Rattle.cf_base.specs.declared.answers.Freed.{Freed}
+use Rattle.cf_base.specs.declared.results.Freed.{Freed}
 use Rattle.id_table.specs.Ids.{Ids}
 use Rattle.id_table.specs.Sessions.{RunState, SessionState, counted}
 use Rattle.heap_image.specs.Heaps.{live_objects}

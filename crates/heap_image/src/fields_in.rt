@@ -42,9 +42,9 @@ pub(crate) fn fill<S: Source>(source: &mut S, buffer: &mut [u8]) -> Filled
     Filled::Whole
 }
 
-/// Takes the next two bytes of the source as a number, the least significant first. Fails with `Bad` if the
-/// input ends within them, and with `Read` if the source failed. `at` is their offset in the image, which
-/// `Bad` shows.
+/// Takes the next two bytes of the source as a number, the least significant first. Fails with
+/// `Bad` if the input ends before the last of them, and with `Read` if the source failed. `at` is
+/// their offset in the image, which `Bad` shows.
 pub(crate) fn read_u16<S: Source>(source: &mut S, at: u64) -> Result<u16, LoadFault>
     ensures reads { ReadsNumber w16 at (feed_of (S.state source.old)) result (feed_of (S.state source.new)) }
     ensures source { SourceFailsIf (is_unread result) (S.state source.old) (S.state source.new) }
@@ -57,9 +57,9 @@ pub(crate) fn read_u16<S: Source>(source: &mut S, at: u64) -> Result<u16, LoadFa
     }
 }
 
-/// Takes the next four bytes of the source as a number, the least significant first. Fails with `Bad` if the
-/// input ends within them, and with `Read` if the source failed. `at` is their offset in the image, which
-/// `Bad` shows.
+/// Takes the next four bytes of the source as a number, the least significant first. Fails with
+/// `Bad` if the input ends before the last of them, and with `Read` if the source failed. `at` is
+/// their offset in the image, which `Bad` shows.
 pub(crate) fn read_u32<S: Source>(source: &mut S, at: u64) -> Result<u32, LoadFault>
     ensures reads { ReadsNumber w32 at (feed_of (S.state source.old)) result (feed_of (S.state source.new)) }
     ensures source { SourceFailsIf (is_unread result) (S.state source.old) (S.state source.new) }

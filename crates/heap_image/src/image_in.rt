@@ -1,4 +1,5 @@
-//! Loads an image from a source into a heap: opens the heap with the image's settings, then makes its objects.
+//! Loads an image from a source into a heap: opens the heap with the image's settings and bound 1,
+//! then makes its objects.
 ghost use Rattle.std.specs.Prelude.{◌≡◌, ◌+◌, ◌<◌, ◌≤◌, Err};
 ghost use Rattle.std.specs.FinMap as map;
 ghost use Rattle.cf_base.specs.declared.kind.Kind.TheVariants.{Moving};
@@ -20,15 +21,17 @@ use cf_io::Source;
 use cf_model::Manager;
 use id_table::Namer;
 
-/// Loads an image into a heap of kind Moving, however the source chunks its bytes, and returns the image's
-/// settings, with the bound 1. No id of `names` is live before.
+/// Loads an image into a heap of kind Moving, whatever chunks the source returns, and returns the
+/// image's settings, with the bound 1. `names` must have no live id before.
 ///
-/// After `Ok` the heap is open with these settings and holds the image's objects, `names` maps their ids to
-/// handles, and the source is at its end. Fails with `Read` only if the source failed; the bytes that the
-/// source returned before break no rule. Fails with `Bad` if the bytes are not an image; it takes no byte
-/// past the field that breaks a rule. After `Read` or `Bad` the heap is unchanged if the settings were not
-/// read, and else holds the objects of the whole entries that were read. Fails with `OutOfMemory` only when
-/// it opens the heap, after the 16 bytes of the mark and the settings; then the heap is closed.
+/// After `Ok` the heap is open with these settings and holds the image's objects, `names` maps
+/// their ids to handles, and the source is at its end. Fails with `Read` only if the source failed;
+/// the bytes that the source returned before break no rule. Fails with `Bad` if the bytes are not
+/// an image; it takes no byte past the field that breaks a rule, or one past the image. After
+/// `Read` or `Bad` the heap is unchanged if the settings were not read, and else holds the objects
+/// of the whole entries that were read. Fails with `OutOfMemory` only when it opens the heap, after
+/// the 16 bytes of the mark and the settings; then the heap is closed. Clause `counts` shows how
+/// the step bound and the moves that `names` stores change.
 pub fn load<S: Source, H: Manager, N: Namer>(
     source: &mut S,
     heap: &mut H,
@@ -56,9 +59,9 @@ pub fn load<S: Source, H: Manager, N: Namer>(
     }
 }
 
-/// Reads the number of objects at byte 16 of the image, then that many entries, and makes their objects in an
-/// open heap without objects. Checks that the source then ends. Fails as `load` does; a number of objects
-/// above `proxies` is `Bad`.
+/// Reads the number of objects at byte 16 of the image, then that many entries, and makes their
+/// objects in an open heap without objects. Checks that the source then ends. Fails with `Bad` or
+/// `Read` as `load` does; a number of objects above `proxies` is `Bad`.
 fn load_objects<S: Source, H: Manager, N: Namer>(
     source: &mut S,
     heap: &mut H,
@@ -84,8 +87,8 @@ fn load_objects<S: Source, H: Manager, N: Namer>(
     load_entries(source, heap, names, count)
 }
 
-/// Reads `count` entries, from byte 20 of the image on, and makes their objects in an open heap without
-/// objects. Checks that the source then ends. Fails as `load` does.
+/// Reads `count` entries, from byte 20 of the image on, and makes their objects in an open heap
+/// without objects. Checks that the source then ends. Fails with `Bad` or `Read` as `load` does.
 fn load_entries<S: Source, H: Manager, N: Namer>(
     source: &mut S,
     heap: &mut H,

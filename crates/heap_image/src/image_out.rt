@@ -1,4 +1,5 @@
-//! Saves a heap: writes its settings and its live objects as an image.
+//! Saves a heap: writes its settings but k and its live objects as an image. `meter` counts the
+//! steps of the heap's calls; the functions reset it.
 ghost use Rattle.std.specs.Prelude.{◌≡◌, ◌<◌, ◌*◌, IsTrue, Some, length};
 ghost use Rattle.std.specs.FinMap as map;
 ghost use Rattle.cf_base.specs.declared.kind.Kind.TheVariants.{Moving};
@@ -46,8 +47,10 @@ impl ObjectWriter for Entries {
     }
 }
 
-/// Writes the image of the live objects of the heap: the settings `s`, then the objects by rising id, each
-/// with its length and its bytes, in chunks of at most 4,096 bytes. `names` maps the ids to handles. Returns `Failed` only if the sink failed; then a prefix of the image was written.
+/// Writes the image of a heap of kind Moving: a mark, the settings `s` but k and the number of live
+/// objects, then the objects by rising id, each with its id, its length and its bytes. `names` maps
+/// the ids to handles. Returns `Failed` only if the sink failed; then a prefix of the image was
+/// written.
 pub fn save<H: Manager, N: Namer, K: Sink>(
     s: &Settings,
     heap: &H,
@@ -73,10 +76,10 @@ pub fn save<H: Manager, N: Namer, K: Sink>(
     put_objects(&Entries, heap, names, &mut line, out, meter)
 }
 
-/// Writes the 20 bytes that an image begins with: the mark `CFI1`, then four numbers of four bytes each. These
-/// are the pages, the bytes of a page and the proxies, by the settings `s`, and `live`, the number of live
-/// objects. `line` is the buffer in which the bytes are put together. Returns `Failed` only if the sink
-/// failed; then a prefix of the 20 bytes was written.
+/// Writes the 20 bytes that an image begins with: the mark `CFI1`, then four numbers of four bytes
+/// each, the least significant first. These are the pages, the bytes of a page and the proxies, by
+/// the settings `s`, and `live`, the number of live objects. `line` is scratch. Returns `Failed`
+/// only if the sink failed; then a prefix of the 20 bytes was written.
 fn put_header<K: Sink>(s: &Settings, live: u32, line: &mut Line, out: &mut K) -> Result<(), Failed>
     ensures { Writes (K.state out.old) (header_of s.now.pages (8 * s.now.page_words) s.now.proxies live)
         result (K.state out.new) }
@@ -90,8 +93,8 @@ fn put_header<K: Sink>(s: &Settings, live: u32, line: &mut Line, out: &mut K) ->
     put_all(out, line.bytes())
 }
 
-/// For an image, the length in bytes of the live object with the handle `h`: the upper half of its header, the word at
-/// its address.
+/// For an image or its script, the length in bytes of the live object with the handle `h`: the
+/// upper half of its header, the word at its address.
 pub fn length_of<H: Manager>(heap: &H, h: Handle, meter: &mut Meter) -> u32
     requires moving { (H.state heap.now).kind ≡ Moving }
     requires open { IsTrue (H.state heap.now).is_open }
@@ -110,9 +113,9 @@ pub fn length_of<H: Manager>(heap: &H, h: Handle, meter: &mut Meter) -> u32
     (header >> 32) as u32
 }
 
-/// For an image, writes the `n` bytes of the live object with the handle `h`, at most 4,096 at a time, through
-/// `buffer`.
-/// Returns `Failed` only if the sink failed; then a prefix of the bytes was written.
+/// For an image, writes the `n` bytes of the live object with the handle `h`, at most 4,096 at a
+/// time, through `buffer`. Returns `Failed` only if the sink failed; then a prefix of the bytes was
+/// written.
 fn put_bytes<H: Manager, K: Sink>(
     heap: &H,
     h: Handle,

@@ -1,4 +1,5 @@
-//! `Names`: a `Namer` for a program that has no session of a script.
+//! `Names`: a `Namer` (which makes, writes and frees objects by ids) for a program that has no
+//! session of a script.
 ghost use Rattle.std.specs.Prelude.{◌≡◌, IfOk};
 ghost use Rattle.id_table.specs.Sessions.{fresh_session};
 
@@ -10,8 +11,8 @@ use std::marker::Model;
 use std::rt::Memory;
 use step_ledger::Meter;
 
-/// The live ids of a program's objects with their handles, the counters of its calls, and the meter that owns
-/// the count of their steps.
+/// The live ids of a program's objects with their handles, counters (the step bound of the last
+/// malloc or free, the moves, and the words moved), and the meter that owns the count of steps.
 #[derive(Drop)]
 pub struct Names {
     ids: IdTable,
@@ -35,7 +36,8 @@ impl Model for Names {
 }
 
 impl Names {
-    /// Names without a live id. Allocates the table of all 65,536 ids; fails only if memory runs out.
+    /// Names without a live id; `memory` makes the meter. Allocates the table of all 65,536 ids;
+    /// fails only if memory runs out.
     pub fn new(memory: Memory, alloc: Global) -> Result<Names, OutOfMemory>
         ensures { IfOk result (λ names. names ≡ fresh_session) }
     {
@@ -50,10 +52,13 @@ impl Names {
 impl Namer for Names {
     ghost state = { λ names. names };
 
+    /// `Names`: the handle of the object that an id names; none if the id isn't live.
     fn handle(&self, id: u16) -> Option<Handle> {
         self.ids.handle(id)
     }
 
+    /// `Names`: makes an object of `bytes` zero bytes for an id that isn't live. Returns false, and
+    /// makes none, if the manager refuses. Counts the steps from 0; sets the step bound.
     fn malloc<H: Manager>(&mut self, heap: &mut H, id: u16, bytes: u32) -> bool {
         self.meter.lap();
         self.counters.bound = MALLOC_BOUND;
@@ -66,6 +71,8 @@ impl Namer for Names {
         }
     }
 
+    /// `Names`: writes `bytes` into the object of a live id, from byte `at` on. Counts the steps
+    /// from 0.
     fn write<H: Manager>(&mut self, heap: &mut H, id: u16, at: u32, bytes: &[u8]) {
         let Some(h) = self.ids.handle(id) else {
             unreachable!();
@@ -77,6 +84,8 @@ impl Namer for Names {
         }
     }
 
+    /// `Names`: frees the object of a live id, and counts the object that the free moves, if any.
+    /// Counts the steps from 0; sets the step bound.
     fn free<H: Manager>(&mut self, heap: &mut H, id: u16) {
         let Some(h) = self.ids.handle(id) else {
             unreachable!();

@@ -28,9 +28,10 @@ pub(crate) struct Entry {
     pub length: u32,
 }
 
-/// Reads the next entry of the image's source and makes its object. The id must be at least `next`; `at` is the offset
-/// of the entry in the image, and `buffer` takes up to 4,096 bytes of the object at a time. Fails with `Bad` or `Read`
-/// as `load` does, and then the heap holds the same objects as before.
+/// Reads the next entry of the image's source and makes its object. An id below `next` breaks a
+/// rule; `at` is the offset of the entry in the image, and `buffer` takes up to 4,096 bytes of the
+/// object at a time. Fails with `Bad` if a field breaks a rule or is cut by the end, and with
+/// `Read` if the source failed; then the heap holds the same objects as before.
 ///
 /// In clause `entry`, `go` is any function that decodes the bytes after the entry.
 pub(crate) fn read_entry<S: Source, H: Manager, N: Namer>(
@@ -64,9 +65,9 @@ pub(crate) fn read_entry<S: Source, H: Manager, N: Namer>(
     read_object(source, heap, names, id, next, at, buffer)
 }
 
-/// Reads what follows the id of an entry, the length and the bytes of its object, and makes the object under
-/// this `id`. The other parameters are those of `read_entry`: `at` is still the offset of the entry, so the
-/// length is at `at + 2`. Fails as `read_entry` does.
+/// Reads the length and the bytes of an entry's object, which follow its `id`, and makes the object.
+/// The other parameters are those of `read_entry`, such as `at`, the offset of the entry. Fails as
+/// `read_entry` does.
 fn read_object<S: Source, H: Manager, N: Namer>(
     source: &mut S,
     heap: &mut H,

@@ -1,5 +1,5 @@
-//! Visits the live objects of a heap by rising id, and writes each with an `ObjectWriter`: mode `save` as an
-//! entry of an image, mode `load` as lines of a script.
+//! Visits the live objects of a heap by rising id, and writes each with an `ObjectWriter`: as an
+//! entry of an image, or in mode `load` as lines of a script.
 ghost use Rattle.std.specs.Prelude.{◌≡◌, ℕ, List, IsTrue, Some, length};
 ghost use Rattle.std.specs.FinMap as map;
 ghost use Rattle.cf_base.specs.declared.kind.Kind.TheVariants.{Moving};

@@ -40,7 +40,7 @@ fn is_mark(bytes: &[u8]) -> bool
     bytes == b"CFI1".as_slice()
 }
 
-/// Whether an image's heap may have `pages` pages: 1 to 4,096.
+/// Whether the heap of an image may have this number of pages: 1 to 4,096.
 fn are_pages(pages: u32) -> bool
     ensures { result ≡ is_within 1 4096 pages }
 {
@@ -80,8 +80,8 @@ fn read_page_bytes<S: Source>(source: &mut S, pages: u32) -> Result<Settings, Lo
     }
 }
 
-/// Reads the number of proxies at byte 12 of the image, and returns the settings; `pages` and `page_bytes`
-/// were read before it. Fails as `read_settings` does.
+/// Reads the number of proxies at byte 12 of the image, and returns the settings; `pages` and
+/// `page_bytes` were read before. Fails as `read_settings` does.
 fn read_proxies<S: Source>(
     source: &mut S,
     pages: u32,

@@ -2,7 +2,7 @@
 use Rattle.std.proofs.Common.{◌≡◌, ◌≢◌, ℕ, pos, true, false, Option, Some, None, refl, sym, ap, ◌∙◌, ◌≤◌, arith, lt-ltb, ne_eqb}
 use Rattle.std.specs.Prelude.{is_some, nat_eq, nat_lt}
 use Rattle.std.specs.FinMap.{len}
-use Rattle.cf_base.specs.declared.answers.Totals.{Totals}
+use Rattle.cf_base.specs.declared.results.Totals.{Totals}
 use Rattle.cf_model.specs.Answers.{block_totals, class_with, totals_in, with_bound}
 use Rattle.cf_model.specs.Families.{Family, IsPaged, paged, tiled}
 use Rattle.cf_model.specs.Rules.{KeepsRules}

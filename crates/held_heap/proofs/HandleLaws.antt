@@ -3,16 +3,16 @@ use Rattle.std.proofs.Common.{◌≡◌, ℕ, ℤ, pos, List, Option, Some, None
 use Rattle.std.specs.Prelude.{Result, Ok, Err}
 use Rattle.std.specs.FinMap.{get}
 use Rattle.cf_base.specs.Settings.{Profile}
-use Rattle.cf_base.specs.declared.answers.AccessFault.{AccessFault}
-use Rattle.cf_base.specs.declared.answers.AccessFault.TheVariants as access
-use Rattle.cf_base.specs.declared.answers.Freed.{Freed}
-use Rattle.cf_base.specs.declared.answers.Handle.{Handle}
-use Rattle.cf_base.specs.declared.answers.NotLive.{NotLive}
-use Rattle.cf_base.specs.declared.answers.Refusal.{Refusal}
-use Rattle.cf_base.specs.declared.answers.Refusal.TheVariants as refusal
-use Rattle.cf_base.specs.declared.answers.Resized.{Resized}
-use Rattle.cf_base.specs.declared.answers.ResizeFault.{ResizeFault}
-use Rattle.cf_base.specs.declared.answers.ResizeFault.TheVariants as resize
+use Rattle.cf_base.specs.declared.results.AccessFault.{AccessFault}
+use Rattle.cf_base.specs.declared.results.AccessFault.TheVariants as access
+use Rattle.cf_base.specs.declared.results.Freed.{Freed}
+use Rattle.cf_base.specs.declared.results.Handle.{Handle}
+use Rattle.cf_base.specs.declared.results.NotLive.{NotLive}
+use Rattle.cf_base.specs.declared.results.Refusal.{Refusal}
+use Rattle.cf_base.specs.declared.results.Refusal.TheVariants as refusal
+use Rattle.cf_base.specs.declared.results.Resized.{Resized}
+use Rattle.cf_base.specs.declared.results.ResizeFault.{ResizeFault}
+use Rattle.cf_base.specs.declared.results.ResizeFault.TheVariants as resize
 use Rattle.cf_base.specs.declared.kind.Kind.{Kind}
 use Rattle.cf_model.specs.Answers.{with_bound}
 use Rattle.cf_model.specs.Rules.{KeepsRules}
@@ -27,8 +27,8 @@ use Rattle.held_heap.specs.HandleRules.{IsNewHandle, KeepsHandles}
 use Rattle.c_base.specs.Handles.{none, raised_by}
 use Rattle.held_heap.specs.HeldState.{HeldState}
 use Rattle.c_base.specs.Shown.{found_code, found_number, freed_shown, malloc_number}
-use Rattle.c_base.specs.declared.answers.NphFreed.{NphFreed}
-use Rattle.c_base.specs.declared.answers.NphResized.{NphResized}
+use Rattle.c_base.specs.declared.results.NphFreed.{NphFreed}
+use Rattle.c_base.specs.declared.results.NphResized.{NphResized}
 use Rattle.c_base.proofs.CallerLemmas.{new_handle, no_number, same_handles}
 use Rattle.held_heap.proofs.SettingsStay.{settings}
 

@@ -4,12 +4,12 @@ use Rattle.std.proofs.lemmas.Bool.{eqb-true}
 use Rattle.std.specs.Prelude.{Result, Ok, Err, if◌then◌else◌, nat_eq, nat_lt}
 use Rattle.std.specs.FinMap.{empty_of_len, get, insert, len}
 use Rattle.cf_base.specs.Settings.{Profile}
-use Rattle.cf_base.specs.declared.answers.Handle.{Handle}
-use Rattle.cf_base.specs.declared.answers.Refusal.{Refusal}
-use Rattle.cf_base.specs.declared.answers.Refusal.TheVariants as refusal
-use Rattle.cf_base.specs.declared.answers.Resized.{Resized}
-use Rattle.cf_base.specs.declared.answers.ResizeFault.{ResizeFault}
-use Rattle.cf_base.specs.declared.answers.ResizeFault.TheVariants as resize
+use Rattle.cf_base.specs.declared.results.Handle.{Handle}
+use Rattle.cf_base.specs.declared.results.Refusal.{Refusal}
+use Rattle.cf_base.specs.declared.results.Refusal.TheVariants as refusal
+use Rattle.cf_base.specs.declared.results.Resized.{Resized}
+use Rattle.cf_base.specs.declared.results.ResizeFault.{ResizeFault}
+use Rattle.cf_base.specs.declared.results.ResizeFault.TheVariants as resize
 use Rattle.cf_base.specs.declared.kind.Kind.{Kind}
 use Rattle.cf_model.specs.Answers.{class_with, with_bound}
 use Rattle.cf_model.specs.Bounds.{Bounds}
@@ -18,7 +18,7 @@ use Rattle.cf_model.specs.State.{HeapState, layout_of}
 use Rattle.cf_model.specs.Steps.{IsMallocStep, IsResizeStep, Position}
 use Rattle.page_model.specs.Held.{Placed, objects}
 use Rattle.page_model.specs.Steps.{Request, resized}
-use Rattle.quota_model.specs.declared.answers.Need.{Need}
+use Rattle.quota_model.specs.declared.results.Need.{Need}
 use Rattle.sizing.specs.Demands.{KeepsTo}
 use Rattle.sizing.specs.Heaps.{AnsweredCall, HeapRun, IsFresh, Leads, free_with, malloc_with, resize_with, write_with}
 use Rattle.held_heap.specs.Bound.{IsBoundCall, bound_code, class_with_bound}
@@ -27,7 +27,7 @@ use Rattle.c_base.specs.Codes.{malloc_code, resize_code}
 use Rattle.c_base.specs.Handles.{number_in}
 use Rattle.held_heap.specs.HeldState.{HeldState}
 use Rattle.held_heap.specs.PagesNeeded.{AreLeastPages, CCall, CallRun, bound_call, free_call, malloc_call, other_call, resize_call, write_call}
-use Rattle.c_base.specs.declared.answers.NphResized.{NphResized}
+use Rattle.c_base.specs.declared.results.NphResized.{NphResized}
 use Rattle.held_heap.proofs.SettingsStay.{free_settings, malloc_settings, resize_settings, settings, write_settings}
 
 -- the kind and the settings of a heap with pages

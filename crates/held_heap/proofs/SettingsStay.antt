@@ -2,13 +2,13 @@
 use Rattle.std.proofs.Common.{◌≡◌, ℕ, List, Option, Some, None, refl, ap}
 use Rattle.std.specs.Prelude.{Result, Ok, Err}
 use Rattle.cf_base.specs.Settings.{Profile}
-use Rattle.cf_base.specs.declared.answers.AccessFault.{AccessFault}
-use Rattle.cf_base.specs.declared.answers.Freed.{Freed}
-use Rattle.cf_base.specs.declared.answers.Handle.{Handle}
-use Rattle.cf_base.specs.declared.answers.NotLive.{NotLive}
-use Rattle.cf_base.specs.declared.answers.Refusal.{Refusal}
-use Rattle.cf_base.specs.declared.answers.Resized.{Resized}
-use Rattle.cf_base.specs.declared.answers.ResizeFault.{ResizeFault}
+use Rattle.cf_base.specs.declared.results.AccessFault.{AccessFault}
+use Rattle.cf_base.specs.declared.results.Freed.{Freed}
+use Rattle.cf_base.specs.declared.results.Handle.{Handle}
+use Rattle.cf_base.specs.declared.results.NotLive.{NotLive}
+use Rattle.cf_base.specs.declared.results.Refusal.{Refusal}
+use Rattle.cf_base.specs.declared.results.Resized.{Resized}
+use Rattle.cf_base.specs.declared.results.ResizeFault.{ResizeFault}
 use Rattle.cf_base.specs.declared.kind.Kind.{Kind}
 use Rattle.cf_base.specs.declared.kind.Kind.TheVariants.{Moving, NonMoving, Tlsf, HalfFit}
 use Rattle.cf_model.specs.Answers.{with_bound}

@@ -1,14 +1,14 @@
--- For `Held`: what each call of a C library does to an open heap with its step count (`old`, `new`) and to the caller's number, structure or buffer (`before`,
--- `after`), and the `code` that it returns.
+-- For `Held`: what a call of a C library (others are in `Bound`, `Slots` and `Walk`) does to an open heap with its step count (`old`, `new`) and to the caller's
+-- number, structure or buffer (`before`, `after`), and the `code` that it returns.
 use Rattle.std.specs.Prelude.{◌≡◌, ℕ, ℤ, pos, List, Option, Some, Result, Ok, Err, length}
 use Rattle.cf_base.specs.Settings.{Profile}
-use Rattle.cf_base.specs.declared.answers.Handle.{Handle}
-use Rattle.cf_base.specs.declared.answers.Freed.{Freed}
-use Rattle.cf_base.specs.declared.answers.NotLive.{NotLive}
-use Rattle.cf_base.specs.declared.answers.Refusal.{Refusal}
-use Rattle.cf_base.specs.declared.answers.AccessFault.{AccessFault}
-use Rattle.cf_base.specs.declared.answers.Resized.{Resized}
-use Rattle.cf_base.specs.declared.answers.ResizeFault.{ResizeFault}
+use Rattle.cf_base.specs.declared.results.Handle.{Handle}
+use Rattle.cf_base.specs.declared.results.Freed.{Freed}
+use Rattle.cf_base.specs.declared.results.NotLive.{NotLive}
+use Rattle.cf_base.specs.declared.results.Refusal.{Refusal}
+use Rattle.cf_base.specs.declared.results.AccessFault.{AccessFault}
+use Rattle.cf_base.specs.declared.results.Resized.{Resized}
+use Rattle.cf_base.specs.declared.results.ResizeFault.{ResizeFault}
 use Rattle.cf_base.specs.declared.kind.Kind.{Kind}
 use Rattle.cf_model.specs.Answers.{figures_in, place_of, totals_in}
 use Rattle.cf_model.specs.Bounds.{Bounds, ByOwn}
@@ -24,14 +24,14 @@ use Rattle.c_base.specs.Handles.{moved_handle, number_in, raised_by}
 use Rattle.c_base.specs.Shown.{figures_shown, found_code, found_number, freed_shown, malloc_number, totals_shown}
 use Rattle.held_heap.specs.Counts.{free_counts, free_left, malloc_counts, opening_counts, resize_counts}
 use Rattle.held_heap.specs.HeldState.{HeldState}
-use Rattle.c_base.specs.declared.answers.NphClass.{NphClass}
-use Rattle.c_base.specs.declared.answers.NphCounted.{NphCounted}
-use Rattle.c_base.specs.declared.answers.NphFreed.{NphFreed}
-use Rattle.c_base.specs.declared.answers.NphResized.{NphResized}
-use Rattle.c_base.specs.declared.answers.NphHeapTotals.{NphHeapTotals}
+use Rattle.c_base.specs.declared.results.NphClass.{NphClass}
+use Rattle.c_base.specs.declared.results.NphCounted.{NphCounted}
+use Rattle.c_base.specs.declared.results.NphFreed.{NphFreed}
+use Rattle.c_base.specs.declared.results.NphResized.{NphResized}
+use Rattle.c_base.specs.declared.results.NphHeapTotals.{NphHeapTotals}
 
 -- `new` is a heap that was just opened with the settings p: it has no objects, its pages, numbers and blocks are in the opening order, its count of steps is 0, its handles
--- are larger than `last`, and it has counted nothing else
+-- are larger than `last` or begin at 0 if too few are larger (`AreFirstHandles`), and it has counted nothing else
 pub record IsFreshHeap (kind : Kind) (p : Profile) (last : ℕ) (new : HeldState) : Type 0 where
   pub words : IsOpeningWords kind p new.heap.words
   pub whole : new.heap ≡ ordered_heap kind p new.heap.words (Some (opening_order kind p))
@@ -117,7 +117,7 @@ pub record IsLengthCall (of_kind : Kind) (old : HeldState) (handle before : ℕ)
   pub counts : new.counts ≡ old.counts
   pub exact : RoseBy 0 new.steps (length_steps old.heap.kind (length_of old.heap (number_in old.handles handle)))
 
--- a call for the address of the object that `handle` names, in words from the start of the region; the heap is unchanged
+-- a call for the address, in words, of the object that `handle` names; the heap is unchanged
 pub record IsPlaceCall (old : HeldState) (handle before : ℕ) (code : ℤ) (after : ℕ) (new : HeldState) : Type 0 where
   pub by_code : code ≡ found_code (place_of old.heap (number_in old.handles handle))
   pub by_place : after ≡ found_number (place_of old.heap (number_in old.handles handle)) before
@@ -142,7 +142,7 @@ pub record IsRoomCall (most : Option Bounds) (old : HeldState) (bytes : ℕ) (co
   pub bound : ByOwn most (λ b. RoseAtMost 0 new.steps (b.room answer))
   pub exact : ByOwn most (λ b. RoseBy 0 new.steps (b.room_exact old.heap bytes answer))
 
--- a call for the figures of a class; it changes nothing, and counts no steps: `steps` is still that of the call before
+-- a call for the figures of a class; the state is unchanged, steps included
 pub record IsFiguresCall (old : HeldState) (class : ℕ) (before : NphClass) (code : ℤ) (after : NphClass) (new : HeldState) : Type 0 where
   pub by_code : code ≡ found_code (figures_in old.heap class)
   pub by_figures : after ≡ figures_shown (figures_in old.heap class) before
@@ -158,13 +158,13 @@ pub record IsTotalsCall (most : Option Bounds) (old : HeldState) (code : ℤ) (a
   pub bound : ByOwn most (λ b. RoseAtMost 0 new.steps (b.totals (totals_in old.heap.kind old.heap)))
   pub exact : ByOwn most (λ b. RoseBy 0 new.steps (b.totals_exact old.heap))
 
--- a call of `last_steps`: it returns the steps of the last call that counts them, and changes nothing
+-- a call of `last_steps`: it writes the steps of the last call that counts them; the state is unchanged, steps included
 pub record IsStepsCall (old : HeldState) (code : ℤ) (after : ℕ) (new : HeldState) : Type 0 where
   pub by_code : code ≡ pos 0
   pub by_steps : after ≡ old.steps
   pub kept : new ≡ old
 
--- a call for the counts; it changes nothing, and counts no steps
+-- a call for the counts; the state is unchanged, steps included
 pub record IsCountsCall (old : HeldState) (code : ℤ) (after : NphCounted) (new : HeldState) : Type 0 where
   pub by_code : code ≡ pos 0
   pub by_counts : after ≡ old.counts

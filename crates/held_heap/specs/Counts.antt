@@ -1,18 +1,18 @@
 -- For `Held`: what it counts from the opening on, and the counts after each call that changes them.
 use Rattle.std.specs.Prelude.{ℕ, ◌+◌, ◌-◌, ◌^◌, Option, Some, None, Result, Ok, Err, max, min}
-use Rattle.cf_base.specs.declared.answers.Freed.{Freed}
-use Rattle.cf_base.specs.declared.answers.Handle.{Handle}
-use Rattle.cf_base.specs.declared.answers.NotLive.{NotLive}
-use Rattle.cf_base.specs.declared.answers.Refusal.{Refusal}
-use Rattle.cf_base.specs.declared.answers.Refusal.TheVariants as refusal
-use Rattle.cf_base.specs.declared.answers.Resized.{Resized}
-use Rattle.cf_base.specs.declared.answers.ResizeFault.{ResizeFault}
-use Rattle.cf_base.specs.declared.answers.ResizeFault.TheVariants as resize
+use Rattle.cf_base.specs.declared.results.Freed.{Freed}
+use Rattle.cf_base.specs.declared.results.Handle.{Handle}
+use Rattle.cf_base.specs.declared.results.NotLive.{NotLive}
+use Rattle.cf_base.specs.declared.results.Refusal.{Refusal}
+use Rattle.cf_base.specs.declared.results.Refusal.TheVariants as refusal
+use Rattle.cf_base.specs.declared.results.Resized.{Resized}
+use Rattle.cf_base.specs.declared.results.ResizeFault.{ResizeFault}
+use Rattle.cf_base.specs.declared.results.ResizeFault.TheVariants as resize
 use Rattle.cf_model.specs.Answers.{usage_in}
 use Rattle.cf_model.specs.Families.{family_of, paged, tiled}
 use Rattle.cf_model.specs.State.{HeapState, paging_in}
 use Rattle.page_model.specs.Arrangement.{free_pages}
-use Rattle.c_base.specs.declared.answers.NphCounted.{NphCounted}
+use Rattle.c_base.specs.declared.results.NphCounted.{NphCounted}
 
 -- the free pages; with blocks, the bytes outside used blocks
 abbrev pub free_left : HeapState → ℕ

@@ -8,6 +8,6 @@ use Rattle.held_heap.specs.HeldState.{HeldState}
 abbrev pub KeepsHandles : HeldState → Type 0
 KeepsHandles h = HasHandles (KeepsRules h.heap) h.heap.profile.proxies h.handles
 
--- a malloc that leads from `old` to `new` gives this handle: it names the new object, whose number had no object, and is less than `none`
+-- a malloc that leads from `old` to `new` gives this handle: it names, before and after, a number that had no object before, and is less than `none`
 abbrev pub IsNewHandle : HeldState → ℕ → HeldState → Type 0
 IsNewHandle old handle new = IsNewOf old.heap.held old.handles handle new.handles

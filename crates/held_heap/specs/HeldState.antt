@@ -1,8 +1,8 @@
 -- For `Held`, an open heap with the step count of its last call and the handles that C has: its state, as contracts see it.
 use Rattle.std.specs.Prelude.{◌≡◌, ℕ, List, IsTrue, refl}
 use Rattle.std.specs.Coded.{Coded, code_by, coded×, coded_list, coded_ℕ}
-use Rattle.c_base.specs.contracts.answers.NphCounted as counts
-use Rattle.c_base.specs.declared.answers.NphCounted.{NphCounted}
+use Rattle.c_base.specs.contracts.results.NphCounted as counts
+use Rattle.c_base.specs.declared.results.NphCounted.{NphCounted}
 use Rattle.cf_base.specs.declared.kind.Kind.{Kind}
 use Rattle.cf_model.specs.State.{HeapState, state_code}
 

@@ -1,4 +1,4 @@
--- What a borrow of all words of the region of an open heap with blocks leaves.
+-- The open heap with blocks that a borrow of all its region's words leaves.
 use Rattle.std.specs.Prelude.{ℕ, List, Option}
 use Rattle.std.specs.Borrow.{Fml, Lends, MutBor, u64, Array}
 use Rattle.std.specs.contracts.option.Option.{the_row as option_row}

@@ -1,4 +1,4 @@
--- The memory that `nph_open` asks for, as `nph_bytes_needed` writes it for a caller in C.
+-- The memory that opening a heap asks for, as a call writes it for a caller in C.
 use Rattle.std.specs.Prelude.{ℕ, ℤ, ◌*◌}
 use Rattle.cf_base.specs.Needed.{both, one_block}
 use Rattle.cf_base.specs.Settings.{Profile, profile_from, setting_fault}
@@ -8,7 +8,7 @@ use Rattle.cf_base.specs.declared.needed.BytesNeeded.{BytesNeeded}
 use Rattle.paged_heap.specs.Needed.{paged_bytes}
 use Rattle.tag_heap.specs.Needed.{tag_bytes}
 use Rattle.c_base.specs.Needed.{AreNeeded, IsOfHandles}
-use Rattle.c_base.specs.declared.answers.NphNeeded.{NphNeeded}
+use Rattle.c_base.specs.declared.results.NphNeeded.{NphNeeded}
 
 -- what an open manager of each kind asks for
 abbrev pub manager_bytes : Kind → Profile → BytesNeeded

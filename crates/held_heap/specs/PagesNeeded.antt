@@ -1,4 +1,4 @@
--- How many pages a program needs, as `nph_pages_needed` writes it for a caller in C.
+-- How many pages a program needs, as a call writes it for a caller in C, and calls that keep to the needs.
 use Rattle.std.specs.Prelude.{◌≡◌, ℕ, ℤ, pos, ◌/◌, ◌<◌, ◌≤◌, ◌⊎◌, List, [], ◌∷◌, Option}
 use Rattle.std.specs.FinMap.{empty}
 use Rattle.cf_base.specs.Classes.{sizes}
@@ -8,18 +8,18 @@ use Rattle.cf_model.specs.State.{HeapState, layout_of}
 use Rattle.page_model.specs.Held.{objects}
 use Rattle.page_model.specs.Paging.{IsPaging, Paging}
 use Rattle.quota_model.specs.Admission.{declared_in_all}
-use Rattle.quota_model.specs.declared.answers.Need.{Need}
+use Rattle.quota_model.specs.declared.results.Need.{Need}
 use Rattle.sizing.specs.Demands.{KeepsTo}
 use Rattle.sizing.specs.Heaps.{IsFresh, ServesHeapMallocs, ServesHeapResizes}
-use Rattle.sizing.specs.Needs.{HasFault}
+use Rattle.sizing.specs.Needs.{HasFault, HasNoFault}
 use Rattle.sizing.specs.Runs.{CanBeRefused}
 use Rattle.sizing.specs.declared.by_numbers.NeedsFault.{NeedsFault}
 use Rattle.held_heap.specs.Bound.{IsBoundCall}
 use Rattle.held_heap.specs.Calls.{IsFreeCall, IsMallocCall, IsResizeCall, IsWriteCall}
 use Rattle.held_heap.specs.Codes.{needs_code}
 use Rattle.held_heap.specs.HeldState.{HeldState}
-use Rattle.c_base.specs.declared.answers.NphFreed.{NphFreed}
-use Rattle.c_base.specs.declared.answers.NphResized.{NphResized}
+use Rattle.c_base.specs.declared.results.NphFreed.{NphFreed}
+use Rattle.c_base.specs.declared.results.NphResized.{NphResized}
 
 -- With so many pages of `page_bytes` bytes a fresh heap with slots of this layout, whatever its bounds, refuses no malloc (`mallocs`) and no resize (`resizes`)
 -- for space while the program keeps to its needs; with fewer a malloc of some such program is refused (`least`). The needs declare at most 65,536 objects.
@@ -32,17 +32,17 @@ pub record AreLeastPages (layout : Layout) (page_bytes : ℕ) (needs : List Need
       → CanBeRefused p (KeepsTo needs) empty
   pub proxies : declared_in_all needs ≤ 65536
 
--- why there is no number, with the caller's number before and after
+-- a refusal: its cause, the first that holds, and code, with the caller's number before and after
 pub record IsPagesRefusal (page_bytes k : ℕ) (needs : List Need) (code : ℤ) (before after : ℕ) : Type 0 where
   pub cause : NeedsFault
   pub fault : HasFault page_bytes k needs cause
   pub by_code : code ≡ needs_code cause
   pub same : after ≡ before
 
--- a call for the pages of a program with these needs: code 0 and the least number, or a refusal
+-- a call for the pages of a program with these needs: code 0 and the least number if no cause of a refusal holds, or a refusal
 abbrev pub IsPagesCall : Layout → ℕ → ℕ → List Need → ℤ → ℕ → ℕ → Type 0
 IsPagesCall layout page_bytes k needs code before after =
-    ((code ≡ pos 0) × AreLeastPages layout page_bytes needs after) ⊎ IsPagesRefusal page_bytes k needs code before after
+    ((code ≡ pos 0) × HasNoFault page_bytes k needs × AreLeastPages layout page_bytes needs after) ⊎ IsPagesRefusal page_bytes k needs code before after
 
 -- a call in C on an open heap, with what the caller has before and after it; `other_call` is one that leaves the manager's heap as it is
 pub data CCall : Type 0 where

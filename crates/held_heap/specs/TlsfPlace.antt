@@ -2,8 +2,8 @@
 use Rattle.std.specs.Borrow.{Fml, Lends, MutBor}
 use Rattle.c_base.specs.CallerHeap.{CallerHeap}
 use Rattle.c_base.specs.Place as base
-use Rattle.c_base.specs.contracts.heap.LendableHeap.{the_row as heap_row}
-use Rattle.c_base.specs.declared.heap.LendableHeap.{LendableHeap}
+use Rattle.c_base.specs.contracts.lendable.LendableHeap.{the_row as heap_row}
+use Rattle.c_base.specs.declared.lendable.LendableHeap.{LendableHeap}
 use Rattle.held_heap.specs.HeldState.{HeldState}
 use Rattle.held_heap.specs.Tag.{loose_heap}
 use Rattle.held_heap.specs.Tlsf.{open_heap}

@@ -1,7 +1,7 @@
 -- For `Held`: a walk over the live objects, by rising number.
 use Rattle.std.specs.Prelude.{◌≡◌, ℕ, ℤ, pos, ◌+◌, ◌-◌, ◌<◌, ◌≤◌, Option, Some, None, if◌then◌else◌, length, nat_eq, option_map}
 use Rattle.std.specs.FinMap.{get}
-use Rattle.cf_base.specs.declared.answers.Handle.{Handle}
+use Rattle.cf_base.specs.declared.results.Handle.{Handle}
 use Rattle.page_model.specs.Held.{Held, Placed}
 use Rattle.step_ledger.specs.Counting.{RoseBy}
 use Rattle.c_base.specs.Handles.{moved_handle, none, number_in}
@@ -33,7 +33,7 @@ walk_from s handle =
 abbrev pub lookup_steps : ℕ → ℕ
 lookup_steps handle = if nat_eq handle none then 0 else 1
 
--- a call for the next object where the walk looks from this number on: code 0, and its handle, or `none` after the last. Where there is no number, the code is 4
+-- a call for the next object where the walk looks from this number on: code 0, and its handle, or `none` after the last. If there is no such number, the code is 4
 -- (`UNKNOWN`)
 abbrev pub IsNextFrom : Option ℕ → HeldState → ℕ → ℕ → ℤ → ℕ → ℕ → Type 0
 IsNextFrom (Some from) s handle before code after steps =

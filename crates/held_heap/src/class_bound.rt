@@ -8,9 +8,10 @@ use paged_heap::{PageKind, PagedHeap};
 use step_ledger::Meter;
 
 impl<A: PageKind> Held<PagedHeap<A>> {
-    /// For C, sets to `k`, 1 to 64, how many pages of the class with slots of `slot_words` words may be partly full.
-    /// Returns `DONE`; `BOUND` if k is out of range, `LIVE` if an object is live, or `UNKNOWN` if no class has such
-    /// slots. Counts no steps.
+    /// For C, sets to `k`, 1 to 64, how many pages of the class with slots of `slot_words` words
+    /// may be partly full. Returns `DONE`; else, with nothing changed, `BOUND` if k is out of
+    /// range, `LIVE` if an object is live, or `UNKNOWN` if no class has such slots. Counts no
+    /// steps.
     pub fn set_bound(&mut self, slot_words: u32, k: u32) -> i32
         ensures { IsBoundCall self.old slot_words k result self.new }
     {

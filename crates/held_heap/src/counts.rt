@@ -10,14 +10,15 @@ use crate::of_kind::OfKind;
 use c_base::{DONE, NphCounted};
 use cf_base::{Handle, Refusal, ResizeFault};
 
-/// For C, counts one more, but at most `2^64 - 1`.
+/// Adds one to a count for C, which stops at `2^64 - 1`.
 pub(crate) fn count(n: &mut u64)
     ensures { n.new ≡ next_count n.old }
 {
     *n = n.saturating_add(1);
 }
 
-/// For C, counts the bytes asked for and what is free in the heap as it now is.
+/// For C, raises `most_asked` to the bytes that the heap's live objects ask for, if these are more,
+/// and lowers `least_free` to what is free, if that is less.
 pub(crate) fn count_peaks<H: OfKind>(heap: &H, counts: &mut NphCounted)
     requires { IsOpenOfKind H.of_kind (H.state heap.now) }
     ensures { counts.new ≡ with_peaks counts.old (H.state heap.now) }
@@ -32,7 +33,7 @@ pub(crate) fn count_peaks<H: OfKind>(heap: &H, counts: &mut NphCounted)
     }
 }
 
-/// For C, counts a move, if an object moved.
+/// For C, counts a move if another object moved.
 pub(crate) fn count_move(counts: &mut NphCounted, moved: Option<Handle>)
     ensures { counts.new ≡ counted_move counts.old moved }
 {
@@ -41,7 +42,7 @@ pub(crate) fn count_move(counts: &mut NphCounted, moved: Option<Handle>)
     }
 }
 
-/// For C, counts a resize that succeeded: as `count_peaks` and `count_move`.
+/// After a resize that succeeded, counts for C the peaks and a move (`count_peaks`, `count_move`).
 pub(crate) fn count_resized<H: OfKind>(heap: &H, counts: &mut NphCounted, moved: Option<Handle>)
     requires { IsOpenOfKind H.of_kind (H.state heap.now) }
     ensures { counts.new ≡ counted_move (with_peaks counts.old (H.state heap.now)) moved }
@@ -50,7 +51,7 @@ pub(crate) fn count_resized<H: OfKind>(heap: &H, counts: &mut NphCounted, moved:
     count_move(counts, moved);
 }
 
-/// For C, counts a refused malloc.
+/// For C, counts a refused malloc by its cause.
 pub(crate) fn count_refusal(counts: &mut NphCounted, cause: Refusal)
     ensures { (s : HeapState) → counts.new ≡ malloc_counts counts.old (Err cause) s }
 {
@@ -61,11 +62,12 @@ pub(crate) fn count_refusal(counts: &mut NphCounted, cause: Refusal)
     }
 }
 
-/// For C, counts a refused resize.
+/// For C, counts a refused resize by its cause; not if the cause is that managers with blocks don't
+/// resize (`Kind`).
 pub(crate) fn count_resize_fault(counts: &mut NphCounted, cause: ResizeFault)
     ensures { (s : HeapState) → counts.new ≡ resize_counts counts.old (Err cause) s }
 {
-    // Not a match of four cases, of which LLVM makes a jump through a table.
+    // Not a match of four cases: LLVM would compile it to a jump through a table.
     if cause == ResizeFault::Unknown {
         count(&mut counts.unknown);
     } else if cause == ResizeFault::Size {
@@ -76,7 +78,8 @@ pub(crate) fn count_resize_fault(counts: &mut NphCounted, cause: ResizeFault)
 }
 
 impl<H: OfKind> Held<H> {
-    /// For C, writes what is counted since the opening into `counts`; counts no steps. Always returns `DONE`.
+    /// For C, writes what the heap has counted since its opening into `counts`; counts no steps.
+    /// Always returns `DONE`.
     pub fn counts(&mut self, counts: &mut NphCounted) -> i32
         ensures { IsCountsCall self.old result counts.new self.new }
     {

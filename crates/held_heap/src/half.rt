@@ -25,14 +25,14 @@ use std::rt::Memory;
 /// The open heap in the block whose address C has.
 type Open = Held<HalfFitHeap>;
 
-/// The bytes of that block.
+/// The bytes of the block of an `Open`.
 const HELD_BYTES: u64 = 512;
 
 const _: () = prove!(size_of::<Open>() == 512);
 
 const _: () = prove!(size_of::<NphHeap>() == 16);
 
-/// A `HeapBlock`.
+/// A `HeapBlock`, in types that C may see.
 #[repr(C)]
 #[derive(Drop)]
 pub struct Place {
@@ -46,7 +46,7 @@ impl Model for Place {
 
 unsafe impl Send for Place {}
 
-/// A `Loan`.
+/// A `Loan`, in types that C may see.
 #[repr(C)]
 #[derive(Drop)]
 pub struct Lent {
@@ -62,7 +62,8 @@ impl Model for Lent {
 
 unsafe impl Send for Lent {}
 
-/// A `LendableHeap`. Call its `close` before it is dropped: a drop does not free the memory of a heap.
+/// A `LendableHeap`, in types that C may see. Call `close` of `inner` before a drop: a drop does
+/// not free the memory of a heap.
 #[repr(C)]
 #[derive(Drop)]
 pub struct NphHeap {
@@ -90,8 +91,9 @@ impl NphHeap {
         unsafe { &mut *(self as *mut NphHeap as *mut LendableHeap<Open, LooseTag>) }
     }
 
-    /// Writes into `needed` what `open` of a Half-Fit heap with these settings asks for. Returns `DONE`, or the code of
-    /// the first setting out of range, and then `needed` is unchanged.
+    /// Writes into `needed` the memory that `open` of a Half-Fit heap with these settings asks for.
+    /// Returns `DONE`, or the code of the first setting out of range, and then `needed` is
+    /// unchanged.
     pub fn bytes_needed(
         pages: u32,
         page_bytes: u32,
@@ -110,9 +112,9 @@ impl NphHeap {
         }
     }
 
-    /// Opens a Half-Fit heap without objects, with these settings. Returns `DONE`; else, with nothing changed, `LENT`
-    /// or `OPEN` if the heap is lent or open already, the code of the first setting out of range, or `MEMORY`. No other
-    /// call of the heap allocates.
+    /// Opens a Half-Fit heap without objects, with these settings. Returns `DONE`; else, with
+    /// nothing changed, `LENT` or `OPEN` if the heap is lent or open already, the code of the first
+    /// setting out of range, or `MEMORY`.
     pub fn open(&mut self, memory: Memory, pages: u32, page_bytes: u32, k: u32, proxies: u32) -> i32
         ensures { IsOpenCall HalfFit (heap_in self.old) pages page_bytes k proxies result (heap_in self.new) }
     {

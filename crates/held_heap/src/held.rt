@@ -17,10 +17,11 @@ use std::marker::Model;
 use std::rt::Memory;
 use step_ledger::Meter;
 
-/// An open heap, the steps of its last call, the handle of each number: what C has for an object; and what it counts from the
-/// opening on. A call on a handle that its number does not have now is a call on `NONE`, which is never live. Lending,
-/// returning, `figures`, `counts`, `set_bound` and `last_steps` count no steps, and leave the number unchanged. Each other call
-/// makes a ledger of its own from `memory`, so that the compiler keeps the count in a register.
+/// An open heap, the steps of its last call that counts any, C's handle of each object's number,
+/// and what the heap has counted since its opening. A call on a stale handle is a call on the
+/// number `NONE`, which is never live. Lending, returning, `figures`, `counts`, `set_bound` and
+/// `last_steps` count no steps, and leave `steps` unchanged. Each other call makes a ledger of its
+/// own from `memory`, so that the compiler keeps the count in a register.
 #[derive(Drop)]
 pub struct Held<H: OfKind> {
     pub(crate) heap: H,
@@ -46,8 +47,9 @@ impl<H: OfKind> Held<H> {
     ghost use Rattle.c_base.specs.Handles.{largest};
     ghost use Rattle.held_heap.specs.Calls.{IsFiguresCall, IsFreeCall, IsFreshHeap, IsLengthCall, IsMallocCall, IsPlaceCall, IsReadCall, IsResizeCall, IsRoomCall, IsStepsCall, IsTotalsCall, IsWriteCall};
 
-    /// Opens `heap`, a manager of its type's kind that promises an order, without objects and in a block of its own. Its
-    /// handles are larger than `last`. Returns `None` if out of memory.
+    /// Opens the manager `heap` with the settings `s`, without objects, in a memory block of its
+    /// own. `heap` promises an order and is of its type's kind. C's handles are larger than `last`,
+    /// or from 0 on if too few are larger. Returns `None` if out of memory.
     pub fn open(memory: Memory, mut heap: H, s: &Settings, last: u32) -> Option<Box<Held<H>>>
         requires order { IsSome (H.state heap).order }
         requires kind { (H.state heap).kind ≡ H.of_kind }
@@ -96,9 +98,9 @@ impl<H: OfKind> Held<H> {
         }
     }
 
-    /// Frees an object of the held manager. Writes into `freed` the words of its slot or block, and the handle of the
-    /// object that moved there, or `NONE`. Returns `DONE`, or `UNKNOWN` if the handle isn't live; then `freed` is
-    /// unchanged.
+    /// Frees an object of the held manager, whose handle is stale then. Writes into `freed` how
+    /// many words its slot or block has, and the handle of the object that moved there, or `NONE`.
+    /// Returns `DONE`, or `UNKNOWN` if the handle isn't live; then `freed` is unchanged.
     pub fn free(&mut self, handle: u32, freed: &mut NphFreed) -> i32
         ensures { IsFreeCall H.most self.old handle freed.old result freed.new self.new }
     {
@@ -123,9 +125,10 @@ impl<H: OfKind> Held<H> {
         }
     }
 
-    /// Changes the length of a held manager's object to `bytes` bytes. Writes into `resized` the words of its slot
-    /// before and after, and the handle of the other object that moved, or `NONE`. Returns `DONE`, or the code of the
-    /// refusal: `UNKNOWN`, `KIND`, `SIZE` or `SPACE`. After a refusal `resized` is unchanged.
+    /// Changes the length of a held manager's object to `bytes` bytes. Writes into `resized` how
+    /// many words its slot had before and has after, and the handle of the other object that moved,
+    /// or `NONE`. Returns `DONE`, or the code of the refusal: `UNKNOWN`, `KIND`, `SIZE` or `SPACE`.
+    /// After a refusal `resized` is unchanged.
     pub fn resize(&mut self, handle: u32, bytes: u32, resized: &mut NphResized) -> i32
         ensures { IsResizeCall H.most self.old handle bytes resized.old result resized.new self.new }
     {
@@ -198,8 +201,8 @@ impl<H: OfKind> Held<H> {
         }
     }
 
-    /// Writes the address of a held manager's object into `place`, in words from the start of the region. Returns
-    /// `DONE`, or `UNKNOWN` if the handle isn't live; then `place` is unchanged.
+    /// Writes the address, in words, of a held manager's object into `place`. Returns `DONE`, or
+    /// `UNKNOWN` if the handle isn't live; then `place` is unchanged.
     pub fn place(&mut self, handle: u32, place: &mut u32) -> i32
         ensures { IsPlaceCall self.old handle place.old result place.new self.new }
     {
@@ -216,7 +219,8 @@ impl<H: OfKind> Held<H> {
         }
     }
 
-    /// Returns the code that the held manager's malloc of `bytes` bytes would return now; makes no object.
+    /// Returns the code that the held manager's malloc of `bytes` bytes would return now; makes no object. Its own
+    /// steps are those of the last call then.
     pub fn has_room(&mut self, bytes: u32) -> i32
         ensures { IsRoomCall H.most self.old bytes result self.new }
     {
@@ -229,8 +233,9 @@ impl<H: OfKind> Held<H> {
         }
     }
 
-    /// Writes the held manager's figures of a class, numbered from 0, into `figures`; counts no steps. Returns `DONE`,
-    /// or `UNKNOWN` if there is no such class; then `figures` is unchanged.
+    /// Writes the held manager's figures of the class with the number `class`, from 0, into
+    /// `figures`; counts no steps. Returns `DONE`, or `UNKNOWN` if there is no such class; then
+    /// `figures` is unchanged.
     pub fn figures(&mut self, class: u32, figures: &mut NphClass) -> i32
         ensures { IsFiguresCall self.old class figures.old result figures.new self.new }
     {
@@ -277,7 +282,7 @@ impl<H: OfKind> Held<H> {
         DONE
     }
 
-    /// The largest handle that a held manager's number has.
+    /// Returns the largest of a held manager's handles.
     pub(crate) fn last_handle(&self) -> u32
         ensures { result ≡ largest self.now.handles }
     {

@@ -10,7 +10,7 @@ ghost use Rattle.cf_model.specs.State.{layout_of};
 ghost use Rattle.cf_model.specs.Steps.{ChangesCost};
 ghost use Rattle.page_model.specs.Held.{Placed, objects};
 ghost use Rattle.page_model.specs.Steps.{resized};
-ghost use Rattle.quota_model.specs.declared.answers.Need.{Need};
+ghost use Rattle.quota_model.specs.declared.results.Need.{Need};
 ghost use Rattle.sizing.specs.Demands.{KeepsTo};
 ghost use Rattle.held_heap.specs.Bound.{IsBoundCall};
 ghost use Rattle.held_heap.specs.Calls.{IsFreeCall, IsFreshHeap, IsLengthCall, IsMallocCall, IsPlaceCall, IsReadCall, IsResizeCall, IsWriteCall};
@@ -18,10 +18,12 @@ ghost use Rattle.c_base.specs.Handles.{none, number_in};
 ghost use Rattle.held_heap.specs.HandleRules.{IsNewHandle, KeepsHandles};
 ghost use Rattle.held_heap.specs.HeldState.{HeldState};
 ghost use Rattle.held_heap.specs.PagesNeeded.{AreLeastPages, CCall, CallRun};
-ghost use Rattle.c_base.specs.declared.answers.NphFreed.{NphFreed};
-ghost use Rattle.c_base.specs.declared.answers.NphResized.{NphResized};
+ghost use Rattle.c_base.specs.declared.results.NphFreed.{NphFreed};
+ghost use Rattle.c_base.specs.declared.results.NphResized.{NphResized};
 
-/// A held manager's opened heap keeps the rules of the handles, and each call keeps them.
+/// A held manager's heap that was just opened keeps its rules, and each number that an object can
+/// have has a handle (`KeepsHandles`, clause `opened`). Each call keeps this true; `others` are the
+/// calls that change neither the heap nor the handles.
 pub fn every_call_keeps_the_handles()
     ensures opened { (kind : Kind) (p : Profile) (last : ℕ) (new : HeldState) → IsFreshHeap kind p last new → KeepsHandles new }
     ensures malloc { (most : Option Bounds) (old new : HeldState) (bytes before after : ℕ) (code : ℤ)
@@ -36,15 +38,17 @@ pub fn every_call_keeps_the_handles()
     ensures others { (old new : HeldState) → new.heap ≡ old.heap → new.handles ≡ old.handles → KeepsHandles old → KeepsHandles new }
 {}
 
-/// The handle of a held manager's malloc that returns 0 named no object before, names the new one, and is no other
-/// object's.
+/// A held manager's malloc that returns 0 writes a handle of a number that no live object had. The
+/// handle names this number before and after the call, and is less than `NONE`.
 pub fn a_malloc_gives_a_new_handle()
     ensures { (most : Option Bounds) (old new : HeldState) (bytes before after : ℕ) → IsMallocCall most old bytes before (pos 0) after new
         → KeepsHandles old → IsNewHandle old after new }
 {}
 
-/// On a held manager, a call on a handle that names no object returns 4 (`UNKNOWN`) and changes nothing, but for the
-/// cost that a free or a resize records.
+/// On a held manager, a free, resize, write, read, or call for the length or address with a stale
+/// handle, which is not the one that its number has, returns 4 (`UNKNOWN`) and leaves the caller's
+/// number, structure or buffer unchanged. A write also leaves the heap unchanged, and a free the
+/// handles and all of the heap but its cost.
 pub fn a_stale_handle_is_refused()
     ensures free { (most : Option Bounds) (old new : HeldState) (handle : ℕ) (before after : NphFreed) (code : ℤ)
         → IsFreeCall most old handle before code after new → KeepsHandles old → number_in old.handles handle ≡ none
@@ -66,9 +70,10 @@ pub fn a_stale_handle_is_refused()
         → (code ≡ pos 4) × (after ≡ before) }
 {}
 
-/// A heap with pages was opened with at least the number of them that `nph_pages_needed` writes, and the calls so far kept
-/// its objects within the needs, whatever bounds they set. Then no malloc (`malloc`) and no resize (`resize`) with which they still are returns 3
-/// (`SPACE`).
+/// A malloc or a resize that would leave a heap's objects within a program's needs does not return
+/// 3 (`SPACE`). The heap was opened with pages of `page_bytes` bytes, at least as many as
+/// `nph_pages_needed` writes for the needs, and after each call so far its objects were within
+/// them, whatever bounds the calls set.
 pub fn no_call_within_the_needs_lacks_space()
     ensures malloc { (kind : Kind) (p : Profile) (last page_bytes pages : ℕ) (needs : List Need) (most : Option Bounds)
         (first old new : HeldState) (calls : List CCall) (bytes before after : ℕ) (code : ℤ)

@@ -1,6 +1,7 @@
-//! An open heap of any manager in a block of memory whose address a caller in C holds: its calls, their codes and
-//! results. The libraries `norphuen`, `norphuen_nonmoving`, `norphuen_tlsf` and `norphuen_half` export them, each for
-//! one manager.
+//! An open heap of any manager in a block of memory whose address a caller in C holds: its calls,
+//! their codes, results and most steps, and the pages that a program needs. The libraries
+//! `norphuen`, `norphuen_nonmoving`, `norphuen_tlsf` and `norphuen_half` export them, each for one
+//! manager.
 #![tactic(auto)]
 
 mod class_bound;

@@ -39,7 +39,7 @@ pub struct LooseBlocks {
     pub(crate) rule: Nothing,
 }
 
-/// The fields of the open heap.
+/// The fields of the open heap in a `TagHeap`.
 #[derive(Drop)]
 pub struct LooseOpen {
     pub(crate) settings: Settings,

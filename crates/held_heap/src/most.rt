@@ -1,5 +1,6 @@
-//! The most steps of each call by the manager's kind, for a caller in C that plans before the call: the bounds of the
-//! contracts of `Held` as numbers. A call that is refused takes at most as many.
+//! The number that C has for a manager's kind, and by kind the most steps of calls, for a caller in
+//! C that plans before the call: the bounds of the contracts of `Held` as numbers. A call that is
+//! refused takes at most as many.
 ghost use Rattle.std.specs.Prelude.{◌≡◌, ◌+◌, ◌^◌, ◌<◌};
 ghost use Rattle.cf_model.specs.Costs.{words_touched};
 ghost use Rattle.page_model.specs.WordSteps.{blocks_of};
@@ -7,7 +8,7 @@ ghost use Rattle.held_heap.specs.Most.{IsMostAccess, IsMostFree, IsMostLength, I
 
 use cf_base::Kind;
 
-/// The number that a library has for the kind of its heaps.
+/// The number by which C knows a kind of manager.
 pub fn kind(kind: Kind) -> u32
     ensures { result ≡ kind_code kind }
 {
@@ -27,7 +28,7 @@ fn blocks_of(i: u64, n: u64) -> u64
     n.min((i % 4 + n + 3) / 4)
 }
 
-/// For a step bound, how many words of an object hold one of its `count` bytes from byte `at` on.
+/// For a step bound, how many words of an object hold its `count` bytes from byte `at` on.
 fn words_touched(at: u32, count: u32) -> u64
     ensures value { result ≡ words_touched at count }
     ensures few { result < 2 ^ 32 }
@@ -39,7 +40,7 @@ fn words_touched(at: u32, count: u32) -> u64
     }
 }
 
-/// A malloc by this kind's manager.
+/// The most steps of a malloc by this kind's manager.
 pub fn most_malloc(kind: Kind) -> u64
     ensures { IsMostMalloc (bounds_of kind) result }
 {
@@ -50,7 +51,7 @@ pub fn most_malloc(kind: Kind) -> u64
     }
 }
 
-/// A free of an object whose slot or block has `slot_words` words.
+/// The most steps of a free of an object whose slot or block has `slot_words` words.
 pub fn most_free(kind: Kind, slot_words: u32) -> u64
     ensures { IsMostFree (bounds_of kind) slot_words result }
 {
@@ -62,7 +63,8 @@ pub fn most_free(kind: Kind, slot_words: u32) -> u64
     }
 }
 
-/// A resize to `bytes` bytes, from a slot of `old` words to one of `new` words. With blocks it is always refused.
+/// The most steps of a resize to `bytes` bytes, from a slot of `old` words to one of `new` words.
+/// With blocks a resize is always refused.
 pub fn most_resize(kind: Kind, bytes: u32, old: u32, new: u32) -> u64
     ensures { IsMostResize (bounds_of kind) bytes old new result }
 {
@@ -78,7 +80,8 @@ pub fn most_resize(kind: Kind, bytes: u32, old: u32, new: u32) -> u64
     }
 }
 
-/// A read or a write of `count` bytes from byte `at` of a held manager's object on. If it succeeds it takes just these.
+/// The most steps of a read or a write of `count` bytes of a held manager's object from byte `at`
+/// on. A call that succeeds takes exactly these.
 pub fn most_access(kind: Kind, at: u32, count: u32) -> u64
     ensures { IsMostAccess (bounds_of kind) at count result }
 {
@@ -89,7 +92,7 @@ pub fn most_access(kind: Kind, at: u32, count: u32) -> u64
     }
 }
 
-/// The test whether this kind's malloc would be refused.
+/// The most steps of a test whether this kind's malloc would be refused.
 pub fn most_has_room(kind: Kind) -> u64
     ensures { IsMostRoom (bounds_of kind) result }
 {
@@ -99,7 +102,7 @@ pub fn most_has_room(kind: Kind) -> u64
     }
 }
 
-/// The figures of a heap with `free` free pages or blocks.
+/// The most steps of a call for the figures of a whole heap with `free` free pages or blocks.
 pub fn most_totals(kind: Kind, free: u32) -> u64
     ensures { IsMostTotals (bounds_of kind) free result }
 {
@@ -109,7 +112,7 @@ pub fn most_totals(kind: Kind, free: u32) -> u64
     }
 }
 
-/// The length of an object of this kind's manager.
+/// The most steps of a call for the length of an object of this kind's manager.
 pub fn most_length(kind: Kind) -> u64
     ensures { IsMostLength kind result }
 {

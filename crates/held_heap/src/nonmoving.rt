@@ -19,7 +19,7 @@ use std::rt::Memory;
 /// The open heap in the block whose address C has.
 type Open = Held<NonMovingHeap>;
 
-/// The bytes of that block.
+/// The bytes of the block of an `Open`.
 const HELD_BYTES: u64 = 1528;
 
 const _: () = prove!(size_of::<Open>() == 1528);
@@ -41,7 +41,7 @@ unsafe impl Send for Place {}
 impl Place {
     ghost use Rattle.held_heap.specs.NonMovingPlace.{LendsInner, inner_of};
 
-    /// Borrows the `HeapBlock` that this is in memory.
+    /// Borrows the `HeapBlock` that this `Place` is in memory.
     fn inner(&mut self) -> &mut HeapBlock<Open>
         ensures* writes_back { sem 𝓛 (LendsInner self.entry result) }
         ensures value { result.now ≡ inner_of self.old }
@@ -50,9 +50,10 @@ impl Place {
     }
 }
 
-/// A heap, open or closed, in memory of a caller in C. `shown` says that the flag is true if and only if the
-/// `HeapBlock` has a heap. `last` is the largest handle
-/// of the heaps that it had. Call `close` before it is dropped: a drop does not free the memory of an open heap.
+/// The struct in a C caller's memory for a heap, open or closed. `shown` says that `is_open` is
+/// true if and only if `place` has a heap. `last` is the largest handle of the heap that was closed
+/// last here, 0 at first. Call `close` before a drop: a drop does not free the memory of an open
+/// heap.
 #[repr(C)]
 #[derive(Drop)]
 pub struct NphHeap {
@@ -87,8 +88,9 @@ impl NphHeap {
         self.place.inner().lend()
     }
 
-    /// Writes into `needed` what `open` of a non-moving heap with these settings asks for. Returns `DONE`, or the code
-    /// of the first setting out of range, and then `needed` is unchanged.
+    /// Writes into `needed` the memory that `open` of a non-moving heap with these settings asks
+    /// for. Returns `DONE`, or the code of the first setting out of range, and then `needed` is
+    /// unchanged.
     pub fn bytes_needed(
         pages: u32,
         page_bytes: u32,
@@ -107,9 +109,9 @@ impl NphHeap {
         }
     }
 
-    /// Opens a non-moving heap without objects, with these settings. Returns `DONE`; else, with nothing changed, `OPEN`
-    /// if the heap is open already, the code of the first setting out of range, or `MEMORY`. No other call of the heap
-    /// allocates.
+    /// Opens a non-moving heap without objects, with these settings. Returns `DONE`; else, with
+    /// nothing changed, `OPEN` if the heap is open already, the code of the first setting out of
+    /// range, or `MEMORY`.
     pub fn open(&mut self, memory: Memory, pages: u32, page_bytes: u32, k: u32, proxies: u32) -> i32
         ensures { IsOpenCall NonMoving (heap_in self.old) pages page_bytes k proxies result (heap_in self.new) }
     {
@@ -134,7 +136,8 @@ impl NphHeap {
         }
     }
 
-    /// Closes C's non-moving heap and frees its memory; does nothing if the heap isn't open.
+    /// Closes C's non-moving heap, frees its memory, and keeps its largest handle for the next
+    /// open; does nothing if the heap isn't open.
     pub fn close(&mut self, memory: Memory)
         ensures { heap_in self.new ≡ closed_by (heap_in self.old) }
     {

@@ -1,4 +1,5 @@
-//! The kind of a manager, known by its type, how much of its region is free, and the words of an object's slot or block.
+//! The kind of a manager, known by its type, how much of its region is free, and how many words an
+//! object's slot or block has.
 ghost use Rattle.std.specs.Prelude.{◌≡◌};
 ghost use Rattle.cf_base.specs.declared.kind.Kind.{Kind};
 ghost use Rattle.held_heap.specs.Counts.{free_left};
@@ -17,12 +18,14 @@ pub trait OfKind: Manager {
     /// The kind of every manager of this type.
     ghost of_kind: { Kind };
 
-    /// For C's counts, the free pages; with blocks, the bytes outside used blocks. Costs no step.
+    /// For C's counts, how many pages are free; with blocks, the bytes outside used blocks. Costs
+    /// no step.
     fn free_left(&self) -> u64
         requires { IsOpenOfKind of_kind (Self.state self.now) }
         ensures { result ≡ free_left (Self.state self.now) };
 
-    /// For C, the words of an object's slot or block; none if the handle isn't live.
+    /// For C, how many words an object's slot or block has; none if the handle isn't live. Costs 1
+    /// step if it isn't; else 2 with blocks, 3 for the moving and 4 for the non-moving manager.
     fn words_of(&self, h: Handle, steps: &mut Steps) -> Option<u32>
         requires { IsOpenOfKind of_kind (Self.state self.now) }
         ensures value { result ≡ slot_words_of of_kind (Self.state self.now) h.0 }

@@ -1,4 +1,4 @@
-//! How many pages a program needs, as a caller in C asks for them.
+//! How many pages a program needs, for a caller in C, and the codes of a refusal.
 ghost use Rattle.std.specs.Prelude.{◌≡◌};
 ghost use Rattle.held_heap.specs.Codes.{needs_code};
 ghost use Rattle.held_heap.specs.PagesNeeded.{IsPagesCall};
@@ -7,9 +7,10 @@ use c_base::{DONE, ENTRIES, PROXIES, SIZE, of_setting};
 use cf_base::Layout;
 use sizing::{Need, NeedsFault};
 
-/// Writes into `pages` the least number of pages of `page_bytes` bytes, with slots of this layout, with which no call of a
-/// program is refused for space while it keeps to its needs (`pages_needed` of `sizing`). Returns `DONE`, or the code of why
-/// there is no number, and then `pages` is unchanged.
+/// Writes into `pages` the least number of pages of `page_bytes` bytes, with slots of this layout,
+/// with which no call of a program is refused for space while it keeps to its `needs`
+/// (`pages_needed` of `sizing`). `k` must be in its range, 1 to 64, and has no other effect.
+/// Returns `DONE`, or the code of the refusal, and then `pages` is unchanged.
 pub fn pages_needed(layout: Layout, page_bytes: u32, k: u32, needs: &[Need], pages: &mut u32) -> i32
     ensures { IsPagesCall layout page_bytes k needs.now result pages.old pages.new }
 {
@@ -22,7 +23,7 @@ pub fn pages_needed(layout: Layout, page_bytes: u32, k: u32, needs: &[Need], pag
     }
 }
 
-/// The code for C of why there is no number of pages.
+/// The code for C of a refused call of `pages_needed`.
 fn of_needs(cause: NeedsFault) -> i32
     ensures { result ≡ needs_code cause }
 {

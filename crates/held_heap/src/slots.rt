@@ -1,5 +1,5 @@
-//! Calls of an open heap for a caller in C that plans a call: the words of an object's slot or block, and with pages
-//! the class of a length.
+//! Calls of an open heap for a caller in C that plans a call: how many words an object's slot or
+//! block has, and with pages the class of a length.
 ghost use Rattle.held_heap.specs.Slots.{IsClassCall, IsSlotWordsCall};
 
 use crate::held::Held;
@@ -10,8 +10,9 @@ use paged_heap::{PageKind, PagedHeap};
 use step_ledger::Meter;
 
 impl<H: OfKind> Held<H> {
-    /// For a held manager, writes the words of an object's slot or block into `words`: those that a free of it would
-    /// return. Returns `DONE`, or `UNKNOWN` if the handle isn't live; then `words` is unchanged.
+    /// For a held manager, writes how many words an object's slot or block has into `words`, as a
+    /// free of it would. Returns `DONE`, or `UNKNOWN` if the handle isn't live; then `words` is
+    /// unchanged.
     pub fn slot_words(&mut self, handle: u32, words: &mut u32) -> i32
         ensures { IsSlotWordsCall H.of_kind self.old handle words.old result words.new self.new }
     {
@@ -30,8 +31,9 @@ impl<H: OfKind> Held<H> {
 }
 
 impl<A: PageKind> Held<PagedHeap<A>> {
-    /// For a held manager, writes the class of an object of `bytes` bytes, numbered from 0, into `class`. Returns
-    /// `DONE`, or `SIZE` if it needs more than a page; then `class` is unchanged.
+    /// For a held manager, writes into `class` the number, from 0, of the class of an object of
+    /// `bytes` bytes. Returns `DONE`, or `SIZE` if it needs more than a page; then `class` is
+    /// unchanged.
     pub fn class_of(&mut self, bytes: u32, class: &mut u32) -> i32
         ensures { IsClassCall self.old bytes class.old result class.new self.new }
     {

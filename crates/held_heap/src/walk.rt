@@ -26,9 +26,10 @@ fn next_live<H: Manager>(heap: &H, from: u32, count: u32, steps: &mut Steps) -> 
 }
 
 impl<H: OfKind> Held<H> {
-    /// Writes the handle of the next live object after that of `handle` into `next`, by rising number; of the first one if
-    /// `handle` is `NONE`. After the last one it writes `NONE`. Returns `DONE`, or `UNKNOWN` if the handle isn't live; then
-    /// `next` is unchanged.
+    /// Writes the handle of the next live object after that of `handle` into `next`, by rising
+    /// number; of the first one if `handle` is `NONE`. After the last one it writes `NONE`. Takes
+    /// one step for each number that it looks at, that of `handle` included. Returns `DONE`, or
+    /// `UNKNOWN` if the handle isn't live; then `next` is unchanged.
     pub fn next(&mut self, handle: u32, next: &mut u32) -> i32
         ensures { IsNextCall self.old handle next.old result next.new self.new }
     {

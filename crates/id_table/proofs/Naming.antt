@@ -3,8 +3,8 @@
 use Rattle.std.proofs.Common.{◌≡◌, ◌≤◌, ℕ, ◌+◌, Option, Some, None, length, ap, sym, ◌∙◌, refl, arith, subst}
 use Rattle.std.specs.Prelude.{option_map}
 use Rattle.std.specs.FinMap.{get}
-use Rattle.cf_base.specs.declared.answers.AccessFault.{AccessFault}
-use Rattle.cf_base.specs.declared.answers.AccessFault.TheVariants as access
+use Rattle.cf_base.specs.declared.results.AccessFault.{AccessFault}
+use Rattle.cf_base.specs.declared.results.AccessFault.TheVariants as access
 use Rattle.cf_base.specs.declared.kind.Kind.{Kind}
 use Rattle.cf_base.proofs.MapValues.{get-map_values}
 use Rattle.cf_model.specs.Families.{Family, paged, tiled, family_of}

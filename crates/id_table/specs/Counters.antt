@@ -1,5 +1,5 @@
--- The counters of a session (the last step bound, how many objects moved, the words of their slots): those of a new session, and how a call that moves an
--- object changes them.
+-- The counters of a session (the last step bound, how many objects were moved into freed slots, the words of these slots): those of a new session, and how a
+-- call that moves an object changes them.
 use Rattle.std.specs.Prelude.{ℕ, ◌+◌, ◌-◌, ◌^◌, Option, Some, None, min}
 use Rattle.id_table.specs.declared.counters.Counters.{Counters}
 

@@ -1,9 +1,9 @@
 -- What the calls of a `Namer` do, and when a manager lacks a proxy or pages. In each record `old` is the state of the run before the call, `new` after it.
 use Rattle.std.specs.Prelude.{◌≡◌, ℕ, Bool, ◌⊎◌, ◌<◌, ◌≤◌, List, length, Some, Result, Ok, Err, is_ok}
 use Rattle.std.specs.FinMap.{get, insert, len, remove}
-use Rattle.cf_base.specs.declared.answers.Freed.{Freed}
-use Rattle.cf_base.specs.declared.answers.Handle.{Handle}
-use Rattle.cf_base.specs.declared.answers.Refusal.{Refusal}
+use Rattle.cf_base.specs.declared.results.Freed.{Freed}
+use Rattle.cf_base.specs.declared.results.Handle.{Handle}
+use Rattle.cf_base.specs.declared.results.Refusal.{Refusal}
 use Rattle.cf_model.specs.Costs.{free_bound}
 use Rattle.cf_model.specs.State.{HeapState, paging_in}
 use Rattle.cf_model.specs.Steps.{FreesObject, IsMallocStep, WritesBytes}

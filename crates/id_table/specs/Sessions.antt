@@ -12,7 +12,7 @@ use Rattle.id_table.specs.Ids.{Ids}
 use Rattle.id_table.specs.Ties.{AreTiedTo}
 
 -- `ids` maps each live id to the number of its handle. `bound` is the step bound of the last malloc, free or resize, 0 before the first one. `moves` counts the
--- objects that frees and resizes moved, and `words` the words of their slots. Both counts saturate.
+-- objects that frees and resizes moved into the slots that they freed, and `words` the words of these slots. Both counts saturate.
 pub record SessionState : Type 0 where
   pub ids : Ids
   pub bound : ℕ
@@ -50,7 +50,7 @@ run_at session heap = record { session = session; heap = heap }
 abbrev pub CostsAtMost : Kind → ℕ → ℕ → Type 0
 CostsAtMost kind cost n = elim (family_of kind) [ paged ↦ cost ≤ n | tiled ↦ ⊤ ]
 
--- each live id names one live handle and each handle has one id; with pages the steps of the last call are within the session's step bound
+-- each live id names one live object, and each live object has one id; with pages the steps of the last call are within the session's step bound
 pub record AreTied (session : SessionState) (heap : HeapState) : Type 0 where
   pub ids : AreTiedTo session.ids heap.held
   pub cost : CostsAtMost heap.kind heap.cost session.bound

@@ -1,17 +1,19 @@
-//! The counters of a session: the last step bound, and how many objects moved, with the words of their slots.
+//! The counters of a session: the last step bound; how many objects frees and resizes moved into
+//! the slots that they freed; and the words of these slots.
 ghost use Rattle.std.specs.Prelude.{◌≡◌};
 ghost use Rattle.id_table.specs.Counters.{no_counts, with_move};
 
 use cf_base::Handle;
 
-/// The counters of a session, which the reply to `steps` shows.
+/// The counters of a session, which the reply to `steps` shows with pages.
 #[derive(Clone, Copy, Debug, PartialEq, Eq)]
 pub struct Counters {
     /// The step bound of the last malloc, free or resize that called the manager; 0 before the first one.
     pub bound: u64,
-    /// How many objects moved. Saturates at `2^64 - 1`.
+    /// How many objects a free or a resize moved into the slot that it freed. A resized object that
+    /// itself takes another slot isn't counted. Saturates at `2^64 - 1`.
     pub moves: u64,
-    /// The words of the slots of the objects that moved. Saturates at `2^64 - 1`.
+    /// The words of the slots of the objects that `moves` counts. Saturates at `2^64 - 1`.
     pub words: u64,
 }
 
@@ -27,9 +29,9 @@ impl Counters {
         }
     }
 
-    /// For a session, if an object moved (`moved`), adds one to `moves` and `slot_words`, the words of its slot, to
-    /// `words`.
-    /// Old and new slot are of one class. Both counters saturate at `2^64 - 1`.
+    /// After a free or a resize of a session: if another object moved into the slot that it freed
+    /// (`moved`), adds 1 to `moves`, and the words of this slot (`slot_words`) to `words`. Both
+    /// counters saturate at `2^64 - 1`.
     pub fn count_move(&mut self, moved: Option<Handle>, slot_words: u32)
         ensures { self.new ≡ with_move self.old moved slot_words }
     {

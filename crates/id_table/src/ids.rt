@@ -1,7 +1,7 @@
-//! The table from the ids of a script to the handles of their objects.
+//! The table from ids to the handles of their objects.
 ghost use Rattle.std.specs.Prelude.{◌≡◌, ◌↔◌, IfOk, IsTrue, option_map};
 ghost use Rattle.std.specs.FinMap as map;
-ghost use Rattle.cf_base.specs.declared.answers.Handle.{Handle as AHandle};
+ghost use Rattle.cf_base.specs.declared.results.Handle.{Handle as AHandle};
 ghost use Rattle.id_table.specs.Ids.{AreWithin};
 ghost use Rattle.cf_base.specs.Maps.{vacant};
 
@@ -45,7 +45,7 @@ impl IdTable {
         }
     }
 
-    /// How many ids are live in the table.
+    /// How many ids are live in the table, at most 65,536.
     pub fn live(&self) -> u32
         ensures count { result ≡ map.len self.now }
         ensures kept { AreWithin self.now }
@@ -71,8 +71,8 @@ impl IdTable {
         }
     }
 
-    /// In an `IdTable`, makes `h` the handle of an id, in place of its old handle, if it had one. The id is live after
-    /// it.
+    /// In an `IdTable`, makes `h` the handle of an id, in place of its old handle, if it had one.
+    /// The id is live then.
     pub fn bind(&mut self, id: u16, h: Handle)
         ensures { self.new ≡ map.insert self.old id h.0 }
     {
@@ -81,7 +81,7 @@ impl IdTable {
         self.numbers[id as usize] = Some(h.0);
     }
 
-    /// In an `IdTable`, removes the handle of an id, if it has one. The id isn't live after it.
+    /// In an `IdTable`, removes the handle of an id, if it has one. The id isn't live then.
     pub fn unbind(&mut self, id: u16)
         ensures { self.new ≡ map.remove self.old id }
     {
@@ -91,7 +91,7 @@ impl IdTable {
     }
 }
 
-/// n entries for ids without a handle. Fails only if memory runs out.
+/// The entries of n ids without a handle, each `None`. Fails only if memory runs out.
 fn vacancies(alloc: Global, n: usize) -> Result<Vec<Option<u32>>, AllocError>
     ensures { IfOk result (λ numbers. numbers.items ≡ vacant n) }
 {

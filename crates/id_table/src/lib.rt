@@ -1,5 +1,5 @@
-//! The table from ids to the handles of objects (`IdTable`), the counters of a session (`Counters`), and a
-//! manager whose calls name objects by ids (`Namer`).
+//! The table from ids to the handles of objects (`IdTable`), the counters of a session
+//! (`Counters`), and the trait of what names the objects of a manager by ids (`Namer`).
 #![tactic(auto)]
 
 mod counters;

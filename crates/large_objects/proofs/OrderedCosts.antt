@@ -5,8 +5,8 @@ use Rattle.std.proofs.lemmas.Bool.{cases_eq}
 use Rattle.cf_base.proofs.Members.{contains_head, empty_or_not}
 use Rattle.cf_base.proofs.Tests.{eq_no}
 use Rattle.cf_base.specs.Classes.{need}
-use Rattle.cf_base.specs.declared.answers.Freed.{Freed}
-use Rattle.cf_base.specs.declared.answers.Handle.{Handle}
+use Rattle.cf_base.specs.declared.results.Freed.{Freed}
+use Rattle.cf_base.specs.declared.results.Handle.{Handle}
 use Rattle.page_model.specs.Arrangement.{class_at, objects_on}
 use Rattle.page_model.specs.Held.{Placed}
 use Rattle.page_model.specs.Order.{IsOrderOf, Order, drop_steps, new_page_steps, not_full_in, open_steps, steps_to_drop, word_steps}

@@ -1,5 +1,5 @@
-//! Reads and writes of an object's bytes: by one call of the inner manager if the object fits a page, else
-//! part by part.
+//! Reads and writes of an object's bytes in a heap of long objects: by one call of the manager
+//! under it if the object fits a page, else part by part.
 ghost use Rattle.std.specs.Prelude.{◌≡◌, ◌+◌, ◌*◌, ◌<◌, ◌≤◌, ◌^◌, ℕ, List, Some, IsTrue, length, take, drop};
 ghost use Rattle.step_ledger.specs.Counting.{RoseAtMost};
 ghost use Rattle.std.specs.FinMap.{get};
@@ -14,7 +14,7 @@ use cf_model::Manager;
 use step_ledger::Steps;
 
 impl<H: Manager> LargeHeap<H> {
-    /// Writes these bytes into the live object h, which fits a page, from byte `at` on.
+    /// Writes `bytes` into the live object h, which fits a page, from byte `at` on.
     pub(crate) fn write_short(&mut self, h: Handle, at: u32, bytes: &[u8], steps: &mut Steps)
         requires open { IsTrue self.old.is_open }
         requires has { HasShort self.old h.0 at (length bytes.now) }
@@ -26,7 +26,7 @@ impl<H: Manager> LargeHeap<H> {
         write_inner(&mut self.inner, h, at, bytes, steps);
     }
 
-    /// Writes these bytes into the parts of the live object h, which is longer than a page, from byte `at`
+    /// Writes `bytes` into the parts of the live object h, which is longer than a page, from byte `at`
     /// of the object on.
     pub(crate) fn write_long(&mut self, h: Handle, at: u32, bytes: &[u8], steps: &mut Steps)
         requires open { IsTrue self.old.is_open }
@@ -49,7 +49,7 @@ impl<H: Manager> LargeHeap<H> {
         }
     }
 
-    /// Writes these bytes into part i of the live object h, which is longer than a page, from byte `at` of the
+    /// Writes `bytes` into part i of the live object h, which is longer than a page, from byte `at` of the
     /// part on. No byte passes the part's end.
     fn write_part(&mut self, h: Handle, i: u32, at: u32, bytes: &[u8], steps: &mut Steps)
         requires open { IsTrue self.old.is_open }

@@ -1,4 +1,5 @@
-//! The number and the lengths of an object's inner objects, computed from its length. In all functions
+//! The number and the lengths of an object's inner objects (itself if it fits a page, else its
+//! spine and parts), and whether its spine fits a page, computed from its length. In all functions
 //! `part_bytes` is the bytes of a whole part, the largest object that fits a page.
 ghost use Rattle.std.specs.Prelude.{◌≡◌, ◌<◌, ◌*◌, ◌↔◌, IsTrue, cond, count_by, length, nat_le};
 ghost use Rattle.cf_base.specs.Classes.{need};
@@ -14,8 +15,8 @@ pub(crate) fn count_parts(bytes: u32, part_bytes: u32) -> u32
     bytes.div_ceil(part_bytes)
 }
 
-/// The bytes of part i, counted from 0, of an object of `bytes` bytes: `part_bytes`, or the rest for the last
-/// part.
+/// The length in bytes of part i, counted from 0, of an object of `bytes` bytes: `part_bytes`, or the rest for the
+/// last part.
 pub(crate) fn bytes_of_part(bytes: u32, part_bytes: u32, i: u32) -> u32
     requires some { 0 < part_bytes }
     requires below { i < part_count part_bytes bytes }
@@ -34,7 +35,7 @@ pub(crate) fn has_spine_that_fits(bytes: u32, part_bytes: u32) -> bool
 
 /// The number of inner objects of an object of `bytes` bytes: one if it fits a page, else its parts and one
 /// spine.
-pub(crate) fn inner_objects(bytes: u32, part_bytes: u32) -> u64
+pub(crate) fn count_inner_objects(bytes: u32, part_bytes: u32) -> u64
     requires { 0 < part_bytes }
     ensures { result ≡ length (inner_lengths part_bytes bytes) }
 {
@@ -52,7 +53,7 @@ fn is_within(bytes: u32, words: u32) -> bool
     1 + (bytes as u64).div_ceil(8) <= words as u64
 }
 
-/// For counts of parts, `count` if `yes` is true, else 0.
+/// For counts of inner objects, `count` if `yes` is true, else 0.
 fn count_if(count: u32, yes: bool) -> u64
     ensures { result ≡ count * cond yes 1 0 }
 {
@@ -61,7 +62,7 @@ fn count_if(count: u32, yes: bool) -> u64
 
 /// Of the inner objects of an object of `bytes` bytes, the number of those that need at most `words` words
 /// each, with their header.
-pub(crate) fn inner_objects_within(bytes: u32, part_bytes: u32, words: u32) -> u64
+pub(crate) fn count_inner_objects_within(bytes: u32, part_bytes: u32, words: u32) -> u64
     requires some { 0 < part_bytes }
     requires fits { FitsSpine part_bytes bytes }
     ensures { result ≡ count_by (λ n. nat_le (need n) words) (inner_lengths part_bytes bytes) }

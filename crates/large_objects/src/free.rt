@@ -63,8 +63,8 @@ fn release_long<H: Manager>(
     release_inner(inner, spine, steps);
 }
 
-/// Frees all parts of an object of `bytes` bytes, which is longer than a page; the spine stays and still holds
-/// their handles.
+/// Frees all parts of an object of `bytes` bytes, which is longer than a page. Its spine stays, and
+/// still holds the handles of the parts.
 fn release_parts<H: Manager>(
     inner: &mut H,
     spine: Handle,
@@ -87,7 +87,8 @@ fn release_parts<H: Manager>(
     }
 }
 
-/// Frees part i, counted from 0, whose handle it reads from the spine.
+/// Frees part i, counted from 0, of the long object whose spine is `spine`. Reads the part's handle
+/// from the spine.
 fn release_part<H: Manager>(inner: &mut H, spine: Handle, i: u32, steps: &mut Steps)
     requires ready { IsReadyInner (H.state inner.old) }
     requires has { HasInner (H.state inner.old) spine.0 (4 * i) 4 }

@@ -1,5 +1,5 @@
-//! `LargeHeap`, a heap whose objects may be longer than a page, over a manager with pages: how it is
-//! opened, and its calls `malloc`, `free`, `write` and `read`.
+//! `LargeHeap`, a heap whose objects may be longer than a page, over a manager with pages; and its
+//! calls.
 ghost use Rattle.std.specs.Prelude.{◌≡◌, ◌+◌, ◌^◌, ◌<◌, ◌≤◌, IsTrue, OnOk, OnErr, IfOk, IfErr, Some, None, false, length, option_map};
 ghost use Rattle.std.specs.FinMap.{get};
 ghost use Rattle.cf_base.specs.Maps.{vacant};
@@ -21,12 +21,13 @@ use std::alloc::{AllocError, Global};
 use std::marker::Model;
 use step_ledger::{Meter, Steps};
 
-/// Objects that may be longer than a page, over an inner manager with pages. An object that fits a page is
-/// one inner object; a longer one is a spine and its parts. The handle of an object is that of this inner
-/// object or of the spine.
+/// Objects that may be longer than a page, over an inner manager with pages. An object that fits a
+/// page is one inner object; a longer one is a spine and its parts. The handle of an object is that
+/// of this inner object or of the spine.
 ///
-/// A call adds its steps to the meter's count, and first resets a count above 2 ^ 62. Clause `steps` of each has
-/// them as a function of the steps of the inner manager's calls (`InnerCosts`).
+/// The calls `malloc`, `free`, `write` and `read` add their steps to the meter's count, and first
+/// reset a count above 2 ^ 62. If the inner manager has step bounds of its own, their clauses
+/// `steps` give these steps from the steps of its calls (`InnerCosts`).
 #[derive(Drop)]
 pub struct LargeHeap<H: Manager> {
     alloc: Global,
@@ -55,7 +56,8 @@ impl<H: Manager> Model for LargeHeap<H> {
 }
 
 impl<H: Manager> LargeHeap<H> {
-    /// A closed heap of long objects over this manager. Allocates nothing.
+    /// Returns a closed heap of long objects over this manager, which must have pages. Allocates
+    /// nothing.
     pub fn new(alloc: Global, heap: H) -> LargeHeap<H>
         requires { IsPaged (H.state heap).kind }
         ensures closed { result.is_open ≡ false }
@@ -81,7 +83,7 @@ impl<H: Manager> LargeHeap<H> {
         inner.and(BytesNeeded::block(8 * u64::from(s.proxies)))
     }
 
-    /// Lends the inner manager of long objects.
+    /// `LargeHeap`: lends its inner manager, for calls that change nothing.
     pub fn inner(&self) -> &H
         ensures { H.state result.now ≡ self.now.inner }
     {
@@ -96,11 +98,11 @@ impl<H: Manager> LargeHeap<H> {
         self.is_open
     }
 
-    /// `LargeHeap`: opens an empty heap of long objects with the settings `s`, whose bound is 1; an open heap loses its
-    /// objects.
-    /// Allocates all memory: that of the inner manager, and a table with a length for each proxy. After
-    /// `OutOfMemory` the heap is closed, and the inner manager is unchanged or closed; the heap may be
-    /// opened again. A manager that promised an order promises one afterwards.
+    /// `LargeHeap`: opens an empty heap of long objects with the settings `s`, whose bound must be
+    /// 1; an open heap loses its objects. Allocates all memory: that of the inner manager, and a
+    /// table with a length for each proxy. After `OutOfMemory` the heap is closed, and the inner
+    /// manager is unchanged or closed; the heap may be opened again. An inner manager that promised
+    /// an order promises one afterwards.
     pub fn open_heap(&mut self, s: &Settings) -> Result<(), OutOfMemory>
         requires pages { IsPaged self.old.inner.kind }
         requires one { s.now.k ≡ 1 }
@@ -126,11 +128,13 @@ impl<H: Manager> LargeHeap<H> {
         Ok(())
     }
 
-    /// Adds an object, long or short, of `bytes` bytes, all zero, under a handle that wasn't live. It fails with `Size`
-    /// if the spine would need more than a page. Else it fails with `Proxy` if there would be more inner objects than
-    /// proxies, and else with `Space` if they would need more pages than there are. A refusal changes nothing, not even
-    /// the inner manager. At most the steps of a malloc for each inner object and of a write of four bytes for each
-    /// part; none if refused.
+    /// Adds an object, long or short, of `bytes` bytes, all zero, under a handle that wasn't live.
+    /// Fails with `Size` if the object's spine would need more than a page, else with `Proxy` if
+    /// there would be more inner objects than proxies, else with `Space` if the inner objects would
+    /// need more pages than there are. A refusal changes neither the heap nor the inner manager.
+    /// First resets a meter above 2 ^ 62. If the inner manager has step bounds, takes at most the
+    /// steps of a malloc for each inner object, and of a write of four bytes for each part; none if
+    /// refused.
     pub fn malloc(&mut self, bytes: u32, meter: &mut Meter) -> Result<Handle, Refusal>
         requires { IsTrue self.old.is_open }
         ensures step { IsLargeMalloc self.old bytes result self.new }
@@ -138,20 +142,22 @@ impl<H: Manager> LargeHeap<H> {
         ensures steps { ByCosts self.old.inner H.most (λ c. RoseAtMost (first_count meter.old) meter.new
             (large_malloc_steps c self.old bytes result)) }
     {
-        make_room(meter);
+        reset_full_meter(meter);
         match self.refusal(bytes, meter.steps()) {
             Some(cause) => Err(cause),
             None => {
                 // `totals` of a manager without bounds of its own may have taken many steps.
-                make_room(meter);
+                reset_full_meter(meter);
                 Ok(self.make_object(bytes, meter.steps()))
             }
         }
     }
 
-    /// Removes an object, and its spine and parts if it is longer than a page. It fails with `NotLive` if the
-    /// handle isn't that of an object, for instance if it is that of a part, and then changes nothing. At most
-    /// the steps of a free for each inner object and of a read of four bytes for each part; none if refused.
+    /// Removes an object, and its spine and parts if it is longer than a page. It fails with
+    /// `NotLive` if the handle isn't that of an object, for instance if it is that of a part, and
+    /// then removes nothing. First resets a meter above 2 ^ 62. If the inner manager has step
+    /// bounds, takes at most the steps of a free for each inner object, and of a read of four bytes
+    /// for each part; none if refused.
     pub fn free(&mut self, h: Handle, meter: &mut Meter) -> Result<(), NotLive>
         requires { IsTrue self.old.is_open }
         ensures step { IsLargeFree self.old h.0 result self.new }
@@ -159,7 +165,7 @@ impl<H: Manager> LargeHeap<H> {
         ensures steps { ByCosts self.old.inner H.most (λ c. RoseAtMost (first_count meter.old) meter.new
             (large_free_steps c self.old h.0)) }
     {
-        make_room(meter);
+        reset_full_meter(meter);
         match self.length_of(h) {
             Some(bytes) => {
                 self.release_object(h, bytes, meter.steps());
@@ -169,10 +175,12 @@ impl<H: Manager> LargeHeap<H> {
         }
     }
 
-    /// Writes bytes into an object, long or short, from byte `at` on; no other object changes. It fails with `Unknown`
-    /// if the handle isn't that of an object, with `Range` if the bytes pass the object's end, and then changes
-    /// nothing. Exactly the steps of one write for a short object. For a long one, exactly those of a read of four
-    /// bytes and of a write for each part that gets bytes. None if refused.
+    /// Writes bytes into an object, long or short, from byte `at` on; no other object changes. It
+    /// fails with `Unknown` if the handle isn't that of an object, with `Range` if the bytes pass
+    /// the object's end, and then writes nothing. First resets a meter above 2 ^ 62. If the inner
+    /// manager has step bounds, takes exactly the steps of one write for a short object; for a long
+    /// one those of a read of four bytes and of a write for each part that gets bytes; none if
+    /// refused.
     pub fn write(
         &mut self,
         h: Handle,
@@ -186,7 +194,7 @@ impl<H: Manager> LargeHeap<H> {
         ensures steps { ByCosts self.old.inner H.most (λ c. meter.new ≡ first_count meter.old
             + large_access_steps c self.old (record { number = h.0; from = at }) (length bytes.now) result) }
     {
-        make_room(meter);
+        reset_full_meter(meter);
         match self.length_for(h, at, bytes.len()) {
             Ok(length) => {
                 if length <= self.part_bytes {
@@ -200,9 +208,10 @@ impl<H: Manager> LargeHeap<H> {
         }
     }
 
-    /// Fills `out` with bytes of an object, long or short, from byte `at` on. It fails with `Unknown` if the handle
-    /// isn't that of an object, with `Range` if the bytes pass the object's end, and then leaves `out` unchanged.
-    /// Exactly as many steps as a write of these bytes.
+    /// Fills `out` with bytes of an object, long or short, from byte `at` on. It fails with
+    /// `Unknown` if the handle isn't that of an object, with `Range` if the bytes pass the object's
+    /// end, and then leaves `out` unchanged. First resets a meter above 2 ^ 62. If the inner
+    /// manager has step bounds, takes exactly as many steps as a write of these bytes.
     pub fn read(
         &self,
         h: Handle,
@@ -216,7 +225,7 @@ impl<H: Manager> LargeHeap<H> {
         ensures steps { ByCosts self.now.inner H.most (λ c. meter.new ≡ first_count meter.old
             + large_access_steps c self.now (record { number = h.0; from = at }) (length out.old) result) }
     {
-        make_room(meter);
+        reset_full_meter(meter);
         match self.length_for(h, at, out.len()) {
             Ok(length) => {
                 if length <= self.part_bytes {
@@ -230,7 +239,7 @@ impl<H: Manager> LargeHeap<H> {
         }
     }
 
-    /// Makes a long or short object of `bytes` zero bytes, for which the heap has room, and returns its handle.
+    /// `LargeHeap`: makes an object of `bytes` zero bytes, for which the heap has room, and returns its handle.
     fn make_object(&mut self, bytes: u32, steps: &mut Steps) -> Handle
         requires open { IsTrue self.old.is_open }
         requires room { HasLargeRoom self.old bytes }
@@ -292,7 +301,7 @@ impl<H: Manager> LargeHeap<H> {
 }
 
 /// `LargeHeap`: resets the meter if its count is above 2 ^ 62, for an inner manager needs a count of at most 2 ^ 63.
-fn make_room(meter: &mut Meter)
+fn reset_full_meter(meter: &mut Meter)
     ensures count { meter.new ≡ first_count meter.old }
     ensures low { meter.new ≤ 2 ^ 62 }
 {
@@ -301,8 +310,8 @@ fn make_room(meter: &mut Meter)
     }
 }
 
-/// For long objects, a table with an entry for each proxy, in which no handle has a length. It returns `AllocError` if
-/// the allocation fails.
+/// For long objects, makes the table of lengths by handle, in which no handle has one. Returns
+/// `AllocError` if the allocation fails.
 fn no_lengths(alloc: Global, proxies: u32) -> Result<Vec<Option<u32>>, AllocError>
     ensures { IfOk result (λ lengths. lengths.items ≡ vacant proxies) }
 {

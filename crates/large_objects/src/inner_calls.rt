@@ -1,6 +1,8 @@
-//! Calls of the inner manager that it can't refuse: each function requires that there is room, or that the
-//! inner object is live and has the bytes. Clause `few` of each bounds its steps for every manager, clause `steps`
-//! by the manager's own bounds and, if it promises an order, by that.
+//! Calls that the manager under a heap of long objects (the inner manager, with its inner objects)
+//! can't refuse: each function requires that there is room, or that the inner object is live and
+//! has the bytes. Clause `few` of each bounds its steps for every manager. Clause `steps` has the
+//! exact steps of a read or write, and a closer bound for a malloc or free: from the manager's own
+//! bounds, if it has some, and from the order, if it promises one.
 ghost use Rattle.std.specs.Prelude.{◌≡◌, ℕ, ◌+◌, ◌^◌, ◌≤◌, List, Some, length, take, drop};
 ghost use Rattle.std.specs.FinMap.{get};
 ghost use Rattle.step_ledger.specs.Counting.{RoseAtMost};
@@ -13,7 +15,8 @@ use cf_base::Handle;
 use cf_model::Manager;
 use step_ledger::Steps;
 
-/// Makes an inner object of `bytes` zero bytes, for which the manager has room, and returns its handle.
+/// Makes an inner object of `bytes` zero bytes, for which the inner manager has room, and returns
+/// its handle.
 pub(crate) fn make_inner<H: Manager>(inner: &mut H, bytes: u32, steps: &mut Steps) -> Handle
     requires ready { IsReadyInner (H.state inner.old) }
     requires room { HasInnerRoom (H.state inner.old) bytes }
@@ -29,7 +32,7 @@ pub(crate) fn make_inner<H: Manager>(inner: &mut H, bytes: u32, steps: &mut Step
     }
 }
 
-/// Writes these bytes into the live inner object `object`, from its byte `at` on.
+/// Writes `bytes` into the live inner object `object`, from its byte `at` on.
 pub(crate) fn write_inner<H: Manager>(
     inner: &mut H,
     object: Handle,

@@ -14,6 +14,7 @@ mod spine;
 
 pub use heap::LargeHeap;
 pub use laws::{
-    long_calls_take_steps_for_parts_and_words, pages_in_use_are_those_of_the_inner_objects,
-    parts_are_as_many_as_needed, refusals_come_exactly_by_their_causes, what_is_written_is_read,
+    a_cause_is_always_refused, long_calls_take_steps_for_parts_and_words,
+    pages_in_use_are_those_of_the_inner_objects, parts_are_as_many_as_needed,
+    what_is_written_is_read,
 };

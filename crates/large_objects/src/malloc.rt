@@ -35,7 +35,8 @@ pub(crate) fn make<H: Manager>(
     make_long(inner, bytes, part_bytes, steps)
 }
 
-/// Makes the spine and the parts of an object longer than a page, and returns the spine's handle.
+/// Makes the spine and the parts of an object of `bytes` zero bytes, which is longer than a page,
+/// and returns the spine's handle. The manager must have room for them.
 fn make_long<H: Manager>(inner: &mut H, bytes: u32, part_bytes: u32, steps: &mut Steps) -> Handle
     requires some { 0 < part_bytes }
     requires long { part_bytes < bytes }
@@ -53,8 +54,8 @@ fn make_long<H: Manager>(inner: &mut H, bytes: u32, part_bytes: u32, steps: &mut
     spine
 }
 
-/// Makes a part of `bytes` zero bytes, and writes its handle into place i of the spine: its four bytes from
-/// byte 4 i on.
+/// Makes a part of `bytes` zero bytes, and writes its handle into place i of the spine: the spine's
+/// four bytes from byte 4 i on.
 fn make_part<H: Manager>(inner: &mut H, spine: Handle, i: u32, bytes: u32, steps: &mut Steps)
     requires ready { IsReadyInner (H.state inner.old) }
     requires room { HasInnerRoom (H.state inner.old) bytes }

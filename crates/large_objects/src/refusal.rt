@@ -1,6 +1,6 @@
-//! Why the heap refuses a malloc, found before it changes anything: for pages, those that all inner objects
-//! and the new ones need are counted. In all functions `part_bytes` is the bytes of the largest object that
-//! fits a page.
+//! Why a heap of long objects refuses a malloc, found before anything changes. `Space` is found
+//! by a count of the pages that the old objects and the new one need, with their spines and parts.
+//! In all functions `part_bytes` is the bytes of the largest object that fits a page.
 ghost use Rattle.std.specs.Prelude.{◌≡◌, ◌+◌, ◌<◌, IsTrue};
 ghost use Rattle.std.specs.Option.{MatchOption};
 ghost use Rattle.page_model.specs.Arrangement.{live, pages_for};
@@ -11,15 +11,16 @@ ghost use Rattle.large_objects.specs.LargeCosts.{ByCosts};
 ghost use Rattle.large_objects.specs.LargeSteps.{FitsSpine, HasLargeRoom, IsRefusedLarge, StaysKept};
 ghost use Rattle.large_objects.specs.InnerObjects.{in_class, inner_lengths};
 
-use crate::cut::{has_spine_that_fits, inner_objects, inner_objects_within};
+use crate::cut::{count_inner_objects, count_inner_objects_within, has_spine_that_fits};
 use crate::heap::LargeHeap;
 use cf_base::Refusal;
 use cf_model::Manager;
 use step_ledger::Steps;
 
 impl<H: Manager> LargeHeap<H> {
-    /// Why the heap of long objects would refuse a malloc of `bytes` bytes; `None` if it would not. The causes are
-    /// tested in the order `Size`, `Proxy`, `Space`, and nothing changes.
+    /// Why the heap of long objects would refuse a malloc of `bytes` bytes; `None` if it would not.
+    /// The causes are tested in the order `Size`, `Proxy`, `Space`, and nothing changes. Counts no
+    /// step if the inner manager has step bounds of its own.
     pub(crate) fn refusal(&self, bytes: u32, steps: &mut Steps) -> Option<Refusal>
         requires { IsTrue self.now.is_open }
         ensures cause { MatchOption result (HasLargeRoom self.now bytes) (λ e. IsRefusedLarge self.now bytes e) }
@@ -31,7 +32,7 @@ impl<H: Manager> LargeHeap<H> {
         }
         // `lengths` has one entry for each proxy, so its length is the number of proxies.
         let live = self.inner.totals(steps).live as u64;
-        if (self.lengths.len() as u64) < live + inner_objects(bytes, self.part_bytes) {
+        if (self.lengths.len() as u64) < live + count_inner_objects(bytes, self.part_bytes) {
             return Some(Refusal::Proxy);
         }
         if (self.pages as u64) < pages_with(&self.inner, bytes, self.part_bytes) {
@@ -57,7 +58,7 @@ fn pages_with<H: Manager>(inner: &H, bytes: u32, part_bytes: u32) -> u64
         let Some(figures) = inner.figures(c) else {
             unreachable!();
         };
-        let within = inner_objects_within(bytes, part_bytes, figures.slot_words);
+        let within = count_inner_objects_within(bytes, part_bytes, figures.slot_words);
         pages += (figures.live as u64 + (within - before)).div_ceil(figures.slots as u64);
         before = within;
     }

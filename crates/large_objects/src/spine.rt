@@ -11,8 +11,8 @@ use cf_base::Handle;
 use cf_model::Manager;
 use step_ledger::Steps;
 
-/// The handle of part i, counted from 0. It is read from the spine's bytes: four from byte 4 i on, the least
-/// significant first.
+/// Returns the handle of part i, counted from 0, of the long object whose spine is `spine`. Reads
+/// it from the spine's bytes: four from byte 4 i on, the least significant first.
 pub(crate) fn part_handle<H: Manager>(inner: &H, spine: Handle, i: u32, steps: &mut Steps) -> Handle
     requires ready { IsReadyInner (H.state inner.now) }
     requires has { HasInner (H.state inner.now) spine.0 (4 * i) 4 }

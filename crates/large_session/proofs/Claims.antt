@@ -32,7 +32,7 @@ use Rattle.large_session.proofs.RunInvariant.{large_keeps, begins_going}
 use Rattle.run_model.specs.Plays.{IsAt, PlayRun, PlayStep}
 use Rattle.script_loop.specs.Semantics.{RunBy}
 use Rattle.large_session.specs.Playing.{BeginsAtOne, BeginsLarge, RunsLarge, large_heap}
-use Rattle.cf_base.specs.declared.answers.Refusal.TheVariants as refusal
+use Rattle.cf_base.specs.declared.results.Refusal.TheVariants as refusal
 use Rattle.script_reader.specs.declared.command.Command.TheVariants as command
 
 -- For `m`, `walk` and `frag`: the inner manager holds exactly the spines, parts and short objects of the objects by id, so refusals and reports are as claimed.

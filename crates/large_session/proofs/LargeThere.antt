@@ -21,7 +21,7 @@ use Rattle.large_objects.specs.InnerObjects.{part_length, part_count, spine_byte
 use Rattle.large_objects.specs.Shrinking.{HasInnerObjects, HasParts, ReleasesInner, Shrinks}
 use Rattle.large_objects.specs.LargeSteps.{FreesLarge, GivesLarge, HasLong, HasPartRange, HasLargeRoom, HasShort, IsRefusedLarge, StaysKept, WritesLarge, part_bytes_in}
 use Rattle.large_objects.specs.Layout.{AreKept, AreLengths, IsValid, gathered_objects, large_state}
-use Rattle.cf_base.specs.declared.answers.Refusal.TheVariants as refusal
+use Rattle.cf_base.specs.declared.results.Refusal.TheVariants as refusal
 
 -- An inner manager has a state after each malloc with room, free or write of an inner object: it is the state of a run whose ids are the live handles, and
 -- each command of a run has a reply.

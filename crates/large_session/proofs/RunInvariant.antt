@@ -21,7 +21,7 @@ use Rattle.std.proofs.lemmas.Bool.{cases_lt}
 use Rattle.cf_base.specs.Maps.{vacant}
 use Rattle.large_objects.proofs.CallerLemmas.{parts as empty_parts}
 use Rattle.large_session.proofs.LargeThere.{free_there, kept_same, malloc_there, room_or_cause, write_there}
-use Rattle.cf_base.specs.declared.answers.AccessFault.TheVariants as access
+use Rattle.cf_base.specs.declared.results.AccessFault.TheVariants as access
 
 -- After each command of a run over long objects its heap is open and keeps its rules, and the ids name its objects (`IsGoingLarge`); and what each command
 -- does to the ids and the objects that they name.

@@ -1,5 +1,5 @@
-//! The commands `m`, `f`, `w` and `r` of a session over long objects, where a script names objects by ids.
-//! The first three return their reply; `r` builds its reply in `line`.
+//! The commands `m`, `f`, `w` and `r` of a session whose objects, named by ids, may be long: longer
+//! than a page. The first three return their reply; `r` builds its reply in `line`.
 ghost use Rattle.std.specs.Prelude.{◌≡◌, ◌<◌, ◌≤◌, [], IsTrue, length};
 ghost use Rattle.cf_io.specs.Lines.{line_capacity};
 ghost use Rattle.run_model.specs.Terms.{Free, Malloc, said, Write};
@@ -17,8 +17,9 @@ use id_table::IdTable;
 use large_objects::LargeHeap;
 use step_ledger::Meter;
 
-/// `m`: makes an object, long or short, of `bytes` zero bytes for an id that isn't live. The reply is `ok`; or `live`
-/// if the id is live, or the name of the heap's refusal, and then nothing changes.
+/// `m`: makes an object, long or short, of `bytes` zero bytes, which `id` then names. The reply is
+/// `ok`; or `live` if the id is live already, or `refused` and the cause if the heap refuses the
+/// malloc, and then no id and no object changes.
 pub(crate) fn malloc<H: Manager>(
     ids: &mut IdTable,
     heap: &mut LargeHeap<H>,
@@ -41,8 +42,8 @@ pub(crate) fn malloc<H: Manager>(
     }
 }
 
-/// `f`: frees the object, long or short, of a live id. The reply is `ok`; or `unknown` if the id isn't live, and then
-/// nothing changes.
+/// `f`: frees the object, long or short, of a live id, and the id. The reply is `ok`; or `unknown`
+/// if the id isn't live, and then nothing changes.
 pub(crate) fn free<H: Manager>(
     ids: &mut IdTable,
     heap: &mut LargeHeap<H>,

@@ -1,6 +1,7 @@
-//! Laws of runs over long objects: reads of what was written, runs that can go on, cut output; and what is
-//! claimed of every script in mode `large`, by its lines and their replies alone (`MeetsLarge`). The functions
-//! do nothing: their clauses are the laws.
+//! Laws of runs over long objects, longer than a page: reads print what was written, runs can go
+//! on, and cut output is a prefix; and what is claimed of every script in mode `large`, by its
+//! lines and their replies alone (`MeetsLarge`). The functions do nothing: their clauses are the
+//! laws.
 ghost use Rattle.std.specs.Prelude.{◌≡◌, ℕ, ◌++◌, Bool, List, [], Option, None, codes, take, ◌∷◌};
 ghost use Rattle.run_model.specs.Terms.{AreInRange, Command, IsPaged, Item, items, Kind, Profile, Reply, said, text_of};
 ghost use Rattle.script_laws.specs.ValidItems.{IsValidCommand};
@@ -13,9 +14,9 @@ ghost use Rattle.script_loop.specs.Semantics.{RunBy};
 ghost use Rattle.large_session.specs.LargeHeadline.{MeetsLarge};
 ghost use Rattle.large_session.specs.Small.{MeetsSmallLarge, small_large_replies, small_walk, walk_of_wholes};
 
-/// In every list of commands each read returns the bytes last written through its id, however its object
-/// is cut into parts. Which bytes these are follows from the lines, their ids and their replies alone: no
-/// address, handle or part matters.
+/// In every run on long objects each read prints the bytes last written through its id, however the
+/// object is cut into parts. Which bytes these are follows from the lines and their replies alone:
+/// no address, handle or part matters.
 pub fn reads_give_what_was_written()
     ensures { (kind : Kind) (items : List Item) (replies : List Reply) (new : Option LargeRun)
         → RunsLarge kind None items replies new → AreReadsOf None items replies }
@@ -34,9 +35,10 @@ pub fn each_command_has_its_turn()
         → LargeStep old command reply new → IsGoingLarge new }
 {}
 
-/// Clause `there`: there is a run on long objects over the items of any bytes `given`, where `ended` is whether the
-/// script ends after them. Clause `on`: each run over a prefix of these items can be continued to the last one.
-pub fn a_long_run_can_always_go_on()
+/// Clause `there`: over a manager of any kind with pages there is a run on long objects over the
+/// items of any bytes `given`; `ended` is whether the script ends after them. Clause `on`: each run
+/// over a prefix of these items can be continued to the last one.
+pub fn a_run_on_long_objects_can_go_on()
     ensures there { (kind : Kind) (given : List ℕ) (ended : Bool) → IsPaged kind
         → (replies : List Reply) × (new : Option LargeRun) × RunsLarge kind None (items given ended) replies new }
     ensures on { (kind : Kind) (given : List ℕ) (ended : Bool) (done after : List Item) (replies : List Reply)
@@ -45,16 +47,17 @@ pub fn a_long_run_can_always_go_on()
         → (more : List Reply) × (new : Option LargeRun) × RunsLarge kind None (items given ended) (replies ++ more) new }
 {}
 
-/// On long objects, if the sink fails, what it got before is a prefix of the output of a run over the whole script,
-/// whose bytes are `all`.
+/// On long objects, over a manager of any kind with pages, what was written before the sink failed
+/// is a prefix of the output of some run over the whole script, whose bytes are `all`.
 pub fn what_was_cut_is_a_prefix()
     ensures { (from to : LargeRun) (call : Effects) (all : List ℕ) → IsPaged from.heap.inner.kind
         → (w : WroteInPart large_heap from (items_within all) call to)
         → IsPrefixBy large_heap from (items_within all) (text_of [] w.replies ++ w.front) }
 {}
 
-/// The replies of every run in mode `large` meet the claim (`MeetsLarge`), and exactly one list of replies
-/// meets it. `run` is about runs of a session (`RunsLarge`), `play` about runs of the script loop (`RunBy`).
+/// The replies of every run in mode `large` meet the claim (`MeetsLarge`), and at most one list of
+/// replies meets it (`one`). `run` is about runs of a session (`RunsLarge`), `play` about those of
+/// the script loop (`RunBy`).
 pub fn the_large_headline()
     ensures run { (kind : Kind) (items : List Item) (replies : List Reply) (end : Option LargeRun)
         → RunsLarge kind None items replies end → MeetsLarge kind items replies }

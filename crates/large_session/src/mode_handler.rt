@@ -16,7 +16,8 @@ use std::alloc::Global;
 use std::rt::Memory;
 use step_ledger::Meter;
 
-/// The mode handler: a session over long objects, the line in which it builds replies, and its ledger.
+/// The mode handler of mode `large`: a session over long objects, the line in which it builds
+/// replies, and the meter that owns the count of steps.
 #[derive(Drop)]
 pub struct LargeHandler {
     pub session: LargeSession,
@@ -47,14 +48,15 @@ impl<H: Manager> ModeHandler<LargeHeap<H>> for LargeHandler {
 
     ghost semantics = { large_heap };
 
-    /// Opens the heap of long objects with the settings of the `heap` line, but the bound 1, and writes the reply `ok`.
+    /// Opens the heap of long objects with the settings of the `heap` line, but always with the
+    /// bound 1, and writes the reply `ok`. Fails with `OutOfMemory` if an allocation fails, and
+    /// with `Failed` if the sink fails.
     fn open<K: Sink>(
         &mut self,
         heap: &mut LargeHeap<H>,
         settings: &Settings,
         sink: &mut K,
     ) -> Result<(), OpenFault> {
-        // Every class has the bound 1, whatever bound the line has.
         let settings = Settings {
             pages: settings.pages,
             page_words: settings.page_words,
@@ -66,7 +68,8 @@ impl<H: Manager> ModeHandler<LargeHeap<H>> for LargeHandler {
         Ok(())
     }
 
-    /// Does the command on the heap of long objects and writes its reply.
+    /// Does the command on the heap of long objects and writes its reply. Fails if the sink fails:
+    /// the command has taken effect.
     fn answer<K: Sink>(
         &mut self,
         heap: &mut LargeHeap<H>,

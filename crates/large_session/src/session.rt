@@ -24,7 +24,8 @@ use std::alloc::Global;
 use std::marker::Model;
 use step_ledger::Meter;
 
-/// The ids of a script with the handles that they name in one heap of long objects, and a buffer.
+/// The live ids of a script with the handles that they name in one heap of long objects, and a
+/// buffer.
 #[derive(Drop)]
 pub struct LargeSession {
     ids: IdTable,
@@ -54,8 +55,10 @@ impl LargeSession {
         })
     }
 
-    /// Does the command c on the heap of long objects, builds its reply in `line`, and writes it to the sink `out`. If
-    /// the sink fails, the result is `Failed`: the command has taken effect, and a prefix of its reply was written.
+    /// Does the command `c` on the open heap of long objects, builds each line of its reply in
+    /// `line`, writes the reply to the sink `out`, and returns the outcome of the reply. `meter`
+    /// counts steps. If the sink fails, the result is `Failed`: the command has taken effect, and a
+    /// prefix of its reply was written.
     pub fn apply<H: Manager, K: Sink>(
         &mut self,
         heap: &mut LargeHeap<H>,
@@ -111,8 +114,9 @@ impl LargeSession {
     }
 }
 
-/// Does a command other than `walk` and `frag` on long objects, and builds the text of its reply in `line`. `buffer`
-/// gets the bytes of a read. The reply to a command of another mode is `none`.
+/// Does a command other than `walk` and `frag` on long objects, builds the text of its reply in
+/// `line`, and returns the outcome of the reply. `buffer` gets the bytes of a read. Any command but
+/// `m`, `f`, `w` and `r` gets the reply `none`.
 fn build_reply<H: Manager>(
     ids: &mut IdTable,
     heap: &mut LargeHeap<H>,

@@ -3,13 +3,13 @@
 use Rattle.std.proofs.Common.{◌≡◌, ◌≢◌, ℕ, zero, suc, ◌+◌, ◌-◌, ◌*◌, ◌≤◌, Option, Some, None, arith, sym, ◌∙◌, ap, refl, subst, replicate}
 use Rattle.std.specs.Prelude.{Ok}
 use Rattle.std.specs.FinMap.{get, insert}
-use Rattle.cf_base.specs.declared.answers.Handle.{Handle}
+use Rattle.cf_base.specs.declared.results.Handle.{Handle}
 use Rattle.page_model.specs.Counts.{ceil_div}
 use Rattle.page_model.specs.Held.{objects}
 use Rattle.page_model.specs.Paging.{slot_words}
 use Rattle.page_model.proofs.CallerLemmas.{ceil_mono, slot_fits}
-use Rattle.slice_model.specs.declared.answers.SliceRefusal.{SliceRefusal}
-use Rattle.slice_model.specs.declared.answers.SliceRefusal.TheVariants.{Busy}
+use Rattle.slice_model.specs.declared.refusals.SliceRefusal.{SliceRefusal}
+use Rattle.slice_model.specs.declared.refusals.SliceRefusal.TheVariants.{Busy}
 use Rattle.slice_model.specs.declared.job_slot.JobSlot.{JobSlot}
 use Rattle.slice_model.specs.Runs.{Happens, HeapWithWords, Free, Malloc}
 use Rattle.slice_model.specs.State.{Plan, IsPlan, Job, Sliced, IsKept, job_slot, Idle, Clear, Move}

@@ -1,7 +1,7 @@
 -- For `first_object`, `store` and `read_and_free`: the bytes of the example's object, and the result of reading its first two.
 use Rattle.std.specs.Prelude.{◌≡◌, ℕ, ◌-◌, List, ◌++◌, Result, Ok, Err, length, replicate, true}
 use Rattle.std.specs.FinMap.{empty, insert}
-use Rattle.cf_base.specs.declared.answers.AccessFault.{AccessFault}
+use Rattle.cf_base.specs.declared.results.AccessFault.{AccessFault}
 use Rattle.page_model.specs.Held.{objects}
 use Rattle.cf_model.specs.State.{HeapState}
 use Rattle.cf_model.specs.Steps.{IsFault, Position, ReadsBytes}

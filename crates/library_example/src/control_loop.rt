@@ -2,7 +2,7 @@
 //! last cycle (a frame) and makes the next frame, in at most a number of steps that is known beforehand.
 ghost use Rattle.std.specs.Prelude.{◌≡◌, ◌≢◌, ◌+◌, ◌*◌, ◌≤◌, IsTrue, IfErr, IfOk, Err};
 ghost use Rattle.page_model.specs.Counts.{ceil_div};
-ghost use Rattle.slice_model.specs.declared.answers.SliceRefusal.TheVariants.{Busy};
+ghost use Rattle.slice_model.specs.declared.refusals.SliceRefusal.TheVariants.{Busy};
 ghost use Rattle.sliced_heap.specs.Shown.{KeepsSlicedRules, StaysSlicedOpen};
 ghost use Rattle.step_ledger.specs.Counting.{RoseAtMost};
 ghost use Rattle.library_example.specs.Cycle.{HasFrame, IsMissed};
@@ -18,17 +18,18 @@ use step_ledger::Steps;
 /// The cause if a cycle makes no new frame.
 #[derive(Clone, Copy, Debug, PartialEq, Eq)]
 pub enum Missed {
-    /// The free of the last frame was refused; nothing has changed.
+    /// The free of the last frame was refused; no object has changed.
     Free(SliceFault),
     /// The last frame was freed, and the malloc of the new one was refused.
     Malloc(SliceRefusal),
 }
 
-/// Does one cycle of the control loop: frees the last frame, calls `step` `slices` times for the job that the free
-/// left, and makes the next frame, of `bytes` zeros. Returns its handle, or the call that was refused and its cause.
-/// The bytes of every other object are unchanged. If `slices` is at least twice the number of slices of a page, the
-/// malloc is never refused as `Busy`. The cycle takes at most 40 + q + n(15 + q) steps, where n is `slices` and q the
-/// quantum in words.
+/// Does one cycle of the control loop: frees the last frame, calls `step` `slices` times for the
+/// job that the free left, and makes the next frame, of `bytes` zeros. Returns its handle, or the
+/// call that was refused and its cause. The bytes of every other object are unchanged. Let p be the
+/// words of a page divided by the quantum, rounded up: if `slices` is at least 2p, the malloc is
+/// never refused as `Busy`. The cycle takes at most 40 + q + n(15 + q) steps, where n is `slices`
+/// and q the quantum in words.
 pub fn next_frame(
     heap: &mut SlicedHeap,
     last: Handle,

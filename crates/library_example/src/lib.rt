@@ -1,5 +1,6 @@
-//! Examples of callers in Rattle. This file: callers of managers, whose contracts are proved from those of
-//! `Manager` alone. `control_loop`: a caller of the sliced heap.
+//! Examples of callers in Rattle. This file: callers of managers; the contracts of `store` and
+//! `read_and_free` are proved from those of `Manager` alone. `control_loop`: a caller of the sliced
+//! heap.
 #![tactic(auto)]
 
 mod control_loop;
@@ -17,9 +18,9 @@ use moving_heap::MovingHeap;
 use std::alloc::Global;
 use step_ledger::Meter;
 
-/// An example: opens a moving heap of two pages of 512 bytes, with bound k = 1 and eight proxies, and makes one object,
-/// which begins with the bytes ca fe (hexadecimal). Returns the heap and the object's handle, or `None` if out of
-/// memory.
+/// An example: opens a moving heap of two pages of 512 bytes, with bound k = 1 and eight proxies,
+/// and makes one object of 176 bytes, which begins with the bytes ca fe (hexadecimal). Returns the
+/// heap and the object's handle, or `None` if out of memory.
 pub fn first_object(rt: &HostRuntime, alloc: Global) -> Option<(MovingHeap, Handle)>
     ensures { IfSome result (λ r. HoldsOne r.0.state r.1.0 (0xca ∷ 0xfe ∷ [])) }
 {
@@ -30,8 +31,9 @@ pub fn first_object(rt: &HostRuntime, alloc: Global) -> Option<(MovingHeap, Hand
     Some((heap, object))
 }
 
-/// An example: makes an object of 176 bytes on any manager, and writes `bytes` as its first two. Returns its handle, or
-/// the refusal of the malloc.
+/// An example: makes an object of 176 bytes on any manager, and writes `bytes` as its first two;
+/// the others are zeros. Returns its handle, or the refusal of the malloc. Resets the meter before
+/// each call.
 pub fn store<M: Manager>(
     heap: &mut M,
     bytes: &[u8; 2],
@@ -49,8 +51,9 @@ pub fn store<M: Manager>(
     Ok(object)
 }
 
-/// An example: reads the first two bytes of an object, frees it, and returns the bytes. Fails if the handle is not live
-/// or the object has fewer than two bytes; then it is not freed.
+/// An example: reads the first two bytes of an object of any manager, frees the object, and returns
+/// the bytes. Fails if the handle is not live or the object has fewer than two bytes; then nothing
+/// is freed. Resets the meter before each call.
 pub fn read_and_free<M: Manager>(
     heap: &mut M,
     object: Handle,

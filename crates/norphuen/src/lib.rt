@@ -1,8 +1,10 @@
-//! The moving manager as a library for C. `include/norphuen.h` describes each export for C. An export calls the
-//! function of `held_heap` that its comment names, and its contract is that function's. Each export that takes a
-//! heap, but `nph_close`, returns a code: 0 (`DONE`) if the call is done, else the cause (`c_base`, file `codes`). Of
-//! these each but `nph_open` returns `CLOSED` and changes nothing while the heap is closed, and each but `nph_return`
-//! returns `LENT` and changes nothing while it is lent (`IsCallOnOpen`).
+//! The moving manager as a library for C. `include/norphuen.h` describes each export for C. An
+//! export calls a function of `held_heap` or of `c_base`, which its comment names in brackets
+//! (`nph_version`: a constant); on an open heap its contract is that function's. Each export that
+//! takes a heap, but `nph_close`, returns 0 (`DONE`), or the code of a refusal (`c_base`, file
+//! `codes`), as the function's comment says. While the heap is closed, all of these but `nph_open`
+//! return `CLOSED` and change nothing. While it is lent, all but `nph_return` return `LENT` and
+//! change nothing.
 #![tactic(auto)]
 
 ghost use Rattle.std.specs.Prelude.{◌≡◌};
@@ -47,9 +49,10 @@ pub extern "C" fn nph_open(
     heap.open(memory, pages, page_bytes, k, proxies)
 }
 
-/// Writes into `needed` what `nph_open` with these settings asks of the functions that take and return memory: how many
-/// blocks, the bytes of all, and those of the largest. The caller's own memory for `heap` isn't counted, nor what the
-/// functions need for a block. Returns 0, or the code of the first setting out of range (`NphHeap::bytes_needed`).
+/// Writes into `needed` the memory that `nph_open` with these settings asks for: how many blocks of
+/// memory, the bytes of all, and those of the largest. The caller's struct isn't counted, nor what
+/// an allocator adds to a block. Returns 0, or the code of the first setting out of range
+/// (`NphHeap::bytes_needed`).
 #[unsafe(no_mangle)]
 pub extern "C" fn nph_bytes_needed(
     pages: u32,
@@ -63,9 +66,10 @@ pub extern "C" fn nph_bytes_needed(
     NphHeap::bytes_needed(pages, page_bytes, k, proxies, needed)
 }
 
-/// Writes into `pages` the least number of pages of `page_bytes` bytes with which no call of a program is refused for space
-/// while it keeps to its `needs`, whatever their order; `k` is only tested. Returns 0, or the code of why there is no number
-/// (`pages_needed`).
+/// Writes into `pages` the least number of pages of `page_bytes` bytes with which no call of a
+/// program is refused for space, whatever the order of its calls, while the program keeps to its
+/// `needs`. `k` must be in its range, 1 to 64, and has no other effect. Returns 0, or the code of
+/// the refusal (`pages_needed`).
 #[unsafe(no_mangle)]
 pub extern "C" fn nph_pages_needed(
     page_bytes: u32,
@@ -191,7 +195,8 @@ pub extern "C" fn nph_has_room(heap: &mut NphHeap, bytes: u32) -> i32
     }
 }
 
-/// Writes the words of an object's slot into `words`, as a free of it would (`Held::slot_words`).
+/// Writes how many words an object's slot has into `words`, as a free of it would
+/// (`Held::slot_words`).
 #[unsafe(no_mangle)]
 pub extern "C" fn nph_slot_words(heap: &mut NphHeap, handle: u32, words: &mut u32) -> i32
     ensures { IsCallOnOpen (heap_in heap.old) result (heap_in heap.new) (words.new ≡ words.old)
@@ -205,7 +210,8 @@ pub extern "C" fn nph_slot_words(heap: &mut NphHeap, handle: u32, words: &mut u3
     }
 }
 
-/// Writes the size class of an object of `bytes` bytes, numbered from 0, into `class` (`Held::class_of`).
+/// Writes into `class` the number, from 0, of the size class of an object of `bytes` bytes
+/// (`Held::class_of`).
 #[unsafe(no_mangle)]
 pub extern "C" fn nph_class_of(heap: &mut NphHeap, bytes: u32, class: &mut u32) -> i32
     ensures { IsCallOnOpen (heap_in heap.old) result (heap_in heap.new) (class.new ≡ class.old)
@@ -219,7 +225,8 @@ pub extern "C" fn nph_class_of(heap: &mut NphHeap, bytes: u32, class: &mut u32) 
     }
 }
 
-/// Writes the figures of a size class, numbered from 0, into `figures` (`Held::figures`).
+/// Writes the figures of the size class with the number `class`, from 0, into `figures`
+/// (`Held::figures`).
 #[unsafe(no_mangle)]
 pub extern "C" fn nph_figures(heap: &mut NphHeap, class: u32, figures: &mut NphClass) -> i32
     ensures { IsCallOnOpen (heap_in heap.old) result (heap_in heap.new) (figures.new ≡ figures.old)
@@ -247,8 +254,9 @@ pub extern "C" fn nph_totals(heap: &mut NphHeap, totals: &mut NphHeapTotals) -> 
     }
 }
 
-/// Writes the handle of the next live object after that of `handle` into `next`, the first one for `NONE`; after the last one
-/// `NONE` (`Held::next`). It takes a step for each number that it looks at.
+/// Writes the handle of the live object after that of `handle`, by rising number, into `next`, or
+/// of the first one if `handle` is `NONE`; after the last one writes `NONE` (`Held::next`). Takes
+/// one step for each object number that it looks at, that of `handle` included.
 #[unsafe(no_mangle)]
 pub extern "C" fn nph_next(heap: &mut NphHeap, handle: u32, next: &mut u32) -> i32
     ensures { IsCallOnOpen (heap_in heap.old) result (heap_in heap.new) (next.new ≡ next.old)
@@ -262,7 +270,8 @@ pub extern "C" fn nph_next(heap: &mut NphHeap, handle: u32, next: &mut u32) -> i
     }
 }
 
-/// Writes what the heap counted since it was opened into `counts` (`Held::counts`). It counts no steps.
+/// Writes what the heap counted since it was opened into `counts` (`Held::counts`). Counts no
+/// steps.
 #[unsafe(no_mangle)]
 pub extern "C" fn nph_counts(heap: &mut NphHeap, counts: &mut NphCounted) -> i32
     ensures { IsCallOnOpen (heap_in heap.old) result (heap_in heap.new) (counts.new ≡ counts.old)
@@ -276,8 +285,8 @@ pub extern "C" fn nph_counts(heap: &mut NphHeap, counts: &mut NphCounted) -> i32
     }
 }
 
-/// Sets to `k` how many pages of the class with slots of `slot_words` words may be partly full, while no object is live
-/// (`Held::set_bound`). It counts no steps.
+/// Sets to `k`, 1 to 64, how many pages of the class with slots of `slot_words` words may be partly
+/// full, if no object is live (`Held::set_bound`). Counts no steps.
 #[unsafe(no_mangle)]
 pub extern "C" fn nph_set_bound(heap: &mut NphHeap, slot_words: u32, k: u32) -> i32
     ensures { IsCallOnOpen (heap_in heap.old) result (heap_in heap.new) (Unit {0})
@@ -291,7 +300,8 @@ pub extern "C" fn nph_set_bound(heap: &mut NphHeap, slot_words: u32, k: u32) -> 
     }
 }
 
-/// Writes the steps of the last call that counts them into `steps` (`Held::last_steps`).
+/// Writes the steps of the last call that counts them, 0 if there was none, into `steps`
+/// (`Held::last_steps`).
 #[unsafe(no_mangle)]
 pub extern "C" fn nph_last_steps(heap: &mut NphHeap, steps: &mut u64) -> i32
     ensures { IsCallOnOpen (heap_in heap.old) result (heap_in heap.new) (steps.new ≡ steps.old)
@@ -329,7 +339,8 @@ pub extern "C" fn nph_lend(heap: &mut NphHeap, words: &mut *mut u64) -> i32
     heap.inner().lend(words)
 }
 
-/// Ends the loan (`LendableHeap::end_loan`).
+/// Ends the loan: the heap is open again, with the words as the caller left them
+/// (`LendableHeap::end_loan`).
 #[unsafe(no_mangle)]
 pub extern "C" fn nph_return(heap: &mut NphHeap) -> i32
     ensures { IsReturnCall (heap_in heap.old) result (heap_in heap.new) }
@@ -345,8 +356,9 @@ pub extern "C" fn nph_version() -> u32
     VERSION
 }
 
-/// Returns the kind of this library's heaps (`most::kind`). It and the calls below take no heap. Each of those returns the
-/// most steps of a call, which are those of the bound in its contract (`bounds`).
+/// Returns the number for the kind of this library's heaps (`most::kind`). This call and those
+/// below take no heap. Each call below returns the most steps of one call: the bound in the
+/// contract of that call.
 #[unsafe(no_mangle)]
 pub extern "C" fn nph_kind() -> u32
     ensures { result ≡ kind_code Moving }
@@ -370,7 +382,8 @@ pub extern "C" fn nph_most_free(slot_words: u32) -> u64
     most::most_free(Kind::Moving, slot_words)
 }
 
-/// Returns the most steps of a resize to `bytes` bytes between slots of these words (`most_resize`).
+/// Returns the most steps of a resize to `bytes` bytes, from a slot of `old_slot_words` words to
+/// one of `slot_words` words (`most_resize`).
 #[unsafe(no_mangle)]
 pub extern "C" fn nph_most_resize(bytes: u32, old_slot_words: u32, slot_words: u32) -> u64
     ensures { IsMostResize bounds bytes old_slot_words slot_words result }
@@ -378,7 +391,8 @@ pub extern "C" fn nph_most_resize(bytes: u32, old_slot_words: u32, slot_words: u
     most::most_resize(Kind::Moving, bytes, old_slot_words, slot_words)
 }
 
-/// Returns the steps of a read or a write of `count` bytes from byte `at` on (`most_access`).
+/// Returns the most steps of a read or a write of `count` bytes from byte `at` on; one that
+/// succeeds takes exactly these (`most_access`).
 #[unsafe(no_mangle)]
 pub extern "C" fn nph_most_access(at: u32, count: u32) -> u64
     ensures { IsMostAccess bounds at count result }
@@ -394,7 +408,7 @@ pub extern "C" fn nph_most_has_room() -> u64
     most::most_has_room(Kind::Moving)
 }
 
-/// Returns the most steps of `nph_totals` on a heap with this many free pages or blocks (`most_totals`).
+/// Returns the most steps of `nph_totals`; with pages it takes none, however many are free (`most_totals`).
 #[unsafe(no_mangle)]
 pub extern "C" fn nph_most_totals(free_count: u32) -> u64
     ensures { IsMostTotals bounds free_count result }

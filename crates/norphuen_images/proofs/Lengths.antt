@@ -7,7 +7,7 @@ use Rattle.std.proofs.lemmas.List.Sums.{sum_by-cons}
 use Rattle.cf_base.specs.declared.kind.Kind.{Kind}
 use Rattle.cf_base.specs.declared.kind.Kind.TheVariants.{Moving}
 use Rattle.cf_base.specs.Settings.{at_bound_one}
-use Rattle.cf_base.specs.declared.answers.Totals.{Totals}
+use Rattle.cf_base.specs.declared.results.Totals.{Totals}
 use Rattle.cf_base.proofs.Induction.{map_induction}
 use Rattle.cf_base.proofs.Maps.{get_inserted, get_insert_other, len_fresh}
 use Rattle.cf_base.proofs.Sums.{sum_by-inserted}

@@ -6,7 +6,7 @@ use Rattle.cf_base.specs.declared.kind.Kind.TheVariants.{Moving}
 use Rattle.cf_base.specs.declared.needed.BytesNeeded.{BytesNeeded}
 use Rattle.paged_heap.specs.Needed.{paged_bytes}
 use Rattle.c_base.specs.Needed.{AreNeeded}
-use Rattle.c_base.specs.declared.answers.NphNeeded.{NphNeeded}
+use Rattle.c_base.specs.declared.results.NphNeeded.{NphNeeded}
 
 -- what opening a heap with the settings p asks for: the heap, the table of 65,536 ids, and the block of the open heap
 abbrev pub IsImagesHeldBytes : Profile → BytesNeeded → Type 0

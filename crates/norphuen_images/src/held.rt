@@ -1,4 +1,4 @@
-//! `HeldImages`: an open heap whose objects have ids, for a C library. Each call returns a code, and writes its other results
+//! `HeldImages`: an open heap whose objects have ids, for a C library. Each call from C returns a code, and writes its other results
 //! through references. An id is a number below 65,536. A call that is refused changes nothing.
 ghost use Rattle.std.specs.Prelude.{◌≡◌, ◌≤◌, IfErr, IfOk, length};
 ghost use Rattle.heap_image.specs.Heaps.{heap_image};
@@ -25,13 +25,13 @@ const IDS: u32 = 65_536;
 /// The bytes of the table of ids.
 const IDS_BYTES: u64 = 524_288;
 
-/// The bytes of the block of an open heap.
+/// The bytes of the memory block of an open heap.
 const HELD_BYTES: u64 = 1512;
 
 const _: () = prove!(size_of::<HeldImages>() == 1512);
 
-/// An open heap, the ids of its objects, and its settings. Each call counts its steps on a ledger of its own that it makes from
-/// `memory`.
+/// An open heap, the ids of its objects, and its settings. Calls that count steps do so on
+/// ledgers made from `memory`; nothing reads these counts.
 #[derive(Drop)]
 pub struct HeldImages {
     heap: MovingHeap,
@@ -57,12 +57,13 @@ impl Model for HeldImages {
 impl Openable for HeldImages {
     ghost opening = { images_opening };
 
+    /// For C, the memory that opening a heap with ids asks for.
     fn bytes_needed(s: &Settings) -> BytesNeeded {
         let own = BytesNeeded::block(IDS_BYTES).and(BytesNeeded::block(HELD_BYTES));
         MovingHeap::bytes_needed(s).and(own)
     }
 
-    /// For C, opens a heap in which no id is live.
+    /// For C, opens a heap in which no id has an object. Returns `None` if out of memory.
     fn open(memory: Memory, s: &Settings, _last: u32) -> Option<Box<HeldImages, Global>> {
         let alloc = Global::new(memory);
         let Ok(names) = Names::new(memory, alloc) else {
@@ -89,7 +90,7 @@ impl Openable for HeldImages {
 }
 
 impl HeldImages {
-    /// Opens C's heap in a block of its own with the settings and the objects of an image, and with the bound `k`.
+    /// Opens C's heap in a memory block of its own with the settings and the objects of an image, and with the bound `k`.
     /// Fails with `Bad` if the bytes are no image, and with `OutOfMemory`.
     pub(crate) fn load(memory: Memory, bytes: &[u8], k: u32) -> Result<Box<HeldImages>, LoadFault>
         requires least { 1 ≤ k }
@@ -221,7 +222,8 @@ impl HeldImages {
         }
     }
 
-    /// For C, the bytes of the heap's image: 20, six for each object, and those of the objects.
+    /// For C, the length of the heap's image in bytes: 20, six for each object, and the objects'
+    /// bytes.
     fn image_length(&self) -> u64
         ensures { result ≡ length (heap_image self.now) }
     {
@@ -231,7 +233,7 @@ impl HeldImages {
         20 + 6 * u64::from(totals.live) + totals.asked
     }
 
-    /// For C, writes the bytes of the heap's image into `bytes`. Always returns `DONE`.
+    /// For C, writes the length of the heap's image, in bytes, into `bytes`. Always returns `DONE`.
     pub fn image_bytes(&mut self, bytes: &mut u64) -> i32
         ensures { IsImageBytesCall self.old result bytes.new self.new }
     {
@@ -275,7 +277,7 @@ impl HeldImages {
         ensures full { length sink.new.bytes.now ≡ length sink.old.bytes.now → sink.new.bytes.now ≡ heap_image self.now }
     {
         let mut meter = Meter::for_library(self.memory);
-        // Whether it fails or not, the image fills the slice.
+        // Whether the save fails or not, the image fills the slice.
         let _done = save(&self.settings, &self.heap, &self.names, sink, &mut meter);
     }
 }

@@ -1,4 +1,4 @@
-//! `NphHeap` for the heap whose objects have ids: a `ClosableHeap` in types that C may see.
+//! `NphHeap` for the heap whose objects have ids: a `ClosableHeap` of `c_base`, and its fields, in types that C may see.
 ghost use Rattle.std.specs.Prelude.{◌≡◌, Option, is_some};
 ghost use Rattle.std.specs.Borrow.{sem};
 ghost use Rattle.std.specs.Coded.{coded_option};
@@ -16,7 +16,7 @@ use std::rt::Memory;
 
 const _: () = prove!(size_of::<NphHeap>() == 16);
 
-/// A `HeapBlock`.
+/// A `HeapBlock`, in types that C may see.
 #[repr(C)]
 #[derive(Drop)]
 pub struct Place {
@@ -30,7 +30,8 @@ impl Model for Place {
 
 unsafe impl Send for Place {}
 
-/// A `ClosableHeap`. Call its `close` before it is dropped: a drop does not free the memory of a heap.
+/// A `ClosableHeap`, in types that C may see. Call `close` of `inner` before a drop: a drop does
+/// not free the memory of a heap.
 #[repr(C)]
 #[derive(Drop)]
 pub struct NphHeap {
@@ -54,8 +55,8 @@ impl NphHeap {
 
     /// `NphHeap`: opens a heap with the settings and the objects of an image, and with the bound `k`. Returns `DONE`;
     /// else the heap is unchanged, and the code is `OPEN` if it is open already, `BOUND` if `k` isn't 1 to 64, `IMAGE`
-    /// if the bytes are no image, or `MEMORY`. After `IMAGE`, and only then, `offset` is where the bytes break a rule
-    /// of images.
+    /// if the bytes are no image, or `MEMORY`. After `IMAGE`, `offset` is where the first field begins that breaks a
+    /// rule of images or is cut, or where bytes follow the image; else it is unchanged.
     pub fn load(&mut self, memory: Memory, bytes: &[u8], k: u32, offset: &mut u64) -> i32
         ensures { IsLoadCall (images_heap_in self.old) bytes.now k offset.old result offset.new (images_heap_in self.new) }
     {

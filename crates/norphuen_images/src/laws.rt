@@ -1,5 +1,6 @@
-//! What the contracts of `HeldImages` and `NphHeap` imply: the calls by the objects under their ids, and the way of a heap through its
-//! image. The functions do nothing; each contract is a law.
+//! What the contracts of `HeldImages` and `NphHeap` imply: how calls change objects by id, what a
+//! heap keeps through `save` and `load`, and which heaps have equal images. The functions do
+//! nothing; each contract is a law.
 ghost use Rattle.std.specs.Prelude.{◌≡◌, ◌≤◌, ℕ, ℤ, pos, List, Some, drop, length, replicate, take};
 ghost use Rattle.std.specs.FinMap.{get, insert, remove};
 ghost use Rattle.cf_base.specs.Settings.{Profile, at_bound_one};
@@ -14,7 +15,9 @@ ghost use Rattle.norphuen_images.specs.State.{IsNamed};
 
 use heap_image::{an_image_is_read_back, equal_objects_have_one_image, live_objects_have_an_image};
 
-/// From C, a call that returns 0 changes the objects by id as its name says, and no other.
+/// From C, a `make` that returns 0 adds an object of zeros under the id, such a `free` removes the
+/// object of the id, and such a `write` replaces bytes of it; each leaves all other objects
+/// unchanged. A `read` that returns 0 fills the caller's buffer from the object's byte `from` on.
 pub fn the_calls_change_the_objects_by_id()
     ensures make { (p : Profile) (old new : RunState) (id bytes : ℕ) → IsNamed p old → IsMakeCall old id bytes (pos 0) new
         → live_objects new ≡ insert (live_objects old) id (replicate bytes 0) }
@@ -26,8 +29,9 @@ pub fn the_calls_change_the_objects_by_id()
         → (v : List ℕ) × (get (live_objects old) id ≡ Some v) × (after ≡ take (length before) (drop from v)) }
 {}
 
-/// From C, a saved image is loaded again, with any bound k from 1 to 64: the new heap has the same settings, but with
-/// the bound k, and the same objects by id. Only memory can be lacking.
+/// From C, a load of a saved image into a closed heap, with any bound k from 1 to 64, opens a heap
+/// with the same settings, but with the bound k, and the same objects by id. It fails only if out
+/// of memory; then the heap stays closed.
 pub fn a_saved_heap_is_loaded_again()
     ensures { (p : Profile) (s kept : RunState) (before after : Saved) (last k offset offset2 : ℕ) (code : ℤ) (new : CallerHeap RunState)
         → IsNamed p s → IsSaveCall s before (pos 0) after kept → 1 ≤ k → k ≤ 64
@@ -37,7 +41,7 @@ pub fn a_saved_heap_is_loaded_again()
     an_image_is_read_back();
 }
 
-/// From C, two heaps with the same settings, whatever their bounds, and with the same bytes under each id, are saved as
+/// From C, two heaps with the same settings, but for the bound k, and with the same bytes under each id, are saved as
 /// the same bytes, whatever their histories.
 pub fn equal_objects_are_saved_as_one_image()
     ensures { (p q : Profile) (one other kept kept2 : RunState) (before before2 after after2 : Saved) → IsNamed p one → IsNamed q other

@@ -1,8 +1,9 @@
-//! The heap whose objects have ids, with its images, as a library for C. `include/norphuen.h` describes each export
-//! for C. An export calls the function of this crate or `c_base` that its comment names, and its contract is that
-//! function's. Each export that takes a heap, but `nph_images_close`, returns a code: 0 (`DONE`) if the call is done,
-//! else the cause (`c_base`, file `codes`). Of these each but `nph_images_open` and `nph_images_load` returns
-//! `CLOSED` and changes nothing while the heap is closed (`IsCallOnOpen`).
+//! The heap whose objects have ids, with its images, as a library for C. `include/norphuen.h`
+//! describes each export for C. An export calls the function in brackets in its comment, if any;
+//! that function's comment says when it fails. Each export that takes a heap, but
+//! `nph_images_close`, returns a code: 0 (`DONE`) if the call is done, else the cause (`c_base`,
+//! file `codes`). Of these each but `nph_images_open` and `nph_images_load` returns `CLOSED` and
+//! changes nothing while the heap is closed (`IsCallOnOpen`).
 #![tactic(auto)]
 
 ghost use Rattle.std.specs.Prelude.{◌≡◌};
@@ -40,7 +41,7 @@ pub extern "C" fn nph_images_open(
     heap.inner().open(memory, pages, page_bytes, k, proxies)
 }
 
-/// Writes into `needed` what `nph_images_open` with these settings asks of the functions that take and return memory, and
+/// Writes into `needed` the memory that `nph_images_open` with these settings asks for, and
 /// `nph_images_load` with an image of these settings (`ClosableHeap::bytes_needed`).
 #[unsafe(no_mangle)]
 pub extern "C" fn nph_images_bytes_needed(
@@ -144,7 +145,7 @@ pub extern "C" fn nph_images_length(heap: &mut NphHeap, id: u32, bytes: &mut u32
     }
 }
 
-/// Writes the bytes of the heap's image into `bytes` (`HeldImages::image_bytes`).
+/// Writes the length of the heap's image, in bytes, into `bytes` (`HeldImages::image_bytes`).
 #[unsafe(no_mangle)]
 pub extern "C" fn nph_images_image_bytes(heap: &mut NphHeap, bytes: &mut u64) -> i32
     ensures { IsCallOnOpen (images_heap_in heap.old) result (images_heap_in heap.new) (bytes.new ≡ bytes.old)

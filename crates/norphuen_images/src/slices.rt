@@ -1,4 +1,4 @@
-//! A source that reads a slice of bytes, and a sink that fills one.
+//! A source that reads a slice of bytes, and a sink that fills one: for images in C's memory.
 ghost use Rattle.std.specs.Prelude.{◌≡◌};
 ghost use Rattle.norphuen_images.specs.Slices.{slice_sink_seen, slice_source_seen};
 
@@ -17,8 +17,8 @@ pub(crate) struct SliceSource<'a> {
 impl Source for SliceSource<'_> {
     ghost state = { slice_source_seen };
 
-    /// Copies the bytes left in C's slice to the start of `buf`, or the first of them if not all fit, and returns how
-    /// many it copied.
+    /// Copies the next bytes of C's slice to the start of `buf`, until `buf` is full or none is left. Returns how many
+    /// it copied. Never fails.
     fn take(&mut self, buf: &mut [u8]) -> Result<usize, Failed> {
         let all = self.bytes;
         let n = buf.len().min(all.len());
@@ -43,8 +43,8 @@ pub(crate) struct SliceSink<'a> {
 impl Sink for SliceSink<'_> {
     ghost state = { slice_sink_seen };
 
-    /// Copies the bytes into C's slice behind those written, or the first of them if not all fit, and returns how many
-    /// it copied.
+    /// Copies `bytes` into C's slice, behind those written before, until the slice is full. Returns how many it copied.
+    /// Fails if the slice was full and `bytes` isn't empty.
     fn put(&mut self, bytes: &[u8]) -> Result<usize, Failed> {
         let all = &mut *self.bytes;
         let at = self.at;

@@ -1,7 +1,7 @@
 -- For `Held::free`: what a free of the number that a handle names does.
 use Rattle.std.proofs.Common.{◌≡◌, ℕ, refl, subst, sym}
 use Rattle.std.specs.Prelude.{Result}
-use Rattle.cf_base.specs.declared.answers.NotLive.{NotLive}
+use Rattle.cf_base.specs.declared.results.NotLive.{NotLive}
 use Rattle.large_objects.specs.LargeCosts.{first_count, large_free_steps, moving_costs}
 use Rattle.large_objects.specs.LargeSteps.{IsLargeFree, StaysKept}
 use Rattle.step_ledger.specs.Counting.{RoseAtMost}

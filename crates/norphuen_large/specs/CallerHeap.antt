@@ -13,7 +13,7 @@ use Rattle.norphuen_large.specs.Needed.{IsLargeHeldBytes}
 abbrev pub held_opening : Opening LargeHeldState
 held_opening = record { takes = λ k. k ≡ 1; is_fresh = IsFreshLargeHeap; needs = IsLargeHeldBytes; last = λ h. largest h.handles }
 
--- the heap after it is closed: the handles of the next one will be larger than all that its numbers have
+-- the heap after it is closed, with its largest handle, on which the handles of the next heap depend
 abbrev pub large_closed_by : CallerHeap LargeHeldState → CallerHeap LargeHeldState
 large_closed_by = closed_with held_opening.last
 

@@ -3,10 +3,10 @@
 use Rattle.std.specs.Prelude.{◌≡◌, ℕ, ℤ, pos, true, List, Option, Result, length, option_map}
 use Rattle.std.specs.FinMap.{empty, get}
 use Rattle.cf_base.specs.Settings.{Profile}
-use Rattle.cf_base.specs.declared.answers.AccessFault.{AccessFault}
-use Rattle.cf_base.specs.declared.answers.Handle.{Handle}
-use Rattle.cf_base.specs.declared.answers.NotLive.{NotLive}
-use Rattle.cf_base.specs.declared.answers.Refusal.{Refusal}
+use Rattle.cf_base.specs.declared.results.AccessFault.{AccessFault}
+use Rattle.cf_base.specs.declared.results.Handle.{Handle}
+use Rattle.cf_base.specs.declared.results.NotLive.{NotLive}
+use Rattle.cf_base.specs.declared.results.Refusal.{Refusal}
 use Rattle.cf_base.specs.declared.kind.Kind.TheVariants.{Moving}
 use Rattle.cf_model.specs.Answers.{figures_in, totals_in}
 use Rattle.cf_model.specs.Steps.{IsOpeningOrder, IsOpeningWords, Position, ordered_heap}
@@ -18,11 +18,11 @@ use Rattle.c_base.specs.Codes.{access_code, free_code, malloc_code}
 use Rattle.c_base.specs.HandleRules.{AreFirstHandles}
 use Rattle.c_base.specs.Handles.{number_in, raised_by}
 use Rattle.c_base.specs.Shown.{figures_shown, found_code, found_number, malloc_number, totals_shown}
-use Rattle.c_base.specs.declared.answers.NphClass.{NphClass}
-use Rattle.c_base.specs.declared.answers.NphHeapTotals.{NphHeapTotals}
+use Rattle.c_base.specs.declared.results.NphClass.{NphClass}
+use Rattle.c_base.specs.declared.results.NphHeapTotals.{NphHeapTotals}
 use Rattle.norphuen_large.specs.HeldState.{LargeHeldState}
 
--- `new` is a heap that was just opened with the settings p: no object is live, all words are 0, its count is 0, and its handles are larger than `last`
+-- `new` is a heap that was just opened with the settings p: no object is live, all words are 0, its count is 0, and its handles are larger than `last` or begin at 0 if too few are larger
 pub record IsFreshLargeHeap (p : Profile) (last : ℕ) (new : LargeHeldState) : Type 0 where
   pub open_now : new.heap.is_open ≡ true
   pub none : new.heap.objects ≡ empty
@@ -98,7 +98,7 @@ pub record IsLargeTotalsCall (old : LargeHeldState) (code : ℤ) (after : NphHea
   pub kept : new.heap ≡ old.heap
   pub same : new.handles ≡ old.handles
 
--- a call of `last_steps`: it returns the steps of the last call that counts them, and changes nothing
+-- a call of `last_steps`: it writes the steps of the last call that counts them; the state is unchanged, steps included
 pub record IsLargeStepsCall (old : LargeHeldState) (code : ℤ) (after : ℕ) (new : LargeHeldState) : Type 0 where
   pub by_code : code ≡ pos 0
   pub by_steps : after ≡ old.steps

@@ -7,7 +7,7 @@ use Rattle.cf_base.specs.declared.needed.BytesNeeded.{BytesNeeded}
 use Rattle.paged_heap.specs.Needed.{paged_bytes}
 use Rattle.large_objects.specs.Needed.{large_bytes}
 use Rattle.c_base.specs.Needed.{AreNeeded, IsOfHandles}
-use Rattle.c_base.specs.declared.answers.NphNeeded.{NphNeeded}
+use Rattle.c_base.specs.declared.results.NphNeeded.{NphNeeded}
 
 -- the heap, the handles of `count` numbers, and the block of the open heap (`Held`)
 abbrev pub large_held_bytes : Profile → ℕ → BytesNeeded

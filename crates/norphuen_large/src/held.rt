@@ -1,5 +1,5 @@
-//! `Held`: an open heap of long objects with the step count of its last call and the handles that C has, for a C library. Each
-//! call returns a code, and writes its other results through references.
+//! `Held`: an open heap of long objects with the steps of its last call that counts them and the handles that C has. Each
+//! call from C returns a code, and writes its other results through references.
 
 use c_base::{DONE, Handles, NphClass, NphHeapTotals, Openable, UNKNOWN, of_access, of_refusal};
 use cf_base::{BytesNeeded, Handle, Settings};
@@ -12,15 +12,15 @@ use std::mem::size_of;
 use std::rt::Memory;
 use step_ledger::Meter;
 
-/// The bytes of the block of an open heap.
+/// The bytes of the memory block of an open heap.
 const HELD_BYTES: u64 = 1512;
 
 const _: () = prove!(size_of::<Held>() == 1512);
 
-/// An open heap of long objects over the moving heap, the steps of its last call, and the handle of each number: what C has for
-/// an object. A call on a handle that its number does not have now is a call on `NONE`, which is never live. `malloc`, `free`,
-/// `write`, `read` and `totals` count steps, each on a ledger of its own that it makes from `memory`; the others leave the number
-/// unchanged.
+/// An open heap of long objects over the moving heap, the steps of its last call that counts any,
+/// and C's handle of each object's number. A call on a stale handle is a call on the number `NONE`,
+/// which is never live. `malloc`, `free`, `write`, `read` and `totals` count steps, each on a
+/// ledger of its own that it makes from `memory`; the others leave `steps` unchanged.
 #[derive(Drop)]
 pub struct Held {
     heap: LargeHeap<MovingHeap>,
@@ -48,13 +48,14 @@ impl Openable for Held {
 
     ghost opening = { held_opening };
 
+    /// For C, the memory that opening a heap of long objects asks for.
     fn bytes_needed(s: &Settings) -> BytesNeeded {
         let heap = LargeHeap::<MovingHeap>::bytes_needed(MovingHeap::bytes_needed(s), s);
         let handles = Handles::bytes_needed(s.proxies);
         heap.and(handles.and(BytesNeeded::block(HELD_BYTES)))
     }
 
-    /// Opens an empty heap of long objects for C.
+    /// Opens an empty heap of long objects for C. Returns `None` if out of memory.
     fn open(memory: Memory, s: &Settings, last: u32) -> Option<Box<Held, Global>> {
         let alloc = Global::new(memory);
         let handles = Handles::new(alloc, s.proxies, last)?;
@@ -94,8 +95,8 @@ impl Held {
         }
     }
 
-    /// Frees C's object, long or short. Returns `DONE`, or `UNKNOWN` if the handle isn't live, and then no object
-    /// changes.
+    /// Frees C's object, long or short, whose handle is stale then. Returns `DONE`, or `UNKNOWN` if
+    /// the handle isn't live, and then no object changes.
     pub fn free(&mut self, handle: u32) -> i32
         ensures { IsLargeFreeCall self.old handle result self.new }
     {
@@ -156,8 +157,8 @@ impl Held {
         }
     }
 
-    /// Writes C's figures of a class, numbered from 0, into `figures`; each part and each spine counts as an object.
-    /// Returns `DONE`, or `UNKNOWN` if there is no such class; then `figures` is unchanged.
+    /// For C, writes the figures of a class into `figures`; classes are numbered from 0, and each part and each spine
+    /// counts as an object. Returns `DONE`, or `UNKNOWN` if there is no such class; then `figures` is unchanged.
     pub fn figures(&mut self, class: u32, figures: &mut NphClass) -> i32
         ensures { IsLargeFiguresCall self.old class figures.old result figures.new self.new }
     {
@@ -172,8 +173,8 @@ impl Held {
         }
     }
 
-    /// Writes C's figures of the whole heap into `totals`; each part and each spine counts as an object. Always returns
-    /// `DONE`.
+    /// For C, writes the figures of the whole heap into `totals`; each part and each spine counts as an
+    /// object. Always returns `DONE`.
     pub fn totals(&mut self, totals: &mut NphHeapTotals) -> i32
         ensures { IsLargeTotalsCall self.old result totals.new self.new }
     {
@@ -186,8 +187,8 @@ impl Held {
         DONE
     }
 
-    /// For C, writes the steps of the last call on long objects into `steps`; 0 if there was none. Always returns
-    /// `DONE`.
+    /// For C, writes the steps of the last call on long objects that counts them into `steps`; 0 if
+    /// there was none. Always returns `DONE`.
     pub fn last_steps(&mut self, steps: &mut u64) -> i32
         ensures { IsLargeStepsCall self.old result steps.new self.new }
     {

@@ -1,4 +1,4 @@
-//! `NphHeap` for the heap of long objects: a `ClosableHeap` in types that C may see.
+//! `NphHeap` for the heap of long objects: a `ClosableHeap` of `c_base`, and its fields, in types that C may see.
 ghost use Rattle.std.specs.Prelude.{◌≡◌, Option, is_some};
 ghost use Rattle.std.specs.Borrow.{sem};
 ghost use Rattle.std.specs.Coded.{coded_option};
@@ -13,7 +13,7 @@ use std::mem::size_of;
 
 const _: () = prove!(size_of::<NphHeap>() == 16);
 
-/// A `HeapBlock`.
+/// A `HeapBlock`, in types that C may see.
 #[repr(C)]
 #[derive(Drop)]
 pub struct Place {
@@ -27,7 +27,8 @@ impl Model for Place {
 
 unsafe impl Send for Place {}
 
-/// A `ClosableHeap`. Call its `close` before it is dropped: a drop does not free the memory of a heap.
+/// A `ClosableHeap`, in types that C may see. Call `close` of `inner` before a drop: a drop does
+/// not free the memory of a heap.
 #[repr(C)]
 #[derive(Drop)]
 pub struct NphHeap {

@@ -1,5 +1,5 @@
-//! What the contracts of `Held` on long objects imply: a malloc's handle is new, a stale one is refused, and a read
-//! gives what was written. The functions do nothing; each contract is a law.
+//! What the contracts of `Held` on long objects imply: each number keeps a handle, a malloc's handle is new, a stale
+//! handle is refused, and a read gives what was written. The functions do nothing; each contract is a law.
 ghost use Rattle.std.specs.Prelude.{◌≡◌, ℕ, ℤ, List, length, pos};
 ghost use Rattle.cf_base.specs.Settings.{Profile};
 ghost use Rattle.c_base.specs.Handles.{none, number_in};
@@ -7,7 +7,9 @@ ghost use Rattle.norphuen_large.specs.Calls.{IsFreshLargeHeap, IsLargeFreeCall, 
 ghost use Rattle.norphuen_large.specs.HandleRules.{IsNewLargeHandle, KeepsLargeHandles};
 ghost use Rattle.norphuen_large.specs.HeldState.{LargeHeldState};
 
-/// An opened heap of long objects keeps the rules of the handles, and each call keeps them.
+/// A heap of long objects that was just opened keeps its rules, and each number that an object can
+/// have has a handle (`KeepsLargeHandles`, clause `opened`). Each call keeps this true; `others`
+/// are the calls that change neither the heap nor the handles.
 pub fn every_call_keeps_the_handles()
     ensures opened { (p : Profile) (last : ℕ) (new : LargeHeldState) → IsFreshLargeHeap p last new → KeepsLargeHandles new }
     ensures malloc { (old new : LargeHeldState) (bytes before after : ℕ) (code : ℤ) → IsLargeMallocCall old bytes before code after new
@@ -25,8 +27,9 @@ pub fn a_malloc_gives_a_new_handle()
         → IsNewLargeHandle old bytes after new }
 {}
 
-/// On long objects, a call on a handle that names no object returns 4 (`UNKNOWN`) and changes neither the heap nor what
-/// the caller has.
+/// On long objects, a call with a stale handle, which is not the one that its number has, returns 4
+/// (`UNKNOWN`). A free or write then leaves the heap unchanged, a free also the handles; a read or
+/// a call for the length leaves the caller's buffer or number unchanged.
 pub fn a_stale_handle_is_refused()
     ensures free { (old new : LargeHeldState) (handle : ℕ) (code : ℤ) → IsLargeFreeCall old handle code new → KeepsLargeHandles old
         → number_in old.handles handle ≡ none → (code ≡ pos 4) × (new.heap ≡ old.heap) × (new.handles ≡ old.handles) }
@@ -38,8 +41,8 @@ pub fn a_stale_handle_is_refused()
         → KeepsLargeHandles old → number_in old.handles handle ≡ none → (code ≡ pos 4) × (after ≡ before) }
 {}
 
-/// On long objects, after a write that returns 0, a read of as many bytes from the same byte of the object returns 0
-/// and gives the bytes written.
+/// On long objects, right after a write that returns 0, a read of as many bytes from the same byte
+/// of the object returns 0 and fills the caller's buffer with the bytes written.
 pub fn a_read_gives_what_was_written()
     ensures { (old mid new : LargeHeldState) (handle from : ℕ) (bytes before after : List ℕ) (code : ℤ) → IsLargeWriteCall old handle from bytes (pos 0) mid
         → IsLargeReadCall mid handle from before code after new → length before ≡ length bytes → (code ≡ pos 0) × (after ≡ bytes) }

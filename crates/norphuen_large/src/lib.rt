@@ -1,7 +1,9 @@
-//! The heap of long objects as a library for C. `include/norphuen.h` describes each export for C. An export whose
-//! comment names a function calls it, and has its contract. Each export that takes a heap, but `nph_large_close`,
-//! returns a code: 0 (`DONE`) if the call is done, else the cause (`c_base`, file `codes`). Of these each but
-//! `nph_large_open` returns `CLOSED` and changes nothing while the heap is closed (`IsCallOnOpen`).
+//! The heap of long objects as a library for C. `include/norphuen.h` describes each export for
+//! C. An export calls the function in brackets in its comment, if any; that function's comment
+//! says when it fails. Each export that takes a heap, but `nph_large_close`, returns a code: 0
+//! (`DONE`) if the call is done, else the cause (`c_base`, file `codes`). Of these each but
+//! `nph_large_open` returns `CLOSED` and changes nothing while the heap is closed
+//! (`IsCallOnOpen`).
 #![tactic(auto)]
 
 ghost use Rattle.std.specs.Prelude.{◌≡◌};
@@ -23,9 +25,9 @@ use crate::large::NphHeap;
 use c_base::{CLOSED, ClosableHeap, NphClass, NphHeapTotals, NphNeeded, VERSION};
 use std::rt::Memory;
 
-/// Opens the heap with these settings: `pages` pages of `page_bytes` bytes, and at most `proxies` objects, parts and spines
-/// (`ClosableHeap::open`). `memory`, here and in `nph_large_close`, is the kit's value for the memory of the process; a caller in C
-/// passes none.
+/// Opens the heap with these settings: `pages` pages of `page_bytes` bytes, and at most `proxies`
+/// short objects, parts and spines together (`ClosableHeap::open`). `memory`, here and in
+/// `nph_large_close`, is the kit's value for the memory of the process; a caller in C passes none.
 #[unsafe(no_mangle)]
 pub extern "C" fn nph_large_open(
     heap: &mut NphHeap,
@@ -39,7 +41,7 @@ pub extern "C" fn nph_large_open(
     heap.inner().open(memory, pages, page_bytes, 1, proxies)
 }
 
-/// Writes into `needed` what `nph_large_open` with these settings asks of the functions that take and return memory
+/// Writes into `needed` the memory that `nph_large_open` with these settings asks for
 /// (`ClosableHeap::bytes_needed`).
 #[unsafe(no_mangle)]
 pub extern "C" fn nph_large_bytes_needed(
@@ -130,7 +132,8 @@ pub extern "C" fn nph_large_length(heap: &mut NphHeap, handle: u32, bytes: &mut 
     }
 }
 
-/// Writes the figures of a size class, numbered from 0, into `figures` (`Held::figures`).
+/// Writes the figures of a size class into `figures`; classes are numbered from 0, and each part
+/// and each spine counts as an object (`Held::figures`).
 #[unsafe(no_mangle)]
 pub extern "C" fn nph_large_figures(heap: &mut NphHeap, class: u32, figures: &mut NphClass) -> i32
     ensures { IsCallOnOpen (large_heap_in heap.old) result (large_heap_in heap.new) (figures.new ≡ figures.old)
@@ -144,7 +147,8 @@ pub extern "C" fn nph_large_figures(heap: &mut NphHeap, class: u32, figures: &mu
     }
 }
 
-/// Writes the figures of the whole heap into `totals` (`Held::totals`).
+/// Writes the figures of the whole heap into `totals`; each part and each spine counts as an object
+/// (`Held::totals`).
 #[unsafe(no_mangle)]
 pub extern "C" fn nph_large_totals(heap: &mut NphHeap, totals: &mut NphHeapTotals) -> i32
     ensures { IsCallOnOpen (large_heap_in heap.old) result (large_heap_in heap.new) (totals.new ≡ totals.old)
@@ -172,8 +176,9 @@ pub extern "C" fn nph_large_last_steps(heap: &mut NphHeap, steps: &mut u64) -> i
     }
 }
 
-/// Returns the most steps of a malloc of `bytes` bytes in a heap with pages of `page_bytes` bytes. It and the two calls below
-/// take no heap. For a size that no page has they mean nothing.
+/// Returns a step bound of a malloc of `bytes` bytes in a heap with pages of `page_bytes` bytes.
+/// This call and the two below take no heap; if no heap has such pages, the number that they
+/// return means nothing.
 #[unsafe(no_mangle)]
 pub extern "C" fn nph_large_most_malloc(page_bytes: u32, bytes: u32) -> u64
     ensures { IsMostLargeMalloc page_bytes bytes result }
@@ -185,7 +190,7 @@ pub extern "C" fn nph_large_most_malloc(page_bytes: u32, bytes: u32) -> u64
     19 + 18 * u64::from(most::parts(words, bytes))
 }
 
-/// Returns the most steps of a free of an object of `bytes` bytes.
+/// Returns a step bound of a free of an object of `bytes` bytes, with pages of `page_bytes` bytes.
 #[unsafe(no_mangle)]
 pub extern "C" fn nph_large_most_free(page_bytes: u32, bytes: u32) -> u64
     ensures { IsMostLargeFree page_bytes bytes result }
@@ -199,7 +204,8 @@ pub extern "C" fn nph_large_most_free(page_bytes: u32, bytes: u32) -> u64
     24 + (19 + u64::from(words)) * count + most::slot_words(words, 4 * count)
 }
 
-/// Returns the most steps of a read or a write of `count` bytes from byte `at` on.
+/// Returns a step bound of a read or a write of `count` bytes from byte `at` of an object on,
+/// with pages of `page_bytes` bytes.
 #[unsafe(no_mangle)]
 pub extern "C" fn nph_large_most_access(page_bytes: u32, at: u32, count: u32) -> u64
     ensures { IsMostLargeAccess page_bytes at count result }

@@ -1,10 +1,10 @@
-//! What the most steps of a call on long objects depend on: the words of a page, the parts of an object, and the words of a slot.
+//! What the step bounds of the calls on long objects depend on: the words of a page, the parts of an object, and the words of a slot.
 ghost use Rattle.std.specs.Prelude.{◌≡◌, ◌+◌, ◌/◌, ◌^◌, ◌<◌, ◌≤◌};
 ghost use Rattle.large_objects.specs.InnerObjects.{part_count};
 ghost use Rattle.norphuen_large.specs.Most.{part_of, slot_cap};
 
-/// For long objects, the words of a page of `page_bytes` bytes. For bytes that no page has, the words of the least or
-/// of the largest page.
+/// For long objects, the words of a page of `page_bytes` bytes: at least those of the smallest
+/// page, 64, and at most those of the largest, 16,384.
 pub fn page_words(page_bytes: u32) -> u32
     ensures value { 64 ≤ page_bytes / 8 → page_bytes / 8 ≤ 16384 → result ≡ page_bytes / 8 }
     ensures least { 64 ≤ result }
@@ -13,7 +13,8 @@ pub fn page_words(page_bytes: u32) -> u32
     (page_bytes / 8).max(64).min(16384)
 }
 
-/// For a step bound, the number of parts of an object of `bytes` bytes, which is longer than a page of `words` words.
+/// For a step bound, the number of parts of an object of `bytes` bytes that doesn't fit a page of
+/// `words` words.
 pub fn parts(words: u32, bytes: u32) -> u32
     requires least { 64 ≤ words }
     requires most { words ≤ 16384 }

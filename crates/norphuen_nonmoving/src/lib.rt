@@ -1,7 +1,9 @@
-//! The non-moving manager as a library for C. `include/norphuen.h` describes each export for C. An export calls the
-//! function of `held_heap` that its comment names, and its contract is that function's. Each export that takes a
-//! heap, but `nph_nm_close`, returns a code: 0 (`DONE`) if the call is done, else the cause (`c_base`, file `codes`).
-//! Of these each but `nph_nm_open` returns `CLOSED` and changes nothing while the heap is closed (`IsCallOnOpen`).
+//! The non-moving manager as a library for C. `include/norphuen.h` describes each export for C. An
+//! export calls a function of `held_heap`, which its comment names in brackets
+//! (`nph_nm_version`: a constant); on an open heap its contract is that function's. Each export
+//! that takes a heap, but `nph_nm_close`, returns 0 (`DONE`), or the code of a refusal (`c_base`,
+//! file `codes`), as the function's comment says. While the heap is closed, all of these but
+//! `nph_nm_open` return `CLOSED` and change nothing.
 #![tactic(auto)]
 
 ghost use Rattle.std.specs.Prelude.{◌≡◌};
@@ -46,9 +48,10 @@ pub extern "C" fn nph_nm_open(
     heap.open(memory, pages, page_bytes, k, proxies)
 }
 
-/// Writes into `needed` what `nph_nm_open` with these settings asks of the functions that take and return memory: how many
-/// blocks, the bytes of all, and those of the largest. The caller's own memory for `heap` isn't counted, nor what the
-/// functions need for a block. Returns 0, or the code of the first setting out of range (`NphHeap::bytes_needed`).
+/// Writes into `needed` the memory that `nph_nm_open` with these settings asks for: how many blocks
+/// of memory, the bytes of all, and those of the largest. The caller's struct isn't counted, nor
+/// what an allocator adds to a block. Returns 0, or the code of the first setting out of range
+/// (`NphHeap::bytes_needed`).
 #[unsafe(no_mangle)]
 pub extern "C" fn nph_nm_bytes_needed(
     pages: u32,
@@ -62,9 +65,10 @@ pub extern "C" fn nph_nm_bytes_needed(
     NphHeap::bytes_needed(pages, page_bytes, k, proxies, needed)
 }
 
-/// Writes into `pages` the least number of pages of `page_bytes` bytes with which no call of a program is refused for space
-/// while it keeps to its `needs`, whatever their order; `k` is only tested. Returns 0, or the code of why there is no number
-/// (`pages_needed`).
+/// Writes into `pages` the least number of pages of `page_bytes` bytes with which no call of a
+/// program is refused for space, whatever the order of its calls, while the program keeps to its
+/// `needs`. `k` must be in its range, 1 to 64, and has no other effect. Returns 0, or the code of
+/// the refusal (`pages_needed`).
 #[unsafe(no_mangle)]
 pub extern "C" fn nph_nm_pages_needed(
     page_bytes: u32,
@@ -183,7 +187,8 @@ pub extern "C" fn nph_nm_has_room(heap: &mut NphHeap, bytes: u32) -> i32
     }
 }
 
-/// Writes the words of an object's slot into `words`, as a free of it would (`Held::slot_words`).
+/// Writes how many words an object's slot has into `words`, as a free of it would
+/// (`Held::slot_words`).
 #[unsafe(no_mangle)]
 pub extern "C" fn nph_nm_slot_words(heap: &mut NphHeap, handle: u32, words: &mut u32) -> i32
     ensures { IsCallOnOpen (heap_in heap.old) result (heap_in heap.new) (words.new ≡ words.old)
@@ -196,7 +201,8 @@ pub extern "C" fn nph_nm_slot_words(heap: &mut NphHeap, handle: u32, words: &mut
     }
 }
 
-/// Writes the size class of an object of `bytes` bytes, numbered from 0, into `class` (`Held::class_of`).
+/// Writes into `class` the number, from 0, of the size class of an object of `bytes` bytes
+/// (`Held::class_of`).
 #[unsafe(no_mangle)]
 pub extern "C" fn nph_nm_class_of(heap: &mut NphHeap, bytes: u32, class: &mut u32) -> i32
     ensures { IsCallOnOpen (heap_in heap.old) result (heap_in heap.new) (class.new ≡ class.old)
@@ -209,7 +215,8 @@ pub extern "C" fn nph_nm_class_of(heap: &mut NphHeap, bytes: u32, class: &mut u3
     }
 }
 
-/// Writes the figures of a size class, numbered from 0, into `figures` (`Held::figures`).
+/// Writes the figures of the size class with the number `class`, from 0, into `figures`
+/// (`Held::figures`).
 #[unsafe(no_mangle)]
 pub extern "C" fn nph_nm_figures(heap: &mut NphHeap, class: u32, figures: &mut NphClass) -> i32
     ensures { IsCallOnOpen (heap_in heap.old) result (heap_in heap.new) (figures.new ≡ figures.old)
@@ -235,8 +242,9 @@ pub extern "C" fn nph_nm_totals(heap: &mut NphHeap, totals: &mut NphHeapTotals) 
     }
 }
 
-/// Writes the handle of the next live object after that of `handle` into `next`, the first one for `NONE`; after the last one
-/// `NONE` (`Held::next`). It takes a step for each number that it looks at.
+/// Writes the handle of the live object after that of `handle`, by rising number, into `next`, or
+/// of the first one if `handle` is `NONE`; after the last one writes `NONE` (`Held::next`). Takes
+/// one step for each object number that it looks at, that of `handle` included.
 #[unsafe(no_mangle)]
 pub extern "C" fn nph_nm_next(heap: &mut NphHeap, handle: u32, next: &mut u32) -> i32
     ensures { IsCallOnOpen (heap_in heap.old) result (heap_in heap.new) (next.new ≡ next.old)
@@ -249,7 +257,8 @@ pub extern "C" fn nph_nm_next(heap: &mut NphHeap, handle: u32, next: &mut u32) -
     }
 }
 
-/// Writes what the heap counted since it was opened into `counts` (`Held::counts`). It counts no steps.
+/// Writes what the heap counted since it was opened into `counts` (`Held::counts`). Counts no
+/// steps.
 #[unsafe(no_mangle)]
 pub extern "C" fn nph_nm_counts(heap: &mut NphHeap, counts: &mut NphCounted) -> i32
     ensures { IsCallOnOpen (heap_in heap.old) result (heap_in heap.new) (counts.new ≡ counts.old)
@@ -262,8 +271,8 @@ pub extern "C" fn nph_nm_counts(heap: &mut NphHeap, counts: &mut NphCounted) -> 
     }
 }
 
-/// Sets to `k` how many pages of the class with slots of `slot_words` words may be partly full, while no object is live
-/// (`Held::set_bound`). It counts no steps.
+/// Sets to `k`, 1 to 64, how many pages of the class with slots of `slot_words` words may be partly
+/// full, if no object is live (`Held::set_bound`). Counts no steps.
 #[unsafe(no_mangle)]
 pub extern "C" fn nph_nm_set_bound(heap: &mut NphHeap, slot_words: u32, k: u32) -> i32
     ensures { IsCallOnOpen (heap_in heap.old) result (heap_in heap.new) (Unit {0})
@@ -276,7 +285,8 @@ pub extern "C" fn nph_nm_set_bound(heap: &mut NphHeap, slot_words: u32, k: u32) 
     }
 }
 
-/// Writes the steps of the last call that counts them into `steps` (`Held::last_steps`).
+/// Writes the steps of the last call that counts them, 0 if there was none, into `steps`
+/// (`Held::last_steps`).
 #[unsafe(no_mangle)]
 pub extern "C" fn nph_nm_last_steps(heap: &mut NphHeap, steps: &mut u64) -> i32
     ensures { IsCallOnOpen (heap_in heap.old) result (heap_in heap.new) (steps.new ≡ steps.old)
@@ -297,8 +307,9 @@ pub extern "C" fn nph_nm_version() -> u32
     VERSION
 }
 
-/// Returns the kind of this library's heaps (`most::kind`). It and the calls below take no heap. Each of those returns the
-/// most steps of a call, which are those of the bound in its contract (`bounds`).
+/// Returns the number for the kind of this library's heaps (`most::kind`). This call and those
+/// below take no heap. Each call below returns the most steps of one call: the bound in the
+/// contract of that call.
 #[unsafe(no_mangle)]
 pub extern "C" fn nph_nm_kind() -> u32
     ensures { result ≡ kind_code NonMoving }
@@ -322,7 +333,8 @@ pub extern "C" fn nph_nm_most_free(slot_words: u32) -> u64
     most::most_free(Kind::NonMoving, slot_words)
 }
 
-/// Returns the most steps of a resize to `bytes` bytes between slots of these words (`most_resize`).
+/// Returns the most steps of a resize to `bytes` bytes, from a slot of `old_slot_words` words to
+/// one of `slot_words` words (`most_resize`).
 #[unsafe(no_mangle)]
 pub extern "C" fn nph_nm_most_resize(bytes: u32, old_slot_words: u32, slot_words: u32) -> u64
     ensures { IsMostResize bounds bytes old_slot_words slot_words result }
@@ -330,7 +342,8 @@ pub extern "C" fn nph_nm_most_resize(bytes: u32, old_slot_words: u32, slot_words
     most::most_resize(Kind::NonMoving, bytes, old_slot_words, slot_words)
 }
 
-/// Returns the steps of a read or a write of `count` bytes from byte `at` on (`most_access`).
+/// Returns the most steps of a read or a write of `count` bytes from byte `at` on; one that
+/// succeeds takes exactly these (`most_access`).
 #[unsafe(no_mangle)]
 pub extern "C" fn nph_nm_most_access(at: u32, count: u32) -> u64
     ensures { IsMostAccess bounds at count result }
@@ -346,7 +359,7 @@ pub extern "C" fn nph_nm_most_has_room() -> u64
     most::most_has_room(Kind::NonMoving)
 }
 
-/// Returns the most steps of `nph_nm_totals` on a heap with this many free pages or blocks (`most_totals`).
+/// Returns the most steps of `nph_nm_totals`; with pages it takes none, however many are free (`most_totals`).
 #[unsafe(no_mangle)]
 pub extern "C" fn nph_nm_most_totals(free_count: u32) -> u64
     ensures { IsMostTotals bounds free_count result }

@@ -2,16 +2,16 @@
 use Rattle.std.proofs.Common.{◌≡◌, ℕ, ℤ, pos, ◌+◌, ◌<◌, ◌≤◌, List, length, Some, None, refl, sym, ◌∙◌, ap, arith}
 use Rattle.std.specs.Prelude.{Result, Ok, Err, IsErr, option_map, slice_index}
 use Rattle.std.specs.FinMap.{get}
-use Rattle.cf_base.specs.declared.answers.AccessFault.{AccessFault}
-use Rattle.cf_base.specs.declared.answers.AccessFault.TheVariants as access
-use Rattle.cf_base.specs.declared.answers.Handle.{Handle}
+use Rattle.cf_base.specs.declared.results.AccessFault.{AccessFault}
+use Rattle.cf_base.specs.declared.results.AccessFault.TheVariants as access
+use Rattle.cf_base.specs.declared.results.Handle.{Handle}
 use Rattle.page_model.specs.Held.{Placed, objects}
 use Rattle.page_model.proofs.CallerLemmas.{bytes_held}
 use Rattle.slice_model.specs.Runs.{Happens, Position, Free, Malloc, Read, Write}
-use Rattle.slice_model.specs.declared.answers.SliceFault.{SliceFault}
-use Rattle.slice_model.specs.declared.answers.SliceFault.TheVariants as fault
-use Rattle.slice_model.specs.declared.answers.SliceRefusal.{SliceRefusal}
-use Rattle.slice_model.specs.declared.answers.SliceRefusal.TheVariants as refusal
+use Rattle.slice_model.specs.declared.refusals.SliceFault.{SliceFault}
+use Rattle.slice_model.specs.declared.refusals.SliceFault.TheVariants as fault
+use Rattle.slice_model.specs.declared.refusals.SliceRefusal.{SliceRefusal}
+use Rattle.slice_model.specs.declared.refusals.SliceRefusal.TheVariants as refusal
 use Rattle.slice_model.proofs.CallerLemmas.{byte_there}
 use Rattle.sliced_heap.specs.Access.{access_fault, bytes_or_fault}
 use Rattle.sliced_heap.specs.Shown.{plan_in, working_in}

@@ -4,16 +4,16 @@ use Rattle.std.specs.Prelude.{◌≡◌, ℕ, ℤ, pos, ◌*◌, true, replicate
 use Rattle.std.specs.FinMap.{empty}
 use Rattle.cf_base.specs.Classes.{class_of}
 use Rattle.cf_base.specs.Settings.{Profile, at_bound_one}
-use Rattle.cf_base.specs.declared.answers.AccessFault.{AccessFault}
-use Rattle.cf_base.specs.declared.answers.Handle.{Handle}
+use Rattle.cf_base.specs.declared.results.AccessFault.{AccessFault}
+use Rattle.cf_base.specs.declared.results.Handle.{Handle}
 use Rattle.cf_base.specs.declared.kind.Layout.TheVariants.{Words}
 use Rattle.page_model.specs.Order.{first_order}
 use Rattle.page_model.specs.Paging.{first_bounds, paging_of}
 use Rattle.slice_model.specs.Ordered.{HappensInOrder}
 use Rattle.slice_model.specs.Runs.{Event, Happens, Free, Malloc, Read, Step, Write}
 use Rattle.slice_model.specs.State.{Idle, left_of}
-use Rattle.slice_model.specs.declared.answers.SliceFault.{SliceFault}
-use Rattle.slice_model.specs.declared.answers.SliceRefusal.{SliceRefusal}
+use Rattle.slice_model.specs.declared.refusals.SliceFault.{SliceFault}
+use Rattle.slice_model.specs.declared.refusals.SliceRefusal.{SliceRefusal}
 use Rattle.sliced_heap.specs.Access.{access_fault, bytes_or_fault, place_in, sliced_length_in}
 use Rattle.sliced_heap.specs.Costs.{slice_cost, sliced_access_steps, sliced_free_cost, sliced_length_steps, sliced_malloc_cost}
 use Rattle.sliced_heap.specs.Figures.{sliced_figures_in, sliced_totals_in, sliced_words_steps, slot_words_in}
@@ -25,8 +25,8 @@ use Rattle.c_base.specs.Codes.{access_code}
 use Rattle.c_base.specs.HandleRules.{AreFirstHandles}
 use Rattle.c_base.specs.Handles.{handle_of, none, number_in, raised_by}
 use Rattle.c_base.specs.Shown.{class_code, figures_shown, found_code, found_number, malloc_number, totals_shown}
-use Rattle.c_base.specs.declared.answers.NphClass.{NphClass}
-use Rattle.c_base.specs.declared.answers.NphHeapTotals.{NphHeapTotals}
+use Rattle.c_base.specs.declared.results.NphClass.{NphClass}
+use Rattle.c_base.specs.declared.results.NphHeapTotals.{NphHeapTotals}
 use Rattle.norphuen_sliced.specs.Codes.{slice_free_code, slice_malloc_code}
 use Rattle.norphuen_sliced.specs.HeldState.{SlicedHeldState}
 use Rattle.norphuen_sliced.specs.Most.{most_access, most_free, most_malloc, most_step}
@@ -50,7 +50,7 @@ opened_with p quantum = record {
   order = first_order (paging_of (at_bound_one p) Words (first_bounds (at_bound_one p) Words)) p.proxies;
 }
 
--- a heap that was just opened with the settings p and this quantum; its count is 0, and its handles are larger than `last`
+-- a heap that was just opened with the settings p and this quantum; its count is 0, and its handles are larger than `last` or begin at 0 if too few are larger
 pub record IsFreshSlicedHeap (p : Profile) (quantum last : ℕ) (new : SlicedHeldState) : Type 0 where
   pub heap : new.heap ≡ opened_with p quantum
   pub rules : KeepsSlicedRules new.heap
@@ -175,7 +175,7 @@ pub record IsSlicedTotalsCall (old : SlicedHeldState) (code : ℤ) (after : NphH
   pub by_totals : after ≡ totals_shown (sliced_totals_in (plan_in old.heap) (working_in old.heap).state)
   pub kept : new ≡ old
 
--- a call of `last_steps`: it returns the steps of the last call that counts them, and changes nothing
+-- a call of `last_steps`: it writes the steps of the last call that counts them; the state is unchanged, steps included
 pub record IsSlicedStepsCall (old : SlicedHeldState) (code : ℤ) (after : ℕ) (new : SlicedHeldState) : Type 0 where
   pub by_code : code ≡ pos 0
   pub by_steps : after ≡ old.steps

@@ -1,9 +1,9 @@
 -- The codes that a call of the sliced heap returns to C, by the result of the heap's call.
 use Rattle.std.specs.Prelude.{ℤ, pos, Result, Ok, Err}
-use Rattle.slice_model.specs.declared.answers.SliceFault.{SliceFault}
-use Rattle.slice_model.specs.declared.answers.SliceFault.TheVariants as fault
-use Rattle.slice_model.specs.declared.answers.SliceRefusal.{SliceRefusal}
-use Rattle.slice_model.specs.declared.answers.SliceRefusal.TheVariants as refusal
+use Rattle.slice_model.specs.declared.refusals.SliceFault.{SliceFault}
+use Rattle.slice_model.specs.declared.refusals.SliceFault.TheVariants as fault
+use Rattle.slice_model.specs.declared.refusals.SliceRefusal.{SliceRefusal}
+use Rattle.slice_model.specs.declared.refusals.SliceRefusal.TheVariants as refusal
 
 -- the code of a malloc that is refused for this cause; 18 (`BUSY`) if only the slot of the pending job is left
 abbrev pub slice_refusal_code : SliceRefusal → ℤ

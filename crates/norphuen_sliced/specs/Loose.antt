@@ -1,4 +1,4 @@
--- `LooseHeld`, the fields of an open sliced heap with its step count: its words, other words in their place, and which of them is a `Held`, with which state.
+-- `LooseHeld`, the fields of an open sliced heap with its step count: its words, other words in their place, and when they are the fields of a `Held`, with which state.
 use Rattle.std.specs.Prelude.{ℕ, IsTrue, List, Option, Some, None, length}
 use Rattle.region.specs.Lending.{with_words}
 use Rattle.sliced_heap.specs.Shown.{IsValidSlicedIn, sliced_shown}

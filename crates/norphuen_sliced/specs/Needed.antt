@@ -5,7 +5,7 @@ use Rattle.cf_base.specs.Settings.{Profile, profile_from, setting_fault}
 use Rattle.cf_base.specs.declared.needed.BytesNeeded.{BytesNeeded}
 use Rattle.sliced_heap.specs.Needed.{sliced_bytes}
 use Rattle.c_base.specs.Needed.{AreNeeded, IsOfHandles}
-use Rattle.c_base.specs.declared.answers.NphNeeded.{NphNeeded}
+use Rattle.c_base.specs.declared.results.NphNeeded.{NphNeeded}
 
 -- the bytes of the block of an open heap (`Held`)
 abbrev pub sliced_held_size : ℕ

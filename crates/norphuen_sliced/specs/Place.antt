@@ -2,8 +2,8 @@
 use Rattle.std.specs.Borrow.{Fml, Lends, MutBor}
 use Rattle.c_base.specs.CallerHeap.{CallerHeap}
 use Rattle.c_base.specs.Place as base
-use Rattle.c_base.specs.contracts.heap.LendableHeap.{the_row as heap_row}
-use Rattle.c_base.specs.declared.heap.LendableHeap.{LendableHeap}
+use Rattle.c_base.specs.contracts.lendable.LendableHeap.{the_row as heap_row}
+use Rattle.c_base.specs.declared.lendable.LendableHeap.{LendableHeap}
 use Rattle.norphuen_sliced.specs.HeldState.{SlicedHeldState}
 use Rattle.norphuen_sliced.specs.Sliced.{loose_sliced, open_sliced}
 use Rattle.norphuen_sliced.specs.contracts.loose.HeldLendableLooseHeld.TheImpl.{ghosts}

@@ -1,5 +1,5 @@
 //! `Held`: an open sliced heap with the step count of its last call and the handles that C has, for a C library. Each
-//! call returns a code, and writes its other results through references.
+//! call from C returns a code, and writes its other results through references.
 ghost use Rattle.std.specs.Prelude.{◌≡◌, ◌≤◌, IfSome, is_some};
 ghost use Rattle.cf_base.specs.Settings.{profile_of};
 ghost use Rattle.slice_model.specs.State.{job_slot};
@@ -16,9 +16,10 @@ use std::marker::Model;
 use std::rt::Memory;
 use step_ledger::Meter;
 
-/// An open sliced heap, the steps of its last call, and the handle of each number: what C has for an object. A call on a
-/// handle that its number does not have now is a call on `NONE`, which is never live. Only `left`, `moving`, `figures`,
-/// `totals` and `last_steps` count no steps, and leave this number unchanged.
+/// An open sliced heap, the steps of its last call that counts any, and C's handle of each object's
+/// number. A call on a stale handle is a call on the number `NONE`, which is never live. `left`,
+/// `moving`, `figures`, `totals` and `last_steps` count no steps, and leave `steps` unchanged; each
+/// other call for C sets it.
 #[derive(Drop)]
 pub struct Held {
     heap: SlicedHeap,
@@ -44,8 +45,9 @@ impl Held {
     ghost use Rattle.c_base.specs.Handles.{largest};
     ghost use Rattle.norphuen_sliced.specs.Calls.{IsFreshSlicedHeap, IsLeftCall, IsMovingCall, IsSlicedClassCall, IsSlicedFiguresCall, IsSlicedFreeCall, IsSlicedLengthCall, IsSlicedMallocCall, IsSlicedPlaceCall, IsSlicedReadCall, IsSlicedRoomCall, IsSlicedSlotWordsCall, IsSlicedStepsCall, IsSlicedTotalsCall, IsSlicedWriteCall, IsStepCall};
 
-    /// For C, opens a sliced heap without objects, with slices of at most `quantum` words, in a block of its own. Its
-    /// handles are larger than `last`. Returns `None` if out of memory.
+    /// For C, opens a sliced heap without objects, with slices of at most `quantum` words, in a
+    /// memory block of its own; the bound k of `s` is not used. Its handles are larger than `last`,
+    /// or from 0 on if too few are larger. Returns `None` if out of memory.
     pub fn open(memory: Memory, s: &Settings, quantum: u32, last: u32) -> Option<Box<Held>>
         requires least { 1 ≤ quantum }
         requires most { quantum ≤ 16384 }
@@ -81,8 +83,9 @@ impl Held {
         }
     }
 
-    /// For C, frees an object, and does the first slice of the job that this leaves. Returns `DONE`; else, with no
-    /// object changed, `UNKNOWN` if the handle isn't live, or `BUSY` if a job is pending.
+    /// For C, frees an object, whose handle is stale then, and does the first slice of the job that
+    /// this leaves. Returns `DONE`; else, with no object changed, `UNKNOWN` if the handle isn't
+    /// live, or `BUSY` if a job is pending.
     pub fn free(&mut self, handle: u32) -> i32
         ensures { IsSlicedFreeCall self.old handle result self.new }
     {
@@ -175,8 +178,8 @@ impl Held {
         }
     }
 
-    /// For C's sliced heap, writes the words of an object's slot into `words`: those that a free of it clears. Returns
-    /// `DONE`, or `UNKNOWN` if the handle isn't live; then `words` is unchanged.
+    /// For C's sliced heap, writes into `words` how many words an object's slot has: as many as the job of a free of it
+    /// clears or moves. Returns `DONE`, or `UNKNOWN` if the handle isn't live; then `words` is unchanged.
     pub fn slot_words(&mut self, handle: u32, words: &mut u32) -> i32
         ensures { IsSlicedSlotWordsCall self.old handle words.old result words.new self.new }
     {
@@ -193,8 +196,8 @@ impl Held {
         }
     }
 
-    /// For C, writes the sliced heap's class of an object of `bytes` bytes, numbered from 0, into `class`. Returns
-    /// `DONE`, or `SIZE` if it needs more than a page; then `class` is unchanged.
+    /// For C, writes the number, from 0 on, of the sliced heap's class of an object of `bytes` bytes into
+    /// `class`. Returns `DONE`, or `SIZE` if the object needs more than a page; then `class` is unchanged.
     pub fn class_of(&mut self, bytes: u32, class: &mut u32) -> i32
         ensures { IsSlicedClassCall self.old bytes class.old result class.new self.new }
     {
@@ -210,8 +213,9 @@ impl Held {
         }
     }
 
-    /// For C, writes the figures of a class of the sliced heap, numbered from 0, into `figures`. A pending job's slot
-    /// counts as used. Returns `DONE`, or `UNKNOWN` if there is no such class; then `figures` is unchanged.
+    /// For C, writes the figures of a class of the sliced heap into `figures`; classes are numbered
+    /// from 0. A pending job's slot counts as used. Returns `DONE`, or `UNKNOWN` if there is no such
+    /// class; then `figures` is unchanged.
     pub fn figures(&mut self, class: u32, figures: &mut NphClass) -> i32
         ensures { IsSlicedFiguresCall self.old class figures.old result figures.new self.new }
     {
@@ -247,7 +251,8 @@ impl Held {
         }
     }
 
-    /// For C, writes the steps of the sliced heap's last call into `steps`; 0 if there was none. Always returns `DONE`.
+    /// For C, writes the steps of the sliced heap's last call that counts them into `steps`; 0 if
+    /// there was none. Always returns `DONE`.
     pub fn last_steps(&mut self, steps: &mut u64) -> i32
         ensures { IsSlicedStepsCall self.old result steps.new self.new }
     {
@@ -281,7 +286,7 @@ impl Held {
         self.heap.has_job()
     }
 
-    /// For C, the largest handle that a number of the sliced heap has.
+    /// For C, the largest of the sliced heap's handles.
     pub(crate) fn last_handle(&self) -> u32
         ensures { result ≡ largest self.now.handles }
     {

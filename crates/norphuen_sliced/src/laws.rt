@@ -10,7 +10,9 @@ ghost use Rattle.norphuen_sliced.specs.Calls.{IsFreshSlicedHeap, IsSlicedFreeCal
 ghost use Rattle.norphuen_sliced.specs.HandleRules.{IsNewSlicedHandle, KeepsSlicedHandles};
 ghost use Rattle.norphuen_sliced.specs.HeldState.{SlicedHeldState};
 
-/// An opened sliced heap keeps the rules of the handles, and each call keeps them.
+/// A sliced heap that was just opened keeps its rules, and each number that an object can have has
+/// a handle (`KeepsSlicedHandles`, clause `opened`). Each call keeps this true; `others` are the
+/// calls that change neither the heap nor the handles.
 pub fn every_call_keeps_the_handles()
     ensures opened { (p : Profile) (quantum last : ℕ) (new : SlicedHeldState) → IsFreshSlicedHeap p quantum last new → KeepsSlicedHandles new }
     ensures malloc { (old new : SlicedHeldState) (bytes before after : ℕ) (code : ℤ) → IsSlicedMallocCall old bytes before code after new
@@ -28,7 +30,10 @@ pub fn a_malloc_gives_a_new_handle()
         → IsNewSlicedHandle old after new }
 {}
 
-/// A call on a handle that names no object returns 4 (`UNKNOWN`) and changes nothing, also while a job is pending.
+/// On a sliced heap, also while a job is pending, a call with a stale handle, which is not the one
+/// that its number has, returns 4 (`UNKNOWN`). A free or write then leaves the objects, the job and
+/// the words unchanged, a free also the handles; the other calls leave the caller's number or
+/// buffer unchanged.
 pub fn a_stale_handle_is_refused()
     ensures free { (old new : SlicedHeldState) (handle : ℕ) (code : ℤ) → IsSlicedFreeCall old handle code new → KeepsSlicedHandles old
         → number_in old.handles handle ≡ none → (code ≡ pos 4) × (working_in new.heap ≡ working_in old.heap) × (new.handles ≡ old.handles) }
@@ -44,7 +49,8 @@ pub fn a_stale_handle_is_refused()
         → KeepsSlicedHandles old → number_in old.handles handle ≡ none → (code ≡ pos 4) × (after ≡ before) }
 {}
 
-/// A read that returns 0 gives the bytes of the object, also while a job moves it.
+/// A read that returns 0 fills the caller's buffer with the bytes of the object from byte `from`
+/// on, also while a job moves the object.
 pub fn a_read_gives_the_bytes_of_the_object()
     ensures { (old new : SlicedHeldState) (handle from : ℕ) (before after : List ℕ) → IsSlicedReadCall old handle from before (pos 0) after new
         → KeepsSlicedHandles old → (x : Placed) × (get old.heap.held (number_in old.handles handle) ≡ Some x)

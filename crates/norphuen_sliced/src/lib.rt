@@ -1,8 +1,9 @@
-//! The sliced heap as a library for C. `include/norphuen.h` describes each export for C. An export whose comment names a
-//! function calls it, and has its contract. Each export that takes a heap, but `nph_sliced_close`, returns a code: 0
-//! (`DONE`) if the call is done, else the cause (`c_base`, file `codes`). Of these each but `nph_sliced_open` returns
-//! `CLOSED` and changes nothing while the heap is closed, and each but `nph_sliced_return` returns `LENT` and changes
-//! nothing while it is lent (`IsCallOnOpen`).
+//! The sliced heap as a library for C. `include/norphuen.h` describes each export for C. An
+//! export calls the function in brackets in its comment, if any; that function's comment says
+//! when it fails. Each export that takes a heap, but `nph_sliced_close`, returns a code: 0
+//! (`DONE`) if the call is done, else the cause (`c_base`, file `codes`). Of these each but
+//! `nph_sliced_open` returns `CLOSED` and changes nothing while the heap is closed, and each but
+//! `nph_sliced_return` returns `LENT` and changes nothing while it is lent (`IsCallOnOpen`).
 #![tactic(auto)]
 
 ghost use Rattle.std.specs.Prelude.{◌≡◌};
@@ -31,7 +32,7 @@ use sliced_heap::SlicedHeap;
 use std::mem::size_of;
 use std::rt::Memory;
 
-/// The bytes of the block of an open heap.
+/// The bytes of the memory block of an open heap.
 const HELD_BYTES: u64 = 944;
 
 const _: () = prove!(size_of::<Held>() == 944);
@@ -75,8 +76,9 @@ pub extern "C" fn nph_sliced_open(
     }
 }
 
-/// Writes into `needed` what `nph_sliced_open` with these settings, and any quantum, asks of the functions that take and return
-/// memory: how many blocks, the bytes of all, and those of the largest.
+/// Writes into `needed` the memory that `nph_sliced_open` with these settings, and any quantum,
+/// asks for: how many memory blocks, the bytes of all, and those of the largest. Returns 0, or the
+/// code of the first setting out of range, and then `needed` is unchanged.
 #[unsafe(no_mangle)]
 pub extern "C" fn nph_sliced_bytes_needed(
     pages: u32,
@@ -95,7 +97,8 @@ pub extern "C" fn nph_sliced_bytes_needed(
     }
 }
 
-/// Closes the heap and frees its memory; does nothing if it is closed (`LendableHeap::close`).
+/// Closes the heap and frees its memory, also if it is lent; does nothing if it is closed
+/// (`LendableHeap::close`).
 #[unsafe(no_mangle)]
 pub extern "C" fn nph_sliced_close(heap: &mut NphHeap, memory: Memory)
     ensures { sliced_heap_in heap.new ≡ sliced_closed_by (sliced_heap_in heap.old) }
@@ -145,7 +148,8 @@ pub extern "C" fn nph_sliced_step(heap: &mut NphHeap) -> i32
     }
 }
 
-/// Writes into `words` how many words the pending job has yet to do (`Held::left`).
+/// Writes into `words` how many words the pending job has yet to clear or move; 0 if none is
+/// pending (`Held::left`).
 #[unsafe(no_mangle)]
 pub extern "C" fn nph_sliced_left(heap: &mut NphHeap, words: &mut u32) -> i32
     ensures { IsCallOnOpen (sliced_heap_in heap.old) result (sliced_heap_in heap.new) (words.new ≡ words.old)
@@ -159,7 +163,8 @@ pub extern "C" fn nph_sliced_left(heap: &mut NphHeap, words: &mut u32) -> i32
     }
 }
 
-/// Writes into `handle` which object the pending job moves (`Held::moving`).
+/// Writes into `handle` the handle of the object that the pending job moves; `NONE` if there is
+/// none (`Held::moving`).
 #[unsafe(no_mangle)]
 pub extern "C" fn nph_sliced_moving(heap: &mut NphHeap, handle: &mut u32) -> i32
     ensures { IsCallOnOpen (sliced_heap_in heap.old) result (sliced_heap_in heap.new) (handle.new ≡ handle.old)
@@ -201,7 +206,7 @@ pub extern "C" fn nph_sliced_read(heap: &mut NphHeap, handle: u32, at: u32, out:
     }
 }
 
-/// Writes the object's length in bytes into `bytes` (`Held::length`).
+/// Writes the length in bytes of an object into `bytes` (`Held::length`).
 #[unsafe(no_mangle)]
 pub extern "C" fn nph_sliced_length(heap: &mut NphHeap, handle: u32, bytes: &mut u32) -> i32
     ensures { IsCallOnOpen (sliced_heap_in heap.old) result (sliced_heap_in heap.new) (bytes.new ≡ bytes.old)
@@ -229,7 +234,7 @@ pub extern "C" fn nph_sliced_has_room(heap: &mut NphHeap, bytes: u32) -> i32
     }
 }
 
-/// Writes the words of an object's slot into `words`, those that a free of it clears (`Held::slot_words`).
+/// Writes into `words` how many words the slot of an object has (`Held::slot_words`).
 #[unsafe(no_mangle)]
 pub extern "C" fn nph_sliced_slot_words(heap: &mut NphHeap, handle: u32, words: &mut u32) -> i32
     ensures { IsCallOnOpen (sliced_heap_in heap.old) result (sliced_heap_in heap.new) (words.new ≡ words.old)
@@ -243,7 +248,8 @@ pub extern "C" fn nph_sliced_slot_words(heap: &mut NphHeap, handle: u32, words: 
     }
 }
 
-/// Writes the size class of an object of `bytes` bytes, numbered from 0, into `class` (`Held::class_of`).
+/// Writes the number, from 0 on, of the size class of an object of `bytes` bytes into `class`
+/// (`Held::class_of`).
 #[unsafe(no_mangle)]
 pub extern "C" fn nph_sliced_class_of(heap: &mut NphHeap, bytes: u32, class: &mut u32) -> i32
     ensures { IsCallOnOpen (sliced_heap_in heap.old) result (sliced_heap_in heap.new) (class.new ≡ class.old)
@@ -257,7 +263,8 @@ pub extern "C" fn nph_sliced_class_of(heap: &mut NphHeap, bytes: u32, class: &mu
     }
 }
 
-/// Writes the figures of a size class, numbered from 0, into `figures` (`Held::figures`).
+/// Writes the figures of a size class into `figures`; classes are numbered from 0
+/// (`Held::figures`).
 #[unsafe(no_mangle)]
 pub extern "C" fn nph_sliced_figures(heap: &mut NphHeap, class: u32, figures: &mut NphClass) -> i32
     ensures { IsCallOnOpen (sliced_heap_in heap.old) result (sliced_heap_in heap.new) (figures.new ≡ figures.old)
@@ -285,7 +292,7 @@ pub extern "C" fn nph_sliced_totals(heap: &mut NphHeap, totals: &mut NphHeapTota
     }
 }
 
-/// Writes the steps of the last call into `steps` (`Held::last_steps`).
+/// Writes the steps of the last call that counts them into `steps` (`Held::last_steps`).
 #[unsafe(no_mangle)]
 pub extern "C" fn nph_sliced_last_steps(heap: &mut NphHeap, steps: &mut u64) -> i32
     ensures { IsCallOnOpen (sliced_heap_in heap.old) result (sliced_heap_in heap.new) (steps.new ≡ steps.old)
@@ -345,8 +352,8 @@ pub extern "C" fn nph_sliced_version() -> u32
     VERSION
 }
 
-/// Returns the most steps of a malloc (`most_malloc`). It and the calls below take no heap, and each returns the bound in
-/// the contract of its call.
+/// Returns the most steps of a malloc. This call and those below take no heap. Each returns the step
+/// bound in the contract of the call that it is for.
 #[unsafe(no_mangle)]
 pub extern "C" fn nph_sliced_most_malloc() -> u64
     ensures { result ≡ most_malloc }
@@ -354,7 +361,7 @@ pub extern "C" fn nph_sliced_most_malloc() -> u64
     17
 }
 
-/// Returns the most steps of a free in a heap with this quantum (`most_free`).
+/// Returns the most steps of a free in a heap with this quantum.
 #[unsafe(no_mangle)]
 pub extern "C" fn nph_sliced_most_free(quantum: u32) -> u64
     ensures { result ≡ most_free quantum }
@@ -362,7 +369,7 @@ pub extern "C" fn nph_sliced_most_free(quantum: u32) -> u64
     23 + u64::from(quantum)
 }
 
-/// Returns the most steps of a slice in a heap with this quantum (`most_step`).
+/// Returns the most steps of a slice in a heap with this quantum.
 #[unsafe(no_mangle)]
 pub extern "C" fn nph_sliced_most_step(quantum: u32) -> u64
     ensures { result ≡ most_step quantum }
@@ -370,8 +377,8 @@ pub extern "C" fn nph_sliced_most_step(quantum: u32) -> u64
     15 + u64::from(quantum)
 }
 
-/// Returns the most steps of a read or a write of `count` bytes from byte `at` of an object on (`most_access`). If it succeeds it
-/// takes just these.
+/// Returns the most steps of a read or a write of `count` bytes of an object, from byte `at` on.
+/// One that succeeds takes exactly these.
 #[unsafe(no_mangle)]
 pub extern "C" fn nph_sliced_most_access(at: u32, count: u32) -> u64
     ensures { result ≡ most_access at count }
@@ -383,7 +390,7 @@ pub extern "C" fn nph_sliced_most_access(at: u32, count: u32) -> u64
     }
 }
 
-/// Returns the most steps of `nph_sliced_has_room` (`most_has_room`).
+/// Returns the most steps of `nph_sliced_has_room`.
 #[unsafe(no_mangle)]
 pub extern "C" fn nph_sliced_most_has_room() -> u64
     ensures { result ≡ most_has_room }
@@ -391,7 +398,7 @@ pub extern "C" fn nph_sliced_most_has_room() -> u64
     1
 }
 
-/// Returns the most steps of `nph_sliced_length` (`most_length`).
+/// Returns the most steps of `nph_sliced_length`.
 #[unsafe(no_mangle)]
 pub extern "C" fn nph_sliced_most_length() -> u64
     ensures { result ≡ most_length }

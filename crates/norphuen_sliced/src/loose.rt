@@ -1,5 +1,5 @@
-//! `LooseHeld`: an open sliced heap with its step count, as `Held` has it, field by field, but with no invariant. A `Held`
-//! is a `LooseHeld` whose heap is valid, in the same memory; so the words of its region can be borrowed all at once.
+//! `LooseHeld`: the fields of `Held`, an open sliced heap for C, without its invariant. A `Held` is a `LooseHeld` whose
+//! heap is valid and open, in the same memory; so the words of its region can be borrowed all at once.
 ghost use Rattle.std.specs.Prelude.{◌≡◌, IsSome, refl};
 ghost use Rattle.c_base.specs.Lending.{AreOf, IsFit};
 ghost use Rattle.std.specs.Borrow.{sem};

@@ -1,4 +1,4 @@
-//! `NphHeap` for the sliced heap: a `LendableHeap` in types that C may see.
+//! `NphHeap` for the sliced heap: a `LendableHeap` of `c_base`, and its fields, in types that C may see.
 ghost use Rattle.std.specs.Prelude.{◌≡◌, Option};
 ghost use Rattle.std.specs.Borrow.{sem};
 ghost use Rattle.std.specs.Coded.{coded_option};
@@ -18,7 +18,7 @@ use std::mem::size_of;
 
 const _: () = prove!(size_of::<NphHeap>() == 16);
 
-/// A `HeapBlock`.
+/// A `HeapBlock`, in types that C may see.
 #[repr(C)]
 #[derive(Drop)]
 pub struct Place {
@@ -32,7 +32,7 @@ impl Model for Place {
 
 unsafe impl Send for Place {}
 
-/// A `Loan`.
+/// A `Loan`, in types that C may see.
 #[repr(C)]
 #[derive(Drop)]
 pub struct Lent {
@@ -48,7 +48,8 @@ impl Model for Lent {
 
 unsafe impl Send for Lent {}
 
-/// A `LendableHeap`. Call its `close` before it is dropped: a drop does not free the memory of a heap.
+/// A `LendableHeap`, in types that C may see. Call `close` of `inner` before a drop: a drop does
+/// not free the memory of a heap.
 #[repr(C)]
 #[derive(Drop)]
 pub struct NphHeap {

@@ -3,12 +3,12 @@ use Rattle.std.proofs.Common.{◌≡◌, ◌≢◌, ℕ, ℤ, pos, List, [], Som
 use Rattle.std.specs.Prelude.{Option, option_map}
 use Rattle.std.proofs.lemmas.List.{get_or-set_other}
 use Rattle.std.specs.FinMap.{get}
-use Rattle.cf_base.specs.declared.answers.AccessFault.{AccessFault}
-use Rattle.cf_base.specs.declared.answers.AccessFault.TheVariants.{Unknown, Range}
-use Rattle.cf_base.specs.declared.answers.Freed.{Freed}
-use Rattle.cf_base.specs.declared.answers.Handle.{Handle}
-use Rattle.cf_base.specs.declared.answers.NotLive.{NotLive}
-use Rattle.cf_base.specs.declared.answers.Refusal.{Refusal}
+use Rattle.cf_base.specs.declared.results.AccessFault.{AccessFault}
+use Rattle.cf_base.specs.declared.results.AccessFault.TheVariants.{Unknown, Range}
+use Rattle.cf_base.specs.declared.results.Freed.{Freed}
+use Rattle.cf_base.specs.declared.results.Handle.{Handle}
+use Rattle.cf_base.specs.declared.results.NotLive.{NotLive}
+use Rattle.cf_base.specs.declared.results.Refusal.{Refusal}
 use Rattle.cf_model.specs.Steps.{number_of}
 use Rattle.page_model.specs.Bytes.{written}
 use Rattle.page_model.specs.Held.{Placed}
@@ -16,17 +16,17 @@ use Rattle.page_model.specs.Paging.{class_for}
 use Rattle.page_model.proofs.CallerLemmas.{length-written}
 use Rattle.quota_model.specs.Admission.{IsAdmission, IsEnough, Share}
 use Rattle.quota_model.specs.Refusals.{task_paging}
-use Rattle.quota_model.specs.declared.answers.Admission.{Admission}
-use Rattle.quota_model.specs.declared.answers.Admission.TheVariants.{Yes, No, Size, Proxies}
-use Rattle.quota_model.specs.declared.answers.Need.{Need}
-use Rattle.quota_model.specs.declared.answers.QuotaFault.{QuotaFault}
+use Rattle.quota_model.specs.declared.results.Admission.{Admission}
+use Rattle.quota_model.specs.declared.results.Admission.TheVariants.{Yes, No, Size, Proxies}
+use Rattle.quota_model.specs.declared.results.Need.{Need}
+use Rattle.quota_model.specs.declared.results.QuotaFault.{QuotaFault}
 use Rattle.quota_model.proofs.CallerLemmas.{found_small, others_kept, others_rewritten, others_stay}
 use Rattle.quota_heap.specs.State.{KeepsTasks, QuotaState, held_by, quota_of}
 use Rattle.quota_heap.specs.Steps.{IsQuotaStep, IsTaskFreeStep, IsTaskMallocStep, IsTaskReadAnswer, IsTaskWriteStep}
 use Rattle.c_base.specs.Codes.{access_code, free_code}
 use Rattle.c_base.specs.Handles.{none, number_in}
 use Rattle.c_base.specs.Shown.{found_code, found_number, freed_shown}
-use Rattle.c_base.specs.declared.answers.NphFreed.{NphFreed}
+use Rattle.c_base.specs.declared.results.NphFreed.{NphFreed}
 use Rattle.norphuen_tasks.specs.Calls.{IsAdmitCall, IsQuotaCall, IsTasksFreeCall, IsTasksLengthCall, IsTasksMallocCall, IsTasksReadCall, IsTasksWriteCall, share_with}
 use Rattle.norphuen_tasks.specs.Codes.{admission_code}
 use Rattle.norphuen_tasks.specs.Handles.{handles_by, raised_of}

@@ -13,7 +13,7 @@ use Rattle.norphuen_tasks.specs.TasksState.{TasksState}
 abbrev pub tasks_opening : Opening TasksState
 tasks_opening = record { takes = λ _. ⊤; is_fresh = IsFreshTasksHeap; needs = IsTasksHeldBytes; last = λ h. largest_of h.handles }
 
--- the heap after it is closed: the handles of the next one will be larger than all that its numbers have
+-- the heap after it is closed, with its largest handle, on which the handles of the next heap depend
 abbrev pub tasks_closed_by : CallerHeap TasksState → CallerHeap TasksState
 tasks_closed_by = closed_with tasks_opening.last
 

@@ -1,20 +1,20 @@
 -- For `HeldTasks`: what each call of a C library does to an open heap of tasks with its step count (`old`, `new`) and to the caller's number, structure or buffer
 -- (`before`, `after`), and the `code` that it returns. `answer` is the result of the heap's own call, whose steps, counted from 0, are `new.steps`.
-use Rattle.std.specs.Prelude.{◌≡◌, ℕ, ◌+◌, ◌<◌, ◌≤◌, ◌⊎◌, ℤ, pos, List, Result, IsSome, length, sum}
+use Rattle.std.specs.Prelude.{◌≡◌, ℕ, ◌+◌, ◌<◌, ◌≤◌, ◌⊎◌, ℤ, pos, List, None, Result, IsSome, length, sum}
 use Rattle.std.specs.FinMap.{len}
 use Rattle.cf_base.specs.Settings.{Profile}
-use Rattle.cf_base.specs.declared.answers.AccessFault.{AccessFault}
-use Rattle.cf_base.specs.declared.answers.Freed.{Freed}
-use Rattle.cf_base.specs.declared.answers.Handle.{Handle}
-use Rattle.cf_base.specs.declared.answers.NotLive.{NotLive}
-use Rattle.cf_base.specs.declared.answers.Refusal.{Refusal}
+use Rattle.cf_base.specs.declared.results.AccessFault.{AccessFault}
+use Rattle.cf_base.specs.declared.results.Freed.{Freed}
+use Rattle.cf_base.specs.declared.results.Handle.{Handle}
+use Rattle.cf_base.specs.declared.results.NotLive.{NotLive}
+use Rattle.cf_base.specs.declared.results.Refusal.{Refusal}
 use Rattle.page_model.specs.Arrangement.{pages_needed}
 use Rattle.quota_model.specs.Admission.{IsAdmission, IsEnough, Share, declared_in_all, first_large}
 use Rattle.quota_model.specs.Refusals.{task_paging}
-use Rattle.quota_model.specs.declared.answers.Admission.{Admission}
-use Rattle.quota_model.specs.declared.answers.Admission.TheVariants.{Yes}
-use Rattle.quota_model.specs.declared.answers.Need.{Need}
-use Rattle.quota_model.specs.declared.answers.QuotaFault.{QuotaFault}
+use Rattle.quota_model.specs.declared.results.Admission.{Admission}
+use Rattle.quota_model.specs.declared.results.Admission.TheVariants.{Yes}
+use Rattle.quota_model.specs.declared.results.Need.{Need}
+use Rattle.quota_model.specs.declared.results.QuotaFault.{QuotaFault}
 use Rattle.quota_heap.specs.Costs.{most_of_malloc, task_access_steps, task_free_cost, task_free_steps, task_length_steps, task_malloc_cost}
 use Rattle.quota_heap.specs.State.{KeepsTasks, QuotaState, empty_state, objects_by, quota_of}
 use Rattle.quota_heap.specs.Steps.{IsQuotaStep, IsTaskFreeStep, IsTaskMallocStep, IsTaskReadAnswer, IsTaskWriteStep, figures_by, length_by}
@@ -22,19 +22,19 @@ use Rattle.step_ledger.specs.Counting.{RoseAtMost, RoseBy}
 use Rattle.c_base.specs.Codes.{access_code, free_code, malloc_code}
 use Rattle.c_base.specs.Handles.{number_in}
 use Rattle.c_base.specs.Shown.{figures_shown, found_code, found_number, freed_shown, malloc_number}
-use Rattle.c_base.specs.declared.answers.NphClass.{NphClass}
-use Rattle.c_base.specs.declared.answers.NphFreed.{NphFreed}
+use Rattle.c_base.specs.declared.results.NphClass.{NphClass}
+use Rattle.c_base.specs.declared.results.NphFreed.{NphFreed}
 use Rattle.norphuen_tasks.specs.Codes.{admission_code, quota_code}
 use Rattle.norphuen_tasks.specs.Handles.{AreFirstOfTasks, handles_by, raised_of}
 use Rattle.norphuen_tasks.specs.TasksState.{TasksState}
-use Rattle.norphuen_tasks.specs.declared.answers.NphTask.{NphTask}
+use Rattle.norphuen_tasks.specs.declared.results.NphTask.{NphTask}
 
 -- a call that names a task does `step`; if there is no such task, the code is 4 (`UNKNOWN`), nothing changes, and `kept` holds: that the caller's values are
 -- unchanged
 abbrev pub IsCallOfTask : ℕ → TasksState → ℤ → TasksState → Type 0 → Type 0 → Type 0
 IsCallOfTask task old code new kept step = ((task < 16) × step) ⊎ ((16 ≤ task) × (code ≡ pos 4) × (new ≡ old) × kept)
 
--- `new` is a heap that was just opened with the settings p: no task has an object, all quotas are 0, its count is 0, and its handles are larger than `last`
+-- `new` is a heap that was just opened with the settings p: no task has an object, all quotas are 0, its count is 0, and its handles are larger than `last` or begin at 0 if too few are larger
 pub record IsFreshTasksHeap (p : Profile) (last : ℕ) (new : TasksState) : Type 0 where
   pub whole : new.heap ≡ empty_state p
   pub rules : KeepsTasks new.heap
@@ -135,23 +135,25 @@ pub record IsAdmitted (s : QuotaState) (task : ℕ) (needs : List Need) (code : 
 abbrev pub IsAdmitCall : TasksState → ℕ → List Need → ℤ → TasksState → Type 0
 IsAdmitCall old task needs code new = (IsAdmitted old.heap task needs code ⊎ ((64 < length needs) × (code ≡ pos 17))) × (new ≡ old)
 
--- this is the least quota that is enough for these needs
+-- this is the least quota that is enough for these needs, which are at most 64
 pub record IsLeastQuota (s : QuotaState) (needs : List Need) (quota : ℕ) : Type 0 where
+  pub few : length needs ≤ 64
   pub enough : IsAdmission (share_with s quota) needs Yes
   pub least : (less : ℕ) → less < quota → ¬ IsEnough (share_with s less) needs
 
--- why there is no least quota: 17 (`ENTRIES`), there are more than 64 needs; 1 (`SIZE`), an object is larger than a page; 14 (`PROXIES`), there are more objects
--- than a task has proxies
+-- the first cause why there is no least quota: 17 (`ENTRIES`), there are more than 64 needs; 1 (`SIZE`), an object is larger than a page; 14 (`PROXIES`), there
+-- are more objects than a task has proxies
 abbrev pub IsNoQuota : QuotaState → List Need → ℤ → Type 0
 IsNoQuota s needs code =
-    ((64 < length needs) × (code ≡ pos 17)) ⊎ (IsSome (first_large s.profile needs) × (code ≡ pos 1)) ⊎ ((s.profile.proxies < declared_in_all needs) × (code ≡ pos 14))
+    ((64 < length needs) × (code ≡ pos 17)) ⊎ ((length needs ≤ 64) × IsSome (first_large s.profile needs) × (code ≡ pos 1))
+    ⊎ ((length needs ≤ 64) × (first_large s.profile needs ≡ None) × (s.profile.proxies < declared_in_all needs) × (code ≡ pos 14))
 
 -- a call for the least quota that is enough for these needs; it changes nothing
 abbrev pub IsLeastCall : TasksState → List Need → ℤ → ℕ → ℕ → TasksState → Type 0
 IsLeastCall old needs code before after new =
     (((code ≡ pos 0) × IsLeastQuota old.heap needs after) ⊎ (IsNoQuota old.heap needs code × (after ≡ before))) × (new ≡ old)
 
--- a call of `last_steps`: it returns the steps of the last call that counts them, and changes nothing
+-- a call of `last_steps`: it writes the steps of the last call that counts them; the state is unchanged, steps included
 pub record IsStepsCall (old : TasksState) (code : ℤ) (after : ℕ) (new : TasksState) : Type 0 where
   pub by_code : code ≡ pos 0
   pub by_steps : after ≡ old.steps

@@ -1,9 +1,9 @@
 -- The codes that a call on a heap of tasks returns to C, beside those of `c_base`.
 use Rattle.std.specs.Prelude.{ℤ, pos, Result, Ok, Err}
-use Rattle.quota_model.specs.declared.answers.Admission.{Admission}
-use Rattle.quota_model.specs.declared.answers.Admission.TheVariants.{Yes, No, Size, Proxies}
-use Rattle.quota_model.specs.declared.answers.QuotaFault.{QuotaFault}
-use Rattle.quota_model.specs.declared.answers.QuotaFault.TheVariants.{Sum, Used}
+use Rattle.quota_model.specs.declared.results.Admission.{Admission}
+use Rattle.quota_model.specs.declared.results.Admission.TheVariants.{Yes, No, Size, Proxies}
+use Rattle.quota_model.specs.declared.results.QuotaFault.{QuotaFault}
+use Rattle.quota_model.specs.declared.results.QuotaFault.TheVariants.{Sum, Used}
 
 -- the code of a new quota with this result: 11 (`PAGES`) if the quotas would sum to too many pages, 3 (`SPACE`) if the task uses more
 abbrev pub quota_code : Result (Unit {0}) QuotaFault → ℤ
@@ -11,7 +11,7 @@ quota_code (Ok u) = pos 0
 quota_code (Err Sum) = pos 11
 quota_code (Err Used) = pos 3
 
--- the code of an admission: 0 only if the quota is enough
+-- the code of an answer of `admit` of `quota_model`: 0 only if the quota is enough
 abbrev pub admission_code : Admission → ℤ
 admission_code Yes = pos 0
 admission_code (No nth) = pos 3

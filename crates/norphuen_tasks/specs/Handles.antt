@@ -2,8 +2,8 @@
 use Rattle.std.specs.Prelude.{◌≡◌, ℕ, ◌*◌, List, [], Result, Ok, Err, length, max, slice_index_or, slice_set}
 use Rattle.std.specs.List.{All, fold}
 use Rattle.cf_base.specs.Needed.{both, one_block, times}
-use Rattle.cf_base.specs.declared.answers.Freed.{Freed}
-use Rattle.cf_base.specs.declared.answers.NotLive.{NotLive}
+use Rattle.cf_base.specs.declared.results.Freed.{Freed}
+use Rattle.cf_base.specs.declared.results.NotLive.{NotLive}
 use Rattle.cf_base.specs.declared.needed.BytesNeeded.{BytesNeeded}
 use Rattle.c_base.specs.HandleRules.{AreFirstHandles}
 use Rattle.c_base.specs.Handles.{largest, raised_by}
@@ -12,7 +12,7 @@ use Rattle.c_base.specs.Handles.{largest, raised_by}
 abbrev pub handles_by : List (List ℕ) → ℕ → List ℕ
 handles_by handles task = slice_index_or handles task []
 
--- the handles of sixteen tasks in a heap that was just opened, with this many proxies for each; all are larger than `last`
+-- the handles of sixteen tasks in a heap that was just opened, with this many proxies for each; all are larger than `last`, or begin at 0 if too few are larger
 pub record AreFirstOfTasks (proxies last : ℕ) (handles : List (List ℕ)) : Type 0 where
   pub many : length handles ≡ 16
   pub each : All (AreFirstHandles proxies last) handles

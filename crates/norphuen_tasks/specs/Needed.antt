@@ -4,7 +4,7 @@ use Rattle.cf_base.specs.Needed.{both, one_block}
 use Rattle.cf_base.specs.Settings.{Profile, profile_from, setting_fault}
 use Rattle.cf_base.specs.declared.needed.BytesNeeded.{BytesNeeded}
 use Rattle.c_base.specs.Needed.{AreNeeded, IsOfHandles}
-use Rattle.c_base.specs.declared.answers.NphNeeded.{NphNeeded}
+use Rattle.c_base.specs.declared.results.NphNeeded.{NphNeeded}
 use Rattle.quota_heap.specs.Needed.{quota_bytes}
 use Rattle.norphuen_tasks.specs.Handles.{handles_bytes}
 

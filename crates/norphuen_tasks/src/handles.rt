@@ -18,7 +18,7 @@ const HANDLES_BYTES: u64 = 32;
 
 const _: () = prove!(size_of::<Handles>() == 32);
 
-/// The handles of each task.
+/// C's handles of each of the sixteen tasks.
 #[derive(Drop)]
 pub(crate) struct TaskHandles {
     of: Vec<Handles>,
@@ -38,8 +38,8 @@ impl Model for TaskHandles {
 }
 
 impl TaskHandles {
-    /// The handles of a heap that was just opened, in which each task has this many proxies. All are larger than `last`.
-    /// Returns `None` if out of memory.
+    /// Makes the handles of a heap that was just opened, in which each task has this many proxies: larger
+    /// than `last`, or from 0 on if too few are larger. Returns `None` if out of memory.
     pub(crate) fn new(alloc: Global, proxies: u32, last: u32) -> Option<TaskHandles>
         requires some { 1 ≤ proxies }
         requires few { proxies ≤ 65536 }
@@ -52,7 +52,7 @@ impl TaskHandles {
         Some(TaskHandles { of })
     }
 
-    /// The memory that the handles of all tasks ask for.
+    /// The memory that the handles of all tasks ask for, with this many proxies for each task.
     pub(crate) fn bytes_needed(proxies: u32) -> BytesNeeded
         requires some { 1 ≤ proxies }
         requires few { proxies ≤ 65536 }
@@ -73,7 +73,8 @@ impl TaskHandles {
         &self.of[task as usize]
     }
 
-    /// Raises C's handle of an object of a task that was freed.
+    /// Replaces a task's handle by that of the next generation, for the same number. To be called
+    /// after a free of the object that `handle` named.
     #[tactic(auto, using(crate::proofs::Tables::read_is))]
     pub(crate) fn raise(&mut self, task: u32, handle: u32)
         requires { task < 16 }

@@ -1,13 +1,13 @@
-//! `HeldTasks`: an open heap of sixteen tasks with the step count of its last call and the handles that C has, for a C library.
-//! Each call returns a code, and writes its other results through references. A call of a task that there is not returns `UNKNOWN`
-//! and changes nothing.
+//! `HeldTasks`: an open heap of sixteen tasks with the step count of its last call and the handles
+//! that C has, for a C library. Each call from C returns a code, and writes its other results through
+//! references. A call for a task above 15 returns `UNKNOWN` and changes nothing.
 ghost use Rattle.std.specs.Prelude.{◌≡◌, Err};
 ghost use Rattle.norphuen_tasks.specs.Calls.{IsAdmitCall, IsCallOfTask, IsLeastCall, IsQuotaCall, IsStepsCall, IsTaskCall, IsTasksFiguresCall, IsTasksFreeCall, IsTasksLengthCall, IsTasksMallocCall, IsTasksReadCall, IsTasksWriteCall, IsUnassignedCall};
 ghost use Rattle.norphuen_tasks.specs.Codes.{admission_code, quota_code};
 ghost use Rattle.norphuen_tasks.specs.CallerTasks.{tasks_opening};
 
-use crate::answers::NphTask;
 use crate::handles::{TASKS, TaskHandles};
+use crate::results::NphTask;
 use c_base::{
     DONE, ENTRIES, NphClass, NphFreed, Openable, PAGES, PROXIES, SIZE, SPACE, UNKNOWN, of_access,
     of_refusal,
@@ -22,17 +22,18 @@ use std::mem::size_of;
 use std::rt::Memory;
 use step_ledger::Meter;
 
-/// The bytes of the block of an open heap.
+/// The bytes of the memory block of an open heap.
 const HELD_BYTES: u64 = 248;
 
 const _: () = prove!(size_of::<HeldTasks>() == 248);
 
-/// The most needs that an admission takes.
+/// The most needs that `admit` and `least_quota` take.
 const MOST_NEEDS: usize = 64;
 
-/// An open heap of sixteen tasks, the steps of its last call, and for each task the handle of each number. A call on a handle that
-/// its number does not have now is a call on `NONE`, which is never live. The calls that take a handle and `malloc` count steps, each
-/// on a ledger of its own that it makes from `memory`; the others leave the number unchanged.
+/// An open heap of sixteen tasks, the steps of its last call that counts any, and for each task C's
+/// handle of each object's number. A call on a stale handle is a call on the number `NONE`, which
+/// is never live. `malloc` and the calls that take a handle count steps, each on a ledger of its
+/// own that it makes from `memory`; the others leave `steps` unchanged.
 #[derive(Drop)]
 pub struct HeldTasks {
     heap: QuotaHeap,
@@ -57,12 +58,14 @@ impl Model for HeldTasks {
 impl Openable for HeldTasks {
     ghost opening = { tasks_opening };
 
+    /// For C, the memory that opening a heap of tasks asks for.
     fn bytes_needed(s: &Settings) -> BytesNeeded {
         let handles = TaskHandles::bytes_needed(s.proxies);
         QuotaHeap::bytes_needed(s).and(handles.and(BytesNeeded::block(HELD_BYTES)))
     }
 
-    /// For C, opens a heap in which no task has an object and all quotas are 0.
+    /// For C, opens a heap in which no task has an object and all quotas are 0. Returns `None` if
+    /// out of memory.
     fn open(memory: Memory, s: &Settings, last: u32) -> Option<Box<HeldTasks, Global>> {
         let alloc = Global::new(memory);
         let handles = TaskHandles::new(alloc, s.proxies, last)?;
@@ -119,9 +122,9 @@ impl HeldTasks {
         }
     }
 
-    /// For C, frees an object of a task. Writes into `freed` the words of its slot, and the handle of the object of
-    /// this task that moved there, or `NONE`. Returns `DONE`, or `UNKNOWN` if the handle isn't live in this task; then
-    /// `freed` is unchanged.
+    /// For C, frees an object of a task, whose handle is stale then. Writes into `freed` the words
+    /// of its slot, and the handle of the object of this task that moved there, or `NONE`. Returns
+    /// `DONE`, or `UNKNOWN` if the handle isn't live in this task; then `freed` is unchanged.
     pub fn free(&mut self, task: u32, handle: u32, freed: &mut NphFreed) -> i32
         ensures { IsCallOfTask task self.old result self.new (freed.new ≡ freed.old) (IsTasksFreeCall self.old task handle freed.old result freed.new self.new) }
     {
@@ -204,7 +207,8 @@ impl HeldTasks {
         }
     }
 
-    /// For C, writes the figures of a task into `figures`. Returns `DONE`.
+    /// For C, writes the quota of a task, and how many pages and live objects it has, into `figures`.
+    /// Returns `DONE`.
     pub fn task(&mut self, task: u32, figures: &mut NphTask) -> i32
         ensures { IsCallOfTask task self.old result self.new (figures.new ≡ figures.old) (IsTaskCall self.old task result figures.new self.new) }
     {
@@ -219,8 +223,8 @@ impl HeldTasks {
         DONE
     }
 
-    /// For C, writes the figures of a class of a task, numbered from 0, into `figures`. Returns `DONE`, or `UNKNOWN` if
-    /// there is no such class; then `figures` is unchanged.
+    /// For C, writes a task's figures of a class into `figures`; classes are numbered from 0. Returns `DONE`, or
+    /// `UNKNOWN` if there is no such class; then `figures` is unchanged.
     pub fn figures(&mut self, task: u32, class: u32, figures: &mut NphClass) -> i32
         ensures { IsCallOfTask task self.old result self.new (figures.new ≡ figures.old) (IsTasksFiguresCall self.old task class figures.old result figures.new self.new) }
     {
@@ -236,7 +240,8 @@ impl HeldTasks {
         }
     }
 
-    /// For C, writes the number of the region's pages less the sum of all quotas into `pages`. Always returns `DONE`.
+    /// For C, writes into `pages` how many pages are in no quota: those of the region less the sum
+    /// of all quotas. Always returns `DONE`.
     pub fn unassigned(&mut self, pages: &mut u32) -> i32
         ensures { IsUnassignedCall self.old result pages.new self.new }
     {
@@ -244,10 +249,11 @@ impl HeldTasks {
         DONE
     }
 
-    /// For C, tests whether the quota of a task is enough for its `needs`, without objects at first (`admit` of
-    /// `quota_model`). Returns `DONE` if it is: then no malloc within the needs is refused for space. Else `ENTRIES` if
-    /// there are more than 64 needs, `SIZE` if an object is larger than a page, `PROXIES` if the needs are more objects
-    /// than the task has proxies, or `SPACE`.
+    /// For C, tests whether the quota of a task is enough for its `needs`, if it begins without
+    /// objects (`admit` of `quota_model`). Returns `DONE` if so: then no malloc within the needs is
+    /// refused for space. Else returns `ENTRIES` if there are more than 64 needs, `SIZE` if an
+    /// object is larger than a page, `PROXIES` if the needs declare more objects than the task has
+    /// proxies, or `SPACE`.
     pub fn admit(&mut self, task: u32, needs: &[Need]) -> i32
         ensures { IsCallOfTask task self.old result self.new (Unit {0}) (IsAdmitCall self.old task needs.now result self.new) }
     {
@@ -261,8 +267,10 @@ impl HeldTasks {
         of_admission(admit(&self.heap.settings(), quota, needs))
     }
 
-    /// For C, writes into `pages` the least quota that is enough for a task with these `needs`. Returns `DONE`, or
-    /// `ENTRIES`, `SIZE` or `PROXIES` as `admit` does, and then `pages` is unchanged.
+    /// `HeldTasks`: writes into `pages` the least quota for a task with these `needs`: the least
+    /// with which `admit` returns `DONE`. Returns `DONE`; else, with `pages` unchanged, `ENTRIES` if
+    /// there are more than 64 needs, `SIZE` if an object is larger than a page, or `PROXIES` if the
+    /// needs declare more objects than a task has proxies.
     pub fn least_quota(&mut self, needs: &[Need], pages: &mut u32) -> i32
         ensures { IsLeastCall self.old needs.now result pages.old pages.new self.new }
     {
@@ -282,7 +290,8 @@ impl HeldTasks {
         }
     }
 
-    /// For C, writes the steps of the last call on the tasks into `steps`; 0 if there was none. Always returns `DONE`.
+    /// `HeldTasks`: writes the steps of the last call that counts them into `steps`; 0 if there was
+    /// none. Always returns `DONE`.
     pub fn last_steps(&mut self, steps: &mut u64) -> i32
         ensures { IsStepsCall self.old result steps.new self.new }
     {
@@ -301,7 +310,7 @@ fn of_quota(cause: QuotaFault) -> i32
     }
 }
 
-/// `HeldTasks`: the code of an admission.
+/// `HeldTasks`: the code of an answer of `admit` of `quota_model`.
 fn of_admission(answer: Admission) -> i32
     ensures { result ≡ admission_code answer }
 {

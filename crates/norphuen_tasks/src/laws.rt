@@ -1,18 +1,18 @@
-//! What the contracts of `HeldTasks` imply: tasks are kept apart, an admitted task has enough pages, and a stale handle is refused. The
-//! functions do nothing; each contract is a law.
+//! What the contracts of `HeldTasks` imply: tasks are kept apart, a task for which `admit` returns 0 has enough pages, and a stale
+//! handle is refused. The functions do nothing; each contract is a law.
 ghost use Rattle.std.specs.Prelude.{◌≡◌, ◌≢◌, ℕ, ℤ, List, pos};
 ghost use Rattle.c_base.specs.Handles.{none, number_in};
-ghost use Rattle.c_base.specs.declared.answers.NphFreed.{NphFreed};
+ghost use Rattle.c_base.specs.declared.results.NphFreed.{NphFreed};
 ghost use Rattle.quota_heap.specs.State.{KeepsTasks, quota_of};
 ghost use Rattle.quota_model.specs.Admission.{IsEnough};
-ghost use Rattle.quota_model.specs.declared.answers.Need.{Need};
+ghost use Rattle.quota_model.specs.declared.results.Need.{Need};
 ghost use Rattle.norphuen_tasks.specs.Calls.{IsAdmitCall, IsQuotaCall, IsTasksFreeCall, IsTasksLengthCall, IsTasksMallocCall, IsTasksReadCall, IsTasksWriteCall, share_with};
 ghost use Rattle.norphuen_tasks.specs.Handles.{handles_by};
 ghost use Rattle.norphuen_tasks.specs.LeavesAlone.{LeavesTaskAlone};
 ghost use Rattle.norphuen_tasks.specs.TasksState.{TasksState};
 
-/// A call of a task leaves each other task's objects, with their addresses and bytes, its quota and its handles. On these and the
-/// settings alone depends what a call of that other task does (`IsTaskMallocStep` and the others of `quota_heap`).
+/// A new quota, a malloc, a free or a write of `task` leaves unchanged the settings and, of another
+/// task `u`, the objects with their addresses and bytes, the quota and the handles.
 pub fn a_call_leaves_the_other_tasks_alone()
     ensures quota { (old new : TasksState) (task pages u : ℕ) (code : ℤ) → KeepsTasks old.heap → u ≢ task
         → IsQuotaCall old task pages code new → LeavesTaskAlone u old new }
@@ -24,14 +24,17 @@ pub fn a_call_leaves_the_other_tasks_alone()
         → IsTasksWriteCall old task handle from bytes code new → LeavesTaskAlone u old new }
 {}
 
-/// If an admission of a task returns 0, its quota is enough: no malloc within the needs is refused for space, whatever the order of
-/// the task's calls.
+/// If `admit` returns 0 for a task, the task's quota is enough for the needs (`IsEnough`): if
+/// the task begins without objects, no malloc within the needs is refused for space, whatever the
+/// order of the task's calls.
 pub fn an_admitted_task_has_enough_pages()
     ensures { (old new : TasksState) (task : ℕ) (needs : List Need) → IsAdmitCall old task needs (pos 0) new
         → IsEnough (share_with old.heap (quota_of old.heap task)) needs }
 {}
 
-/// A call on a handle that names no object of the task returns 4 (`UNKNOWN`) and changes neither the heap nor what the caller has.
+/// A call with a stale handle, which is not the one that its number has in the task, returns 4
+/// (`UNKNOWN`). A free or write then leaves the heap unchanged, a free also the handles; a free,
+/// read or call for the length leaves the caller's structure, buffer or number unchanged.
 pub fn a_stale_handle_is_refused()
     ensures free { (old new : TasksState) (task handle : ℕ) (before after : NphFreed) (code : ℤ) → IsTasksFreeCall old task handle before code after new
         → number_in (handles_by old.handles task) handle ≡ none → (code ≡ pos 4) × (after ≡ before) × (new.heap ≡ old.heap) × (new.handles ≡ old.handles) }

@@ -1,8 +1,10 @@
-//! The heap of sixteen tasks as a library for C. `include/norphuen.h` describes each export for C. An export calls
-//! the function of this crate or `c_base` that its comment names, and its contract is that function's. Each export
-//! that takes a heap, but `nph_tasks_close`, returns a code: 0 (`DONE`) if the call is done, else the cause
-//! (`c_base`, file `codes`). Of these each but `nph_tasks_open` returns `CLOSED` and changes nothing while the heap
-//! is closed (`IsCallOnOpen`). A call of a task that there is not returns `UNKNOWN` and changes nothing (`IsCallOfTask`).
+//! The heap of sixteen tasks as a library for C. `include/norphuen.h` describes each export for
+//! C. An export calls the function in brackets in its comment, if any; that function's comment
+//! says when it fails. Each export that takes a heap, but `nph_tasks_close`, returns a code: 0
+//! (`DONE`) if the call is done, else the cause (`c_base`, file `codes`). Of these each but
+//! `nph_tasks_open` returns `CLOSED` and changes nothing while the heap is closed
+//! (`IsCallOnOpen`). On an open heap, a call for a task above 15 returns `UNKNOWN` and changes
+//! nothing (`IsCallOfTask`).
 #![tactic(auto)]
 
 ghost use Rattle.std.specs.Prelude.{◌≡◌};
@@ -13,14 +15,14 @@ ghost use Rattle.norphuen_tasks.specs.Calls.{IsAdmitCall, IsCallOfTask, IsLeastC
 ghost use Rattle.norphuen_tasks.specs.Needed.{IsTasksNeededCall};
 ghost use Rattle.norphuen_tasks.specs.Place.{tasks_heap_in};
 
-mod answers;
 mod handles;
 mod held;
 pub mod laws;
+mod results;
 mod tasks;
 
-use crate::answers::NphTask;
 use crate::held::HeldTasks;
+use crate::results::NphTask;
 use crate::tasks::NphHeap;
 use c_base::{CLOSED, ClosableHeap, NphClass, NphFreed, NphNeeded, VERSION};
 use quota_model::Need as NphNeed;
@@ -42,7 +44,7 @@ pub extern "C" fn nph_tasks_open(
     heap.inner().open(memory, pages, page_bytes, 1, proxies)
 }
 
-/// Writes into `needed` what `nph_tasks_open` with these settings asks of the functions that take and return memory
+/// Writes into `needed` the memory that `nph_tasks_open` with these settings asks for
 /// (`ClosableHeap::bytes_needed`).
 #[unsafe(no_mangle)]
 pub extern "C" fn nph_tasks_bytes_needed(
@@ -176,7 +178,8 @@ pub extern "C" fn nph_tasks_length(
     }
 }
 
-/// Writes the figures of a task into `figures` (`HeldTasks::task`).
+/// Writes the quota of a task, and how many pages and live objects it has, into `figures`
+/// (`HeldTasks::task`).
 #[unsafe(no_mangle)]
 pub extern "C" fn nph_tasks_task(heap: &mut NphHeap, task: u32, figures: &mut NphTask) -> i32
     ensures { IsCallOnOpen (tasks_heap_in heap.old) result (tasks_heap_in heap.new) (figures.new ≡ figures.old)
@@ -190,7 +193,8 @@ pub extern "C" fn nph_tasks_task(heap: &mut NphHeap, task: u32, figures: &mut Np
     }
 }
 
-/// Writes the figures of a size class of a task, numbered from 0, into `figures` (`HeldTasks::figures`).
+/// Writes a task's figures of a size class into `figures`; classes are numbered from 0
+/// (`HeldTasks::figures`).
 #[unsafe(no_mangle)]
 pub extern "C" fn nph_tasks_figures(
     heap: &mut NphHeap,
@@ -223,7 +227,8 @@ pub extern "C" fn nph_tasks_unassigned(heap: &mut NphHeap, pages: &mut u32) -> i
     }
 }
 
-/// Tests whether the quota of a task is enough for its `needs`, whatever the order of its calls (`HeldTasks::admit`).
+/// Tests whether the quota of a task is enough for its `needs`, whatever the order of the task's
+/// calls, if the task begins without objects (`HeldTasks::admit`).
 #[unsafe(no_mangle)]
 pub extern "C" fn nph_tasks_admit(heap: &mut NphHeap, task: u32, needs: &[NphNeed]) -> i32
     ensures { IsCallOnOpen (tasks_heap_in heap.old) result (tasks_heap_in heap.new) (Unit {0})
@@ -237,7 +242,8 @@ pub extern "C" fn nph_tasks_admit(heap: &mut NphHeap, task: u32, needs: &[NphNee
     }
 }
 
-/// Writes the least quota that is enough for a task with these `needs` into `pages` (`HeldTasks::least_quota`).
+/// Writes into `pages` the least quota that is enough for a task with these `needs`, if it begins
+/// without objects (`HeldTasks::least_quota`).
 #[unsafe(no_mangle)]
 pub extern "C" fn nph_tasks_least_quota(
     heap: &mut NphHeap,

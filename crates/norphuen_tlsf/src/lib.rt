@@ -1,9 +1,10 @@
-//! The TLSF manager as a library for C, to compare it with those with pages. `include/norphuen.h` describes each
-//! export for C. An export calls the function of `held_heap` that its comment names, and its contract is that
-//! function's. Each export that takes a heap, but `nph_tlsf_close`, returns a code: 0 (`DONE`) if the call is done,
-//! else the cause (`c_base`, file `codes`). Of these each but `nph_tlsf_open` returns `CLOSED` and changes nothing
-//! while the heap is closed, and each but `nph_tlsf_return` returns `LENT` and changes nothing while it is lent
-//! (`IsCallOnOpen`).
+//! The TLSF manager as a library for C, to compare it with those with pages. `include/norphuen.h`
+//! describes each export for C. An export calls a function of `held_heap` or of `c_base`, which its
+//! comment names in brackets (`nph_tlsf_version`: a constant); on an open heap its contract is that
+//! function's. Each export that takes a heap, but `nph_tlsf_close`, returns 0 (`DONE`), or the code
+//! of a refusal (`c_base`, file `codes`), as the function's comment says. While the heap is closed,
+//! all of these but `nph_tlsf_open` return `CLOSED` and change nothing. While it is lent, all but
+//! `nph_tlsf_return` return `LENT` and change nothing.
 #![tactic(auto)]
 
 ghost use Rattle.std.specs.Prelude.{◌≡◌};
@@ -44,9 +45,10 @@ pub extern "C" fn nph_tlsf_open(
     heap.open(memory, pages, page_bytes, k, proxies)
 }
 
-/// Writes into `needed` what `nph_tlsf_open` with these settings asks of the functions that take and return memory: how many
-/// blocks, the bytes of all, and those of the largest. The caller's own memory for `heap` isn't counted, nor what the
-/// functions need for a block. Returns 0, or the code of the first setting out of range (`NphHeap::bytes_needed`).
+/// Writes into `needed` the memory that `nph_tlsf_open` with these settings asks for: how many
+/// blocks of memory, the bytes of all, and those of the largest. The caller's struct isn't counted,
+/// nor what an allocator adds to a block. Returns 0, or the code of the first setting out of range
+/// (`NphHeap::bytes_needed`).
 #[unsafe(no_mangle)]
 pub extern "C" fn nph_tlsf_bytes_needed(
     pages: u32,
@@ -82,7 +84,8 @@ pub extern "C" fn nph_tlsf_malloc(heap: &mut NphHeap, bytes: u32, handle: &mut u
     }
 }
 
-/// Frees an object. Writes into `freed` the words of its block; no object moves (`Held::free`).
+/// Frees an object. Writes into `freed` how many words its block has; no object moves
+/// (`Held::free`).
 #[unsafe(no_mangle)]
 pub extern "C" fn nph_tlsf_free(heap: &mut NphHeap, handle: u32, freed: &mut NphFreed) -> i32
     ensures { IsCallOnOpen (heap_in heap.old) result (heap_in heap.new) (freed.new ≡ freed.old)
@@ -171,7 +174,8 @@ pub extern "C" fn nph_tlsf_has_room(heap: &mut NphHeap, bytes: u32) -> i32
     }
 }
 
-/// Writes the words of an object's block, its headers included, into `words`, as a free of it would (`Held::slot_words`).
+/// Writes how many words an object's block has, with its headers, into `words`, as a free of it
+/// would (`Held::slot_words`).
 #[unsafe(no_mangle)]
 pub extern "C" fn nph_tlsf_slot_words(heap: &mut NphHeap, handle: u32, words: &mut u32) -> i32
     ensures { IsCallOnOpen (heap_in heap.old) result (heap_in heap.new) (words.new ≡ words.old)
@@ -213,8 +217,9 @@ pub extern "C" fn nph_tlsf_totals(heap: &mut NphHeap, totals: &mut NphHeapTotals
     }
 }
 
-/// Writes the handle of the next live object after that of `handle` into `next`, the first one for `NONE`; after the last one
-/// `NONE` (`Held::next`). It takes a step for each number that it looks at.
+/// Writes the handle of the live object after that of `handle`, by rising number, into `next`, or
+/// of the first one if `handle` is `NONE`; after the last one writes `NONE` (`Held::next`). Takes
+/// one step for each object number that it looks at, that of `handle` included.
 #[unsafe(no_mangle)]
 pub extern "C" fn nph_tlsf_next(heap: &mut NphHeap, handle: u32, next: &mut u32) -> i32
     ensures { IsCallOnOpen (heap_in heap.old) result (heap_in heap.new) (next.new ≡ next.old)
@@ -228,7 +233,8 @@ pub extern "C" fn nph_tlsf_next(heap: &mut NphHeap, handle: u32, next: &mut u32)
     }
 }
 
-/// Writes what the heap counted since it was opened into `counts` (`Held::counts`). It counts no steps.
+/// Writes what the heap counted since it was opened into `counts` (`Held::counts`). Counts no
+/// steps.
 #[unsafe(no_mangle)]
 pub extern "C" fn nph_tlsf_counts(heap: &mut NphHeap, counts: &mut NphCounted) -> i32
     ensures { IsCallOnOpen (heap_in heap.old) result (heap_in heap.new) (counts.new ≡ counts.old)
@@ -242,7 +248,8 @@ pub extern "C" fn nph_tlsf_counts(heap: &mut NphHeap, counts: &mut NphCounted) -
     }
 }
 
-/// Writes the steps of the last call that counts them into `steps` (`Held::last_steps`).
+/// Writes the steps of the last call that counts them, 0 if there was none, into `steps`
+/// (`Held::last_steps`).
 #[unsafe(no_mangle)]
 pub extern "C" fn nph_tlsf_last_steps(heap: &mut NphHeap, steps: &mut u64) -> i32
     ensures { IsCallOnOpen (heap_in heap.old) result (heap_in heap.new) (steps.new ≡ steps.old)
@@ -256,8 +263,9 @@ pub extern "C" fn nph_tlsf_last_steps(heap: &mut NphHeap, steps: &mut u64) -> i3
     }
 }
 
-/// Writes the address of an object into `place`, in words from the start of the region (`Held::place`). Its block
-/// begins there, with the block's header and the object's, and its bytes begin two words on.
+/// Writes the address of an object into `place`, in words from the start of the region
+/// (`Held::place`). Its block begins there, with the block's header and the object's; the object's
+/// bytes begin two words on.
 #[unsafe(no_mangle)]
 pub extern "C" fn nph_tlsf_place(heap: &mut NphHeap, handle: u32, place: &mut u32) -> i32
     ensures { IsCallOnOpen (heap_in heap.old) result (heap_in heap.new) (place.new ≡ place.old)
@@ -280,7 +288,8 @@ pub extern "C" fn nph_tlsf_lend(heap: &mut NphHeap, words: &mut *mut u64) -> i32
     heap.inner().lend(words)
 }
 
-/// Ends the loan (`LendableHeap::end_loan`).
+/// Ends the loan: the heap is open again, with the words as the caller left them
+/// (`LendableHeap::end_loan`).
 #[unsafe(no_mangle)]
 pub extern "C" fn nph_tlsf_return(heap: &mut NphHeap) -> i32
     ensures { IsReturnCall (heap_in heap.old) result (heap_in heap.new) }
@@ -296,8 +305,9 @@ pub extern "C" fn nph_tlsf_version() -> u32
     VERSION
 }
 
-/// Returns the kind of this library's heaps (`most::kind`). It and the calls below take no heap. Each of those returns the
-/// most steps of a call, which are those of the bound in its contract (`bounds`).
+/// Returns the number for the kind of this library's heaps (`most::kind`). This call and those
+/// below take no heap. Each call below returns the most steps of one call: the bound in the
+/// contract of that call.
 #[unsafe(no_mangle)]
 pub extern "C" fn nph_tlsf_kind() -> u32
     ensures { result ≡ kind_code Tlsf }
@@ -321,7 +331,8 @@ pub extern "C" fn nph_tlsf_most_free(slot_words: u32) -> u64
     most::most_free(Kind::Tlsf, slot_words)
 }
 
-/// Returns the most steps of a resize to `bytes` bytes between slots of these words (`most_resize`).
+/// Returns the most steps of a resize, which is always refused; the arguments have no effect
+/// (`most_resize`).
 #[unsafe(no_mangle)]
 pub extern "C" fn nph_tlsf_most_resize(bytes: u32, old_slot_words: u32, slot_words: u32) -> u64
     ensures { IsMostResize bounds bytes old_slot_words slot_words result }
@@ -329,7 +340,8 @@ pub extern "C" fn nph_tlsf_most_resize(bytes: u32, old_slot_words: u32, slot_wor
     most::most_resize(Kind::Tlsf, bytes, old_slot_words, slot_words)
 }
 
-/// Returns the steps of a read or a write of `count` bytes from byte `at` on (`most_access`).
+/// Returns the most steps of a read or a write of `count` bytes from byte `at` on; one that
+/// succeeds takes exactly these (`most_access`).
 #[unsafe(no_mangle)]
 pub extern "C" fn nph_tlsf_most_access(at: u32, count: u32) -> u64
     ensures { IsMostAccess bounds at count result }
@@ -345,7 +357,7 @@ pub extern "C" fn nph_tlsf_most_has_room() -> u64
     most::most_has_room(Kind::Tlsf)
 }
 
-/// Returns the most steps of `nph_tlsf_totals` on a heap with this many free pages or blocks (`most_totals`).
+/// Returns the most steps of `nph_tlsf_totals` on a heap with this many free blocks (`most_totals`).
 #[unsafe(no_mangle)]
 pub extern "C" fn nph_tlsf_most_totals(free_count: u32) -> u64
     ensures { IsMostTotals bounds free_count result }

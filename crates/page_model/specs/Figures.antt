@@ -1,8 +1,8 @@
 -- The figures that reports show of a class and of the whole heap, computed from the objects.
 use Rattle.std.specs.Prelude.{ℕ, ◌*◌, length, sum_by, if◌then◌else◌, nat_eq}
 use Rattle.std.specs.FinMap.{len, values}
-use Rattle.cf_base.specs.declared.answers.Figures.{Figures}
-use Rattle.cf_base.specs.declared.answers.Totals.{Totals}
+use Rattle.cf_base.specs.declared.results.Figures.{Figures}
+use Rattle.cf_base.specs.declared.results.Totals.{Totals}
 use Rattle.page_model.specs.Held.{Held, Objects, objects}
 use Rattle.page_model.specs.Paging.{Paging, slot_words, slots_of, class_for}
 use Rattle.page_model.specs.Arrangement.{live, pages_of_class, not_full_pages, used_pages, free_pages}

@@ -1,6 +1,7 @@
 //! Laws of the non-moving manager's block table: it stays a permutation, a free or a resize keeps
-//! other objects' physical blocks, and no two objects share one. `p` holds the pages, `m` or `old`
-//! the objects, `after` what a call leaves.
+//! other objects' physical blocks, no two objects share a block, and where in the region an
+//! object's words are. In the clauses `p` holds the pages, `m` or `old` the objects, `after` what a
+//! call leaves.
 ghost use Rattle.std.specs.Prelude.{ℕ, ◌≡◌, ◌≢◌, ◌+◌, ◌*◌, ◌/◌, ◌%◌, ◌<◌, List, Some, length, slice_index};
 ghost use Rattle.std.specs.FinMap.{get};
 ghost use Rattle.page_model.specs.Frames.{IsPermuted, IsPhysical, AreFramed, block_of, first_frames, frames_after};
@@ -10,8 +11,9 @@ ghost use Rattle.page_model.specs.Paging.{Paging};
 ghost use Rattle.page_model.specs.Steps.{RemovesObject, RefitsObject, CallResult, Request, ResizesInPlace};
 
 /// The block table (`frames`) of an empty heap with `n` blocks contains the number of each block
-/// once. It still does after a free of object `h`, and after a resize (`asked`), which turn the
-/// objects `old` on the pages `p` into `after`.
+/// once. If a table does, and the objects `old` are a sound arrangement (`AreFramed`), both are
+/// still so after a free of object `h`, and after a resize (`asked`), which turn `old` into
+/// `after`.
 pub fn frames_stay_permuted()
     ensures first { (n : ℕ) → IsPermuted (first_frames n) × (length (first_frames n) ≡ n) }
     ensures free { (p : Paging) (old : Held) (frames : List ℕ) (h : ℕ) (after : CallResult)
@@ -56,9 +58,10 @@ pub fn live_objects_share_no_block()
         → block_of frames x.place i ≢ block_of frames y.place j }
 {}
 
-/// By the block table, `words` are the words as objects see them, `physical` those of the region. The table (`frames`)
-/// names a physical block for block i / 4 of the slot of object `x`. Word `i` of the slot is word i modulo 4 of that
-/// block. So a call that keeps an object's blocks and bytes keeps its words in the region.
+/// Where the words of an object are in the region. Block i / 4 of the slot of object `x` has a
+/// physical block in the block table (`frames`). Word `i` of the slot is word i modulo 4 of that
+/// physical block. So a call that keeps an object's blocks and bytes keeps its words in the region.
+/// `words` are the words as objects see them, `physical` those of the region.
 pub fn slots_are_in_their_blocks()
     ensures { (p : Paging) (m : Held) (frames words physical : List ℕ) → AreFramed p m frames
         → IsSlotImage p m words → IsPhysical frames words physical

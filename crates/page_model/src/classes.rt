@@ -12,7 +12,7 @@ ghost use Rattle.page_model.specs.Arrangement.{IsSlotAt};
 
 /// The slot sizes of a page, in words or in whole blocks (`layout`), rise from at least 4 words to
 /// the page, and each class has a bound of at least 1 (`IsPaging`). `first`: each class has the
-/// bound k of the settings `s`. `bounded`: the classes have other bounds of at least 1.
+/// bound k of the settings `s`. `bounded`: the classes have any `bounds` of at least 1.
 pub fn slot_sizes_rise()
     ensures first { (s : Profile) (layout : Layout) → IsTrue (is_page_size s.page_words) → 1 ≤ s.k
         → IsPaging (paging_of s layout (first_bounds s layout)) }

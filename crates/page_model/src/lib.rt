@@ -1,7 +1,8 @@
 //! Arrangements of objects on pages, as in Compact-fit (2008). An arrangement maps the number of
-//! each object to its address and its bytes. The model defines when one is sound, and how a malloc,
-//! a free and a resize change it, its words and its blocks. The public functions do nothing; each
-//! contract is a law of these definitions.
+//! each object to its address and its bytes. The model defines when one is sound, how a malloc, a
+//! free and a resize change it, its words and its block table, the order that they may follow,
+//! their steps, and figures. The public functions do nothing; each contract is a law of these
+//! definitions.
 #![tactic(auto)]
 
 mod blocks;
@@ -40,7 +41,7 @@ pub use soundness::{
     page_counts_of_a_sound_arrangement,
 };
 pub use words::{
-    a_part_is_written, a_word_is_its_bytes, bytes_are_read_back, headers_show, held_at_has_places,
-    objects_determine_words, objects_stay_storable, words_after_a_free, words_after_a_malloc,
-    words_after_a_resize, words_after_a_write, words_show_what_is_held,
+    a_part_is_written, a_word_is_its_bytes, bytes_are_read_back, headers_show_number_and_length,
+    held_at_has_places, objects_determine_words, objects_stay_storable, words_after_a_free,
+    words_after_a_malloc, words_after_a_resize, words_after_a_write, words_show_what_is_held,
 };

@@ -1,6 +1,6 @@
-//! Laws of the order in which a manager uses pages, slots and numbers (`Order`). The order leaves a
-//! call no choice, and each call that may succeed can follow it. In the clauses the numbers of
-//! objects are below `limit`.
+//! Laws of the order in which a manager uses pages, slots and the numbers of objects (`Order`). The
+//! order leaves a call no choice, and each call that may succeed can follow the order. In the
+//! clauses the numbers of objects are below `limit`.
 ghost use Rattle.std.specs.Prelude.{ℕ, ◌≡◌, ◌≢◌, ◌<◌, Option, Some, None};
 ghost use Rattle.std.specs.FinMap.{get, insert, len};
 ghost use Rattle.page_model.specs.Arrangement.{IsSound, LacksRoom, class_at};
@@ -12,7 +12,7 @@ ghost use Rattle.page_model.specs.Steps.{IsFreePlace, CallResult, Moves, RefitsO
 /// Two mallocs of the same length that follow the same order `old` use the same number and address,
 /// and leave the same order. Two frees of the same object `h` that follow the same order leave the
 /// same objects and the same order. So do two resizes of the same object to the same length. `m`
-/// are the objects before the calls, `p` the pages.
+/// are the objects before the calls, for a free or a resize a sound arrangement; `p` are the pages.
 pub fn an_order_leaves_no_choice()
     ensures malloc { (p : Paging) (m : Held) (asked other : Request) (place elsewhere : ℕ) (old new next : Order)
         → MallocFollows p m asked place old new → MallocFollows p m other elsewhere old next → asked.length ≡ other.length
@@ -29,7 +29,7 @@ pub fn an_order_leaves_no_choice()
 
 /// If a number below `limit` is unused and the class of `n` bytes has a slot left, a malloc can
 /// follow the order `o`. It takes a slot on the first partly full page, or on the first free one,
-/// and leaves an order of the new arrangement. `m` are the objects before, on the pages `p`.
+/// and leaves an order of the new arrangement. `m` is the arrangement before, sound on the pages `p`.
 pub fn a_malloc_can_follow_an_order()
     ensures { (p : Paging) (m : Held) (limit n : ℕ) (o : Order) → IsPaging p → IsSound p m → IsOrderOf p m limit o
         → class_for p n < classes p → len m < limit → (¬ LacksRoom p m (class_for p n))
@@ -39,8 +39,8 @@ pub fn a_malloc_can_follow_an_order()
 {}
 
 /// A free of each live object `h`, which is `x`, can follow the order `o`, whether it moves an
-/// object or not. It leaves an order of the arrangement without the object. `m` are the objects
-/// before, on the pages `p`.
+/// object or not. It leaves an order of the arrangement without the object. `m` is the arrangement
+/// before, sound on the pages `p`.
 pub fn a_free_can_follow_an_order()
     ensures { (p : Paging) (m : Held) (limit h : ℕ) (x : Placed) (o : Order) → IsPaging p → IsSound p m → IsOrderOf p m limit o
         → get m h ≡ Some x → h < limit
@@ -48,9 +48,9 @@ pub fn a_free_can_follow_an_order()
         × IsOrderOf p (without m h x.place moved) limit new }
 {}
 
-/// Let the new length have a class; if this isn't the object's class, let it have a slot left. Then
-/// a resize of the live object `x` can follow the order `o`, and leaves an order of the new
-/// arrangement. `m` are the objects before, on the pages `p`.
+/// A resize of the live object `x` can follow the order `o`, and leaves an order of the new
+/// arrangement, if the new length has a class which is the object's class or has a slot left. `m` is
+/// the arrangement before, sound on the pages `p`.
 pub fn a_resize_can_follow_an_order()
     ensures { (p : Paging) (m : Held) (limit : ℕ) (asked : Request) (x : Placed) (o : Order) → IsPaging p → IsSound p m → IsOrderOf p m limit o
         → get m asked.number ≡ Some x → class_for p asked.length < classes p

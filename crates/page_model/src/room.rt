@@ -8,14 +8,14 @@ ghost use Rattle.page_model.specs.Arrangement.{used_pages};
 ghost use Rattle.page_model.specs.Held.{Held, Objects, objects};
 ghost use Rattle.page_model.specs.Paging.{EveryBoundIsOne, IsPaging, Paging, class_for, classes, slots_of};
 
-/// Let `m` be a sound arrangement on the pages `p`. Class `c` has no slot left (`LacksRoom`) if and
-/// only if none of its pages is partly full and no page is free.
+/// In a sound arrangement `m` on the pages `p`, class `c` has no slot left (`LacksRoom`) if and only
+/// if none of its pages is partly full and no page is free.
 pub fn lack_of_room_is_no_page_left()
     ensures { (p : Paging) (m : Held) (c : ℕ) → IsSound p m
         → LacksRoom p m c ↔ ((not_full_pages p m c ≡ 0) × (free_pages p m ≡ 0)) }
 {}
 
-/// If class `c` has no slot left in the arrangement `m` on the pages `p`, its objects fill all
+/// If class `c` has no slot left in the sound arrangement `m` on the pages `p`, its objects fill all
 /// slots of their pages. All other pages hold objects of other classes, so they are at most the
 /// pages that those objects can be on (`most_pages_besides`).
 pub fn pages_where_room_is_lacking()
@@ -33,18 +33,18 @@ pub fn objects_need_no_more_pages()
         → pages_needed p (objects m) ≤ used_pages p m }
 {}
 
-/// Let each class have at most one partly full page (`EveryBoundIsOne`). Then a sound arrangement `m` on the
-/// pages `p` uses exactly the pages that its objects need (`pages_needed`).
+/// If every bound is 1, a sound arrangement `m` on the pages `p` uses exactly the pages that its objects
+/// need (`pages_needed`).
 pub fn pages_are_those_needed_at_bound_one()
     ensures { (p : Paging) (m : Held) → IsPaging p → EveryBoundIsOne p → IsSound p m
         → used_pages p m ≡ pages_needed p (objects m) }
 {}
 
-/// Let every bound be 1. In the arrangement `m` on the pages `p` an object of `n` bytes is to be
-/// added. No slot is left for it if and only if the objects with it need more pages than there are
-/// (clause `room`). This covers a malloc, and a resize to another class, in which the old object
-/// counts too. Clause `added`: `pages_needed_with` are the pages that the objects need once it is
-/// added, as `h` with the bytes `v`.
+/// If every bound is 1, a sound arrangement `m` on the pages `p` has no slot left for an object of `n`
+/// bytes, which fits a page, if and only if its objects with the new one need more pages than there
+/// are (clause `room`). This covers a malloc, and a resize to another
+/// class, in which the old object counts too. Clause `added`: `pages_needed_with` is how many pages
+/// the objects `o` need once an object with the bytes `v` is added under a new number `h`.
 pub fn lack_of_room_is_arithmetic_at_bound_one()
     ensures room { (p : Paging) (m : Held) (n : ℕ) → IsPaging p → EveryBoundIsOne p → IsSound p m
         → class_for p n < classes p

@@ -18,11 +18,11 @@ pub fn nothing_is_a_sound_arrangement()
     ensures not_full { (p : Paging) (c : ℕ) → not_full_pages p empty c ≡ 0 }
 {}
 
-/// In a sound arrangement `m` on the pages `p`, the number of pages of class `c` is possible by
-/// arithmetic (`can_hold`): none is empty, and at most the bound of the class are partly full
-/// (`not_full`). So it is at most the live objects of the class over the slots of a page, rounded
-/// down, plus the bound (`few`). No page holds more objects of the class than it has slots
-/// (`slots`).
+/// Let `m` be a sound arrangement on the pages `p`. By arithmetic, the live objects of class `c`
+/// can be on the number of pages that the class uses, with none empty and at most the bound partly
+/// full (`can_hold`), and with just as many partly full as in `m` (`not_full`). So the class uses
+/// at most its live objects over the slots of a page, rounded down, plus the bound (`few`). No page
+/// holds more objects of the class than it has slots (`slots`).
 pub fn page_counts_of_a_sound_arrangement()
     ensures can_hold { (p : Paging) (m : Held) (c : ℕ) → IsPaging p → IsSound p m → c < classes p
         → CanHold (pages_of_class p m c) (live p (objects m) c) (slots_of p c) (bound_of p c) }
@@ -56,11 +56,11 @@ pub fn a_resize_keeps_soundness()
         → RefitsObject p old asked after → IsSound p after.held }
 {}
 
-/// The definition of a resize to another class (`ChangesClass`) first makes a copy under an unused
-/// number, `spare`. The result is simpler: the objects after a free of object `h`, and the object
-/// resized to `n` bytes, under the number `h`, at a free address `a`. `given`: each such
-/// arrangement is the result of a resize, whatever unused number `spare` is. `taken`: each resize
-/// has such a result.
+/// A resize of object `h` to another class leaves the objects that a free of `h` leaves, and the
+/// object resized to `n` bytes, again under the number `h`, at a free address `a`. The definition
+/// of such a resize (`ChangesClass`) first adds a copy under an unused number, `spare`. `given`:
+/// each arrangement as in the first sentence is the result of a resize, whatever unused number
+/// `spare` is. `taken`: each resize has such a result.
 pub fn a_resize_in_two_steps()
     ensures given { (p : Paging) (m : Held) (h n a spare : ℕ) (x : Placed) (moved : Option ℕ)
         → IsPaging p → IsSound p m → get m h ≡ Some x → class_for p n ≢ class_at p x
@@ -75,10 +75,10 @@ pub fn a_resize_in_two_steps()
         (resized_at r.place r.object asked.length)) }
 {}
 
-/// What a malloc and a free do to the bytes by number (`objects`) and to the addresses by number
-/// (`places`) of the arrangement `m`. A malloc adds the number `h` with `n` zeros and the address
-/// `a`. A free removes the bytes of `h` and no others. It also removes the address of `h`
-/// (`still`); if it moves object `q`, that object gets the freed address (`moved`).
+/// What a malloc and a free do to `objects`, the bytes by number, and to `places`, the addresses by
+/// number, of the arrangement `m`. A malloc adds the number `h` with `n` zeros and the address `a`.
+/// A free removes the bytes of `h` and no others. It also removes the address of `h` (`still`); if
+/// it moves object `q`, that object gets the freed address (`moved`).
 pub fn objects_after_a_step()
     ensures malloc { (m : Held) (h a n : ℕ)
         → (objects (insert m h (zeros_at a n)) ≡ insert (objects m) h (replicate n 0))
@@ -92,17 +92,18 @@ pub fn objects_after_a_step()
         → places (without m h x.place (Some q)) ≡ insert (remove (places m) h) q x.place }
 {}
 
-/// Object `x` is added to the arrangement `m` under a new number `h`. If `x` is of class `c` and on
-/// `page`, the count of the objects of this class on this page rises by one. Otherwise it stays.
+/// Adding object `x` to the arrangement `m` under a new number `h` raises the count of the objects of
+/// class `c` on `page` by one if `x` is of this class and on this page. Otherwise the count stays.
 pub fn counts_after_a_malloc()
     ensures { (p : Paging) (m : Held) (h c page : ℕ) (x : Placed) → get m h ≡ None
         → objects_on p (insert m h x) c page
         ≡ objects_on p m c page + cond (is_on p c page x) 1 0 }
 {}
 
-/// In an arrangement, object `x` with the number `h` is freed. If no object moves and `x` was of class `c` and on
-/// `page`, the count of such objects falls by one (`still`). If object `y` moves to the address of `x`, the count falls
-/// by one if `y` was of class `c` and on `page` (`moved`). Otherwise the count stays.
+/// How a free of object `x`, with the number `h`, changes the count of the objects of class `c` on
+/// `page`. If no object moves, the count falls by one if `x` was counted (`still`). If object `y`
+/// moves to the address of `x`, the count falls by one if `y` was counted (`moved`). Otherwise the
+/// count stays.
 pub fn counts_after_a_free()
     ensures still { (p : Paging) (m : Held) (h a c page : ℕ) (x : Placed) → get m h ≡ Some x
         → objects_on p (without m h a None) c page + cond (is_on p c page x) 1 0
@@ -114,9 +115,11 @@ pub fn counts_after_a_free()
         ≡ objects_on p m c page }
 {}
 
-/// Let the arrangements `old` and `new` have the same objects of class `c` on each page but `page`.
-/// Then the numbers of pages with an object of the class, and of its partly full pages, differ only
-/// as that page does.
+/// Let the arrangements `old` and `new` have equally many objects of class `c` on each page but
+/// `page`. Then the number of pages with an object of the class changes by one if `page` gains its
+/// first such object or loses its last, and else stays (`pages`). The number of partly full pages
+/// of the class changes by one if `page` becomes partly full or stops being so, and else stays
+/// (`not_full`).
 pub fn page_counts_follow_one_page()
     ensures pages { (p : Paging) (old new : Held) (c page : ℕ) → page < p.pages
         → ((g : ℕ) → g ≢ page → objects_on p new c g ≡ objects_on p old c g)

@@ -10,10 +10,10 @@ ghost use Rattle.page_model.specs.Image.{Clears, IsImage, IsSlotImage, MovesWord
 ghost use Rattle.page_model.specs.Paging.{IsPaging, Paging, class_for};
 ghost use Rattle.page_model.specs.Steps.{IsFreePlace, MayFill, MustMove, resized, without, zeros_at};
 
-/// The objects determine the words: two images `u` and `v` of the same objects `m`, if they are of
-/// one length, are equal (`one`). The words of an empty region of `n` words are zeros (`empty`).
-/// Words that are an image of the objects' whole slots (`IsSlotImage`) are also an image of the
-/// objects alone (`IsImage`; clause `own`).
+/// The objects determine the words: two images `u` and `v` of the same objects `m` are equal if
+/// they have the same length (`one`). `n` zeros are an image of a region without objects (`empty`).
+/// In a sound arrangement, words that are an image of the objects' whole slots (`IsSlotImage`) are
+/// also an image of the objects alone (`IsImage`; clause `own`).
 pub fn objects_determine_words()
     ensures one { (m : Held) (u v : List ℕ) → length u ≡ length v → IsImage m u → IsImage m v
         → u ≡ v }
@@ -22,10 +22,9 @@ pub fn objects_determine_words()
         → IsSlotImage p m words → IsImage m words }
 {}
 
-/// Let `h` be a number that no object of `m` has, and `a` an address at which an object of `n`
-/// bytes may be placed. The words of that slot are zeros (`zeros`). A malloc writes the object's
-/// header at `a`, and no other word; then the words are those of the objects with the new one
-/// (`header`).
+/// A malloc of `n` bytes writes its object's header at the address `a`, and no other word; then the
+/// words are those of the objects with the new one (`header`). The words of that slot are zeros before
+/// (`zeros`). No object of `m` has the number `h`, and an object of `n` bytes may be placed at `a`.
 pub fn words_after_a_malloc()
     ensures zeros { (p : Paging) (m : Held) (words : List ℕ) (h n a : ℕ) → IsPaging p → IsSound p m
         → IsSlotImage p m words → get m h ≡ None → IsFreePlace p m n a
@@ -38,8 +37,8 @@ pub fn words_after_a_malloc()
 
 /// The bytes `bytes` are written into object `h`, which is `x`, from its byte `at` on. Only the
 /// words that hold one of them change from `old` to `new` (clause `bytes`). A resize within the
-/// class rewrites the words of the object's slot (`slot`). Then the words are again those of the
-/// objects.
+/// class rewrites the words of the object's slot (`slot`). In both cases the new words are those of
+/// the objects with the new contents.
 pub fn words_after_a_write()
     ensures bytes { (p : Paging) (m : Held) (old new : List ℕ) (h at : ℕ) (x : Placed)
         (bytes : List ℕ)
@@ -77,11 +76,12 @@ pub fn words_after_a_free()
         → IsSlotImage p (insert (remove m h) q (record { place = x.place; bytes = y.bytes })) new }
 {}
 
-/// A resize of object `h`, which is `x`, to another class writes the new slot, at `a`, while the
-/// old one is still there: `mid` are the words in between. Then it clears the old slot (`still`),
-/// or moves the words of the slot of object `q`, which is `y`, into it (`moved`). Then the words,
-/// `new`, are those of the objects after the resize. `spare` is any number that no object has: in
-/// between, the copy is an object of this number.
+/// A resize of an object to another class writes the object's new slot while its old slot is still
+/// there. Then it clears the old slot (clause `still`), or moves another object's words into it
+/// (`moved`). The words in between, `mid`, differ from the words before, `old`, in the new slot
+/// alone. The law shows that the words after, `new`, are those of the objects after the resize. The
+/// resized object is `h`: it was `x`, and has the address `a` and the bytes `bytes` after. The
+/// other object is `q`, which was `y`. Some number, `spare`, must be unused.
 pub fn words_after_a_resize()
     ensures still { (p : Paging) (m : Held) (old mid new : List ℕ) (h a spare : ℕ) (x : Placed)
         (bytes : List ℕ)
@@ -110,17 +110,17 @@ pub fn words_after_a_resize()
         new }
 {}
 
-/// The word at the address of object `h` is its header. It holds the number `h` in the lower half
-/// and the object's length in bytes in the upper half.
-pub fn headers_show()
+/// The word at the address of object `h` is its header. It holds the number `h`, which is below
+/// 2^32, in the lower half and the object's length in bytes in the upper half.
+pub fn headers_show_number_and_length()
     ensures { (m : Held) (words : List ℕ) (h : ℕ) (x : Placed) → IsImage m words → get m h ≡ Some x
         → h < 2 ^ 32
         → (slice_index words x.place % 2 ^ 32 ≡ h) × (slice_index words x.place / 2 ^ 32
         ≡ length x.bytes) }
 {}
 
-/// The words of a region and the addresses of its objects by number (`at`) determine the objects
-/// `m`: `held_at` computes them.
+/// If words can represent the objects `m` (`AreStorable`), the words of a region and the addresses
+/// by number (`at`) determine `m`: `held_at` computes the objects from both.
 pub fn words_show_what_is_held()
     ensures { (m : Held) (at : FinMap nat_cmp ℕ) (words : List ℕ) → IsImage m words → at ≡ places m
         → AreStorable m → held_at words at ≡ m }
@@ -138,9 +138,9 @@ pub fn held_at_has_places()
         → get (held_at words at) h ≡ Some x → AreBytes x.bytes }
 {}
 
-/// Adding object `h` to the objects `m` (`comes`) or removing it (`goes`, also if another one
-/// moves) leaves objects that words can represent (`AreStorable`). The contents of a new, a resized
-/// and a written object are bytes.
+/// If words can represent the objects `m` (`AreStorable`), they still can after object `h`, of bytes
+/// and below 2^32, is added (`comes`) or removed (`goes`, also if another one moves). The contents of a new, a
+/// resized and a written object are bytes.
 pub fn objects_stay_storable()
     ensures comes { (m : Held) (h : ℕ) (x : Placed) → AreStorable m → h < 2 ^ 32 → AreBytes x.bytes
         → AreStorable (insert m h x) }
@@ -152,8 +152,8 @@ pub fn objects_stay_storable()
         → AreBytes v → AreBytes bytes → AreBytes (written v at bytes) }
 {}
 
-/// Byte `k` of object `h`, which is `x`, is byte k modulo 8 of the word k / 8 after the object's
-/// header.
+/// Byte `k` of object `h`, which is `x`, is byte k modulo 8 of word k / 8, where word 0 is the one
+/// after the object's header.
 pub fn bytes_are_read_back()
     ensures { (m : Held) (words : List ℕ) (h k : ℕ) (x : Placed) → IsImage m words
         → get m h ≡ Some x
@@ -162,7 +162,8 @@ pub fn bytes_are_read_back()
 {}
 
 /// Two words `u` and `v` of 64 bits with the same eight bytes are equal (`same`). Each word `i` of
-/// an object `h` with the bytes `v` fits 64 bits (`fits`).
+/// an object with the number `h` and the bytes `v` fits 64 bits, if `h` and the length fit 32
+/// (`fits`).
 pub fn a_word_is_its_bytes()
     ensures same { (u v : ℕ) → u < 2 ^ 64 → v < 2 ^ 64 → ((j : ℕ) → j < 8
         → byte_of j u ≡ byte_of j v) → u ≡ v }
@@ -170,8 +171,8 @@ pub fn a_word_is_its_bytes()
         → object_word h v i < 2 ^ 64 }
 {}
 
-/// Writing `bytes` over the bytes `v` from position `at` on (`written`) changes those positions
-/// alone, and the length stays.
+/// Writing `bytes` over the bytes `v` from position `at` on (`written`) puts them there and changes no
+/// other position nor the length, if they end within `v`.
 pub fn a_part_is_written()
     ensures len { (v : List ℕ) (at : ℕ) (bytes : List ℕ) → at + length bytes ≤ length v
         → length (written v at bytes) ≡ length v }

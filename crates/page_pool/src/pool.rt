@@ -15,7 +15,7 @@ use step_ledger::{Cells, Steps};
 pub struct PagePool {
     /// The free pages are those from index `first` on; the next one to be taken is at `first`.
     stack: Cells<u32>,
-    /// The index of the next page; the number of pages if none is free.
+    /// The index of the page that is taken next; the length of `stack` if no page is free.
     first: usize,
 }
 
@@ -55,7 +55,7 @@ impl PagePool {
         BytesNeeded::block(4 * u64::from(n))
     }
 
-    /// How many pages the pool has free.
+    /// How many free pages the pool has.
     pub fn left(&self) -> u32
         ensures len { result ≡ length self.now.free }
         ensures kept { IsPool self.now }
@@ -79,8 +79,8 @@ impl PagePool {
         Some(page)
     }
 
-    /// Adds `page`, which must not be in the pool, to the free pages: the next `take` returns it.
-    /// Costs one step.
+    /// Adds `page`, which must be a page of the region and not free, to the free pages: the next
+    /// `take` returns it. Costs one step.
     pub fn give(&mut self, page: u32, steps: &mut Steps)
         requires within { page < self.old.pages }
         requires taken { is_in_pool self.old.free page ≡ false }

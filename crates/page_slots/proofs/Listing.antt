@@ -1,4 +1,4 @@
--- For `leave_if_filled`, `move_if_full` and the tables after a call: which pages each list of a class has after one page joined or left it. A page that left
+-- For `list_as_full_if_filled`, `list_as_partly_full` and the tables after a call: which pages each list of a class has after one page joined or left it. A page that left
 -- its list is in none.
 use Rattle.std.proofs.Common.{◌≡◌, ◌≢◌, ℕ, List, ◌∷◌, refl, sym, ◌∙◌, ap, subst, inl, inr}
 use Rattle.std.specs.Prelude.{◌⊎◌}

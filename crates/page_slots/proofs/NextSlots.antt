@@ -1,4 +1,4 @@
--- For the laws of `following.rt`: the slots that the tables take and free, and the object that moves, are the next ones of their order. The order afterwards
+-- For the laws of `order_laws.rt`: the slots that the tables take and free, and the object that moves, are the next ones of their order. The order afterwards
 -- and the steps are the model's.
 use Rattle.std.proofs.Common.{◌≡◌, ◌≢◌, ℕ, Bool, true, false, ◌+◌, ◌*◌, ◌<◌, List, [], ◌∷◌, length, drop, get_or, set, replicate, Some, arith, refl, sym, ◌∙◌, ap, subst, inl, inr}
 use Rattle.std.specs.Prelude.{◌↔◌, None, not, nat_eq, slice_get, if◌then◌else◌}

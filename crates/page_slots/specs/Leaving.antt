@@ -1,8 +1,9 @@
--- What `leave_slot` does with a slot whose object is freed or has moved away, and its steps. `old` are an owner's parts before, `new` those after.
+-- What `leave_slot` does with a slot whose object is freed or has moved away, and its steps. An owner is a heap or a task; `old` are its parts before, `new`
+-- those after.
 use Rattle.std.specs.Prelude.{◌≡◌, ℕ, ◌+◌, ◌-◌, ◌/◌, ◌%◌, ◌^◌, ◌<◌, ◌≤◌, Bool, IsSome, IsTrue, List, Option, None, Some, length, slice_index}
 use Rattle.std.specs.FinMap.{get}
 use Rattle.block_table.specs.Table.{Table}
-use Rattle.cf_base.specs.declared.answers.Handle.{Handle}
+use Rattle.cf_base.specs.declared.results.Handle.{Handle}
 use Rattle.cf_base.specs.declared.kind.Kind.{Kind}
 use Rattle.cf_base.specs.Exchanges.{exchanged}
 use Rattle.class_lists.specs.PageLists.{PageLists, pages_in}
@@ -55,8 +56,8 @@ pub record MayMove (kind : Kind) (w : Parts) (s : LeftSlot) (from : ℕ) : Type 
   pub first : s.first ≤ slice_index w.words from % 2 ^ 32
   pub live : IsSome (get w.proxies.places (number_at w s from))
 
--- The slot is used and has the words of its class, and its object is freed or has moved away. If another object must move there (`moves`), the one that the
--- tables choose can.
+-- The tables and proxies keep their rules. The slot is used, has the words of its class, lies in the region, and with a block table is whole blocks. If
+-- another object must move there (`moves`), the one that the tables choose can.
 pub record MayLeave (kind : Kind) (w : Parts) (s : LeftSlot) (moves : Bool) : Type 0 where
   pub tables : AreTables w.classes w.tables
   pub used : IsUsed w.tables s.class (page_at w.classes s.place) (slot_at w.classes s.class s.place)

@@ -1,5 +1,5 @@
 //! Leaves the slot of an object that is freed or has moved away: clears it, or moves another object
-//! of the same owner there.
+//! of the same owner there. An owner is a heap, or a task of the heap of tasks.
 ghost use Rattle.std.specs.Prelude.{◌≡◌, ◌+◌, is_some};
 ghost use Rattle.step_ledger.specs.Counting.{RoseAtMost, RoseBy};
 ghost use Rattle.page_model.specs.Order.{word_steps};
@@ -18,8 +18,9 @@ use region::{Header, Region};
 use step_ledger::Steps;
 use virtual_words::Mapping;
 
-/// A used slot of class `class`, of `words` words, at the address `place`. The headers of its owner's
-/// objects have their handles plus `first`.
+/// A used slot of class `class`, of `words` words, at the address `place`, whose object is freed or
+/// has moved away. The header of each object of the slot's owner has the number of the object's
+/// handle plus `first`.
 #[derive(Clone, Copy)]
 pub struct LeftSlot {
     pub class: u32,
@@ -29,9 +30,10 @@ pub struct LeftSlot {
 }
 
 impl PageTables {
-    /// In page tables, leaves the slot `s`, whose object is freed or has moved away. If `moves`, the object of the
-    /// class that the tables choose moves there, and its own slot becomes free; returns its handle. Else the slot is
-    /// cleared and becomes free.
+    /// In page tables, clears and frees the slot `s`, and returns none; or, if `moves`, moves there
+    /// another object of its class, which the tables choose, and returns this object's handle. The
+    /// object's proxy gets the new address, and its old slot becomes free. Costs at most 14 steps
+    /// and one for each word; with a block table 15 and 3/2 for each word.
     #[inline(always)]
     pub fn leave_slot<A: Mapping>(
         &mut self,

@@ -28,8 +28,9 @@ impl PageTables {
     ghost use Rattle.page_slots.specs.PageTables.{AreFirst};
     ghost use Rattle.page_slots.specs.Needed.{table_bytes};
 
-    /// Returns tables in which all pages of the settings are free, with slot sizes of this layout.
-    /// Fails if out of memory; no other call of `PageTables` allocates.
+    /// Makes tables in which all pages of the settings are free, with slot sizes of this layout.
+    /// Only this call of `PageTables` allocates. It fails with `OutOfMemory` if an allocation
+    /// fails.
     pub fn new(alloc: Global, s: &Settings, layout: Layout) -> Result<PageTables, OutOfMemory>
         ensures { IfOk result (λ t. AreFirst s.now layout t) }
     {

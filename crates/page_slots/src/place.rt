@@ -5,7 +5,8 @@ ghost use Rattle.page_slots.specs.Tables.{address_in, slot_at, slots_in};
 
 use size_classes::Classes;
 
-/// In page tables, the number, on its page, of the slot of class c that holds an address.
+/// In page tables, the number of the slot of class c that holds an address, counted from 0 on the
+/// page of the address.
 pub(crate) fn slot_of(classes: &Classes, c: u32, address: u32) -> u32
     requires { c < length classes.now.sizes }
     ensures { result ≡ slot_at classes.now c address }

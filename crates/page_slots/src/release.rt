@@ -1,6 +1,7 @@
-//! Frees a used slot of a page; or chooses the object that moves into it, and frees that object's
-//! slot. `must_move` returns which of the two a free does. `lists` has for each class the pages that
-//! one owner uses.
+//! Frees a used slot of a page (`drop_slot`), or chooses the object that moves into the slot
+//! (`filler`), and frees the old slot of that object (`fill_slot`). `must_move` returns whether a
+//! free moves an object. `lists` has for each class the pages that one owner, a heap or a task,
+//! uses.
 ghost use Rattle.std.specs.Prelude.{◌≡◌, ◌≢◌, ℕ, ◌<◌, ◌≤◌, [], ◌↔◌, IsTrue, length, false, true, slice_get, slice_index_or};
 ghost use Rattle.std.specs.List.{Contains, position};
 ghost use Rattle.step_ledger.specs.Counting.{RoseAtMost, RoseBy};
@@ -20,9 +21,9 @@ use slot_bitmap::SlotMaps;
 use step_ledger::Steps;
 
 impl PageTables {
-    /// In page tables, returns whether a free of the slot of class c at the address `at` must move an object: its page
-    /// is full and has several slots, and the class has reached `bound` partly full pages.
-    /// Costs one step.
+    /// In page tables, returns whether a free of the slot of class c at the address `at` must move
+    /// an object: its page is full and has several slots, and the class has exactly `bound` partly
+    /// full pages. Costs one step.
     pub fn must_move(
         &self,
         lists: &ClassLists,
@@ -43,8 +44,9 @@ impl PageTables {
         used == self.maps.len(page) && used > 1 && lists.len(c, Which::NotFull) == bound
     }
 
-    /// In page tables, frees the used slot of class c at the address `at`, without a move. A page that is then empty
-    /// returns to the pool. A page that was full becomes the first partly full page.
+    /// In page tables, frees the used slot of class c at the address `at`, without a move. If its
+    /// page is then empty, the page returns to the pool; else, if it was full, it becomes the first
+    /// partly full page. Costs at most 13 steps.
     #[inline(always)]
     pub fn drop_slot(&mut self, lists: &mut ClassLists, c: u32, at: u32, steps: &mut Steps)
         requires tables { AreTables self.old.classes (tables_with self.old lists.old) }
@@ -64,8 +66,9 @@ impl PageTables {
         self.vacate(lists, c, which, page, slot, steps);
     }
 
-    /// In page tables, returns the address of the object that moves into a freed slot of class c: the one at the lowest
-    /// used slot of the first partly full page of the class. Changes nothing.
+    /// In page tables, returns the address of the object that moves into a freed slot of class c:
+    /// the one at the lowest used slot of the first partly full page of the class. There must be
+    /// such a page. Changes nothing. Costs three steps.
     pub fn filler(&self, lists: &ClassLists, c: u32, steps: &mut Steps) -> u32
         requires tables { AreTables self.now.classes (tables_with self.now lists.now) }
         requires class { c < length self.now.classes.sizes }
@@ -77,9 +80,10 @@ impl PageTables {
         address_of(&self.classes, c, page, slot)
     }
 
-    /// Returns the address of the object that moves into a freed slot of class c, as `filler` does, and
-    /// frees the slot at this address. The slot that the object moves into stays marked as used. A page
-    /// that is then empty returns to the pool.
+    /// In page tables, frees the slot of the object that `filler` chooses for class c, which must
+    /// have a partly full page, and returns this object's address. Moves nothing; the slot that the
+    /// object moves into stays marked as used. A page that is then empty returns to the pool. Costs
+    /// at most 12 steps.
     // Inlined, so that a caller with a ledger of its own keeps its count in a register.
     #[inline(always)]
     pub fn fill_slot(&mut self, lists: &mut ClassLists, c: u32, steps: &mut Steps) -> u32
@@ -100,7 +104,8 @@ impl PageTables {
         address
     }
 
-    /// In page tables, returns the first partly full page of class c, and the number of its lowest used slot.
+    /// In page tables, returns the first partly full page of class c, of which there must be one,
+    /// and the number of its lowest used slot. Costs three steps.
     fn filling_slot(&self, lists: &ClassLists, c: u32, steps: &mut Steps) -> (u32, u32)
         requires class { c < lists.now.classes }
         requires some { 1 ≤ length (pages_in lists.now c Which.NotFull) }
@@ -119,8 +124,9 @@ impl PageTables {
         (page, slot)
     }
 
-    /// In page tables, frees the used slot number `slot` of a page that is in the list `which` of class c. A page that
-    /// is then empty leaves the list and returns to the pool; a page that was full joins the partly full pages.
+    /// In page tables, frees the used slot number `slot` of a page that is in the list `which` of
+    /// class c. If the page is then empty, it leaves the list and returns to the pool; else, if it
+    /// was full, it becomes the first partly full page. Costs at most 12 steps.
     #[inline(always)]
     fn vacate(
         &mut self,
@@ -151,13 +157,13 @@ impl PageTables {
             lists.unlink(c, which, page, steps);
             self.pool.give(page, steps);
         } else {
-            move_if_full(lists, c, which, page, steps);
+            list_as_partly_full(lists, c, which, page, steps);
         }
     }
 }
 
-/// In page tables, returns which list a page of a class is in: that of the full pages if all its slots are used.
-/// Costs one step.
+/// In page tables, returns which list a page of a class is in: that of the full pages if all its
+/// slots are used, else that of the partly full ones. Costs one step.
 fn list_of(maps: &SlotMaps, page: u32, steps: &mut Steps) -> Which
     requires { page < length maps.now.pages }
     ensures full { used_in (on_page maps.now page) ≡ length (on_page maps.now page) → result ≡ Which.Full }
@@ -171,9 +177,10 @@ fn list_of(maps: &SlotMaps, page: u32, steps: &mut Steps) -> Which
     }
 }
 
-/// In page tables, if the page is in the list of full pages of class c, moves it to the partly full pages; else does
-/// nothing. `which` is the list that it is in.
-fn move_if_full(lists: &mut ClassLists, c: u32, which: Which, page: u32, steps: &mut Steps)
+/// In page tables, moves a page of class c from the full pages to the partly full ones, if `which`,
+/// the list that the page is in, is that of the full pages; else does nothing. A move costs eight
+/// steps.
+fn list_as_partly_full(lists: &mut ClassLists, c: u32, which: Which, page: u32, steps: &mut Steps)
     requires class { c < lists.old.classes }
     requires apart { AreApart lists.old }
     requires listed { Contains (pages_in lists.old c which) page }

@@ -2,8 +2,8 @@
 use Rattle.std.proofs.Common.{◌≡◌, ℕ, get_or, Bool, Option, Some, None, arith, refl, sym, ◌∙◌, ap, subst}
 use Rattle.std.specs.Prelude.{◌↔◌, IsTrue, is_some}
 use Rattle.std.proofs.lemmas.Bool.{false≢true}
-use Rattle.cf_base.specs.declared.answers.Freed.{Freed}
-use Rattle.cf_base.specs.declared.answers.Handle.{Handle}
+use Rattle.cf_base.specs.declared.results.Freed.{Freed}
+use Rattle.cf_base.specs.declared.results.Handle.{Handle}
 use Rattle.cf_model.specs.Steps.{FreesObject, number_of}
 use Rattle.page_model.specs.Order.{FreeFollows}
 use Rattle.page_model.specs.Steps.{MustMove}

@@ -1,7 +1,7 @@
 -- For `free`: what it does is independent of the stored cost, and its steps are few.
 use Rattle.std.proofs.Common.{ℕ, ◌^◌, ◌<◌, Result, Ok, Err, arith, ◌∙◌, ap}
-use Rattle.cf_base.specs.declared.answers.Freed.{Freed}
-use Rattle.cf_base.specs.declared.answers.NotLive.{NotLive}
+use Rattle.cf_base.specs.declared.results.Freed.{Freed}
+use Rattle.cf_base.specs.declared.results.NotLive.{NotLive}
 use Rattle.cf_model.specs.Costs.{free_bound}
 use Rattle.cf_model.specs.State.{HeapState}
 use Rattle.cf_model.specs.Steps.{IsFreeStep}

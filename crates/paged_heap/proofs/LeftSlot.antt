@@ -1,6 +1,6 @@
 -- A heap after `leave_slot`, by its fields, and by what `page_slots` says of it.
 use Rattle.std.proofs.Common.{◌≡◌, ℕ, ◌%◌, ◌^◌, get_or, Option, Some, None, arith, ◌∙◌, ap, subst}
-use Rattle.cf_base.specs.declared.answers.Handle.{Handle}
+use Rattle.cf_base.specs.declared.results.Handle.{Handle}
 use Rattle.cf_base.specs.declared.kind.Kind.{Kind}
 use Rattle.class_lists.specs.PageLists.{PageLists}
 use Rattle.page_slots.specs.Leaving.{Leaves, Memory, Parts, parts}

@@ -3,8 +3,8 @@ use Rattle.std.proofs.Common.{◌≡◌, ℕ, ◌+◌, ◌-◌, ◌%◌, ◌^◌
 use Rattle.std.specs.Prelude.{◌↔◌, ◌⊎◌, IsSome, IsTrue, is_some}
 use Rattle.std.proofs.lemmas.Bool.{false≢true}
 use Rattle.std.specs.FinMap.{get}
-use Rattle.cf_base.specs.declared.answers.Handle.{Handle}
-use Rattle.cf_base.specs.declared.answers.Resized.{Resized}
+use Rattle.cf_base.specs.declared.results.Handle.{Handle}
+use Rattle.cf_base.specs.declared.results.Resized.{Resized}
 use Rattle.cf_model.specs.Steps.{ResizesObject, number_of}
 use Rattle.page_model.specs.Steps.{Request}
 use Rattle.page_slots.specs.Tables.{AreTables}

@@ -5,7 +5,7 @@ use Rattle.std.specs.Prelude.{if◌then◌else◌, nat_eq, not}
 use Rattle.std.specs.List.{filter}
 use Rattle.std.proofs.lemmas.List.{get_or-set_other, length-set}
 use Rattle.std.specs.FinMap.{get, insert, remove}
-use Rattle.cf_base.specs.declared.answers.Resized.{Resized}
+use Rattle.cf_base.specs.declared.results.Resized.{Resized}
 use Rattle.cf_base.proofs.Maps.{get_inserted}
 use Rattle.cf_base.proofs.MapValues.{map_values-insert}
 use Rattle.cf_base.proofs.Ranges.{one}

@@ -11,7 +11,7 @@ use Rattle.page_model.specs.Bytes.{bytes_at}
 use Rattle.page_model.proofs.CallerLemmas.{sound_placed, length-resized, class_holds, place_apart, slot_inside}
 use Rattle.virtual_words.specs.Words.{IsWhole}
 use Rattle.paged_heap.proofs.WholeBlocks.{whole_by}
-use Rattle.cf_base.specs.declared.answers.ResizeFault.TheVariants as resize
+use Rattle.cf_base.specs.declared.results.ResizeFault.TheVariants as resize
 use Rattle.cf_model.specs.Steps.{IsResizeStep}
 use Rattle.page_model.specs.Held.{Placed}
 use Rattle.page_model.specs.Arrangement.{LacksRoom}

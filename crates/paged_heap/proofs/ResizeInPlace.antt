@@ -7,7 +7,7 @@ use Rattle.std.proofs.lemmas.List.{get_or-drop, get_or-take, length-take, get_or
 use Rattle.std.proofs.Common.{length-drop}
 use Rattle.std.specs.FinMap.{insert}
 use Rattle.cf_base.specs.Classes.{need}
-use Rattle.cf_base.specs.declared.answers.Resized.{Resized}
+use Rattle.cf_base.specs.declared.results.Resized.{Resized}
 use Rattle.cf_base.proofs.MapValues.{map_values-insert}
 use Rattle.page_model.specs.Held.{Placed, objects}
 use Rattle.page_model.specs.Bytes.{AreBytes, byte_of, bytes_at}

@@ -1,9 +1,9 @@
 -- For `malloc`, `free` and `resize`: each uses the number and the slot, and moves the object, that the order lists next. No public clause cites this module.
 use Rattle.std.specs.Prelude.{ℕ, IfOk, IfSome, Result}
-use Rattle.cf_base.specs.declared.answers.Freed.{Freed}
-use Rattle.cf_base.specs.declared.answers.Handle.{Handle}
-use Rattle.cf_base.specs.declared.answers.Refusal.{Refusal}
-use Rattle.cf_base.specs.declared.answers.Resized.{Resized}
+use Rattle.cf_base.specs.declared.results.Freed.{Freed}
+use Rattle.cf_base.specs.declared.results.Handle.{Handle}
+use Rattle.cf_base.specs.declared.results.Refusal.{Refusal}
+use Rattle.cf_base.specs.declared.results.Resized.{Resized}
 use Rattle.page_model.specs.Order.{FreeFollows, MallocFollows, ResizeFollows}
 use Rattle.page_model.specs.Steps.{Request}
 use Rattle.cf_model.specs.Answers.{place_of}

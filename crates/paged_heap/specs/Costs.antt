@@ -1,12 +1,12 @@
--- The most steps of each call; some call takes exactly that number. The steps of reads and writes are exact for every call.
+-- The most steps of a malloc, a free and a resize; some call takes exactly that number. The steps of reads and writes are exact for every call.
 use Rattle.std.specs.Prelude.{ℕ, ◌+◌, ◌-◌, ◌*◌, ◌/◌, Result, Ok, Err, if◌then◌else◌, min, nat_eq}
-use Rattle.cf_base.specs.declared.answers.AccessFault.{AccessFault}
-use Rattle.cf_base.specs.declared.answers.AccessFault.TheVariants as access
-use Rattle.cf_base.specs.declared.answers.Freed.{Freed}
-use Rattle.cf_base.specs.declared.answers.NotLive.{NotLive}
-use Rattle.cf_base.specs.declared.answers.Resized.{Resized}
-use Rattle.cf_base.specs.declared.answers.ResizeFault.{ResizeFault}
-use Rattle.cf_base.specs.declared.answers.ResizeFault.TheVariants as resize
+use Rattle.cf_base.specs.declared.results.AccessFault.{AccessFault}
+use Rattle.cf_base.specs.declared.results.AccessFault.TheVariants as access
+use Rattle.cf_base.specs.declared.results.Freed.{Freed}
+use Rattle.cf_base.specs.declared.results.NotLive.{NotLive}
+use Rattle.cf_base.specs.declared.results.Resized.{Resized}
+use Rattle.cf_base.specs.declared.results.ResizeFault.{ResizeFault}
+use Rattle.cf_base.specs.declared.results.ResizeFault.TheVariants as resize
 use Rattle.cf_base.specs.declared.kind.Kind.{Kind}
 use Rattle.cf_model.specs.Costs.{words_touched}
 use Rattle.page_model.specs.Order.{word_steps}

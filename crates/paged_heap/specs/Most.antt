@@ -1,9 +1,9 @@
--- The steps of each call of a manager with pages, as its own bounds.
+-- The step bounds that a manager with pages claims for its calls.
 use Rattle.cf_base.specs.declared.kind.Kind.{Kind}
 use Rattle.cf_model.specs.Bounds.{Bounds}
 use Rattle.paged_heap.specs.Costs.{access_steps, free_steps, malloc_steps, resize_steps}
 
--- the steps of each call of a kind with pages
+-- the most steps of each call of a kind with pages; those of `access`, `room_exact` and `totals_exact` are exact
 abbrev pub page_bounds : Kind → Bounds
 page_bounds kind = record {
   malloc = λ answer. malloc_steps kind;

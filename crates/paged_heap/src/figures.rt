@@ -48,7 +48,8 @@ impl OpenHeap {
         self.tables.pool.left()
     }
 
-    /// With pages, the figures of class c; none if there is no such class.
+    /// With pages, the figures of class c: its slot size, slots of a page, live objects, pages and
+    /// partly full pages. None if there is no such class.
     pub fn figures<A: Mapping>(&self, c: u32) -> Option<Figures>
         requires { Holds A.kind self.now }
         ensures { result ≡ if nat_lt c (classes (paging_at (seen A.kind self.now)))
@@ -61,7 +62,8 @@ impl OpenHeap {
         }
     }
 
-    /// With pages, the figures of class c, which must be one of the heap's classes.
+    /// With pages, the figures of class c, as `figures` returns them. The heap must have this
+    /// class.
     fn figures_of<A: Mapping>(&self, c: u32) -> Figures
         requires kept { Holds A.kind self.now }
         requires class { c < classes (paging_at (seen A.kind self.now)) }
@@ -76,7 +78,9 @@ impl OpenHeap {
         }
     }
 
-    /// The figures of the whole heap with pages.
+    /// With pages, the figures of the whole heap: live objects, their bytes and those of their
+    /// slots, the used pages and their bytes, the free pages, and the words of a page if one is
+    /// free, else 0.
     pub fn totals<A: Mapping>(&self) -> Totals
         requires { Holds A.kind self.now }
         ensures { result ≡ totals_of (paging_at (seen A.kind self.now)) (held_in (seen A.kind self.now)) }
@@ -94,7 +98,7 @@ impl OpenHeap {
         }
     }
 
-    /// The number of bytes that `pages` pages of the heap have.
+    /// With pages, the number of bytes in `pages` pages of the heap.
     fn bytes_of<A: Mapping>(&self, pages: u32) -> u64
         requires kept { Holds A.kind self.now }
         requires few { pages ≤ self.now.settings.pages }
@@ -103,7 +107,8 @@ impl OpenHeap {
         8 * u64::from(self.settings.page_words) * u64::from(pages)
     }
 
-    /// With pages, the words of the largest free block, which is a page: 0 if `free`, the number of free pages, is 0.
+    /// With pages, the figure `largest`: the words of a page, or 0 if `free`, the number of free
+    /// pages, is 0.
     fn largest(&self, free: u32) -> u32
         ensures { result ≡ if nat_eq free 0 then 0 else self.now.settings.page_words }
     {

@@ -20,10 +20,11 @@ use step_ledger::Steps;
 use virtual_words::Mapping;
 
 impl OpenHeap {
-    /// Frees an object on pages; fails if the handle is not live, and then changes only `cost`. A full page of several
-    /// slots would become partly full: if its class already has as many partly full pages as its bound, the object that
-    /// the order lists next moves to the freed slot. Else the slot is cleared. The next malloc uses the freed number.
-    /// Sets `cost` to the steps of this call, which the order and the result determine.
+    /// With pages, frees an object; fails if the handle is not live, and then changes only `cost`.
+    /// If its page was full, has several slots, and the class has as many partly full pages as its
+    /// bound, another object moves to the freed slot: the one at the lowest used slot of the
+    /// class's first partly full page. Else the slot is cleared. The next malloc that succeeds uses
+    /// the freed number. Sets `cost` to the steps of this call.
     pub fn free<A: Mapping>(&mut self, h: Handle, steps: &mut Steps) -> Result<Freed, NotLive>
         requires kept { Holds A.kind self.old }
         requires room { steps.old ≤ 2 ^ 63 }
@@ -40,8 +41,8 @@ impl OpenHeap {
         result
     }
 
-    /// Frees an object on pages as `free` does, with or without a move of another one; fails if the handle is not live.
-    /// Leaves `cost` unchanged.
+    /// With pages, frees an object as `free` does, but leaves `cost` unchanged. Fails if the handle
+    /// is not live.
     fn free_inner<A: Mapping>(&mut self, h: Handle, steps: &mut Steps) -> Result<Freed, NotLive>
         requires { Holds A.kind self.old }
         ensures step { IsFreeStep (state_at A.kind self.old) h.0 result (state_at A.kind self.new) }
@@ -62,8 +63,8 @@ impl OpenHeap {
         Ok(self.free_object::<A>(h, place, length, c, moves, steps))
     }
 
-    /// Frees the object h of class c on pages, which has `length` bytes and the address `place`. If `moves`, another
-    /// object of the class must move to its slot.
+    /// With pages, frees the object h of class c, which has `length` bytes and the address `place`.
+    /// `moves` is whether another object of the class must move to its slot.
     fn free_object<A: Mapping>(
         &mut self,
         h: Handle,

@@ -1,10 +1,11 @@
-//! `malloc` of an open heap with pages, and `has_room`, which returns beforehand whether a malloc would be refused.
+//! `malloc` of an open heap with pages, and `has_room`, which returns whether a malloc would be
+//! refused.
 ghost use Rattle.std.specs.Prelude.{◌≡◌, ◌≢◌, ◌+◌, ◌*◌, ◌^◌, ◌<◌, ◌≤◌, ◌∷◌, IfErr, IfOk, IsFalse, IsTrue, None, Some, length, slice_index, slice_set};
 ghost use Rattle.std.specs.FinMap as map;
 ghost use Rattle.step_ledger.specs.Counting.{RoseAtMost, RoseBy};
 ghost use Rattle.class_lists.specs.PageLists.{pages_in};
 ghost use Rattle.cf_base.specs.Classes.{class_of};
-ghost use Rattle.cf_base.specs.declared.answers.Refusal.{Refusal};
+ghost use Rattle.cf_base.specs.declared.results.Refusal.{Refusal};
 ghost use Rattle.page_model.specs.Image.{header_word};
 ghost use Rattle.page_model.specs.Order.{word_steps};
 ghost use Rattle.cf_model.specs.Steps.{IsMallocStep, IsRefusedBy};
@@ -26,10 +27,10 @@ use step_ledger::Steps;
 use virtual_words::Mapping;
 
 impl OpenHeap {
-    /// With pages, makes an object of `bytes` bytes, all zero, under the number and in the slot of its class that the
-    /// order lists next. Refused, in this order: `Size` if it needs more than a page, `Proxy` if no number is free,
-    /// `Space` if no slot is free; then only `cost` changes. Sets `cost` to the steps of this call, which the order and
-    /// the result determine.
+    /// With pages, makes an object of `bytes` bytes, all zero, and returns its handle. The heap's
+    /// order determines the free number and the slot that it gets. Refused, in this order: `Size`
+    /// if it needs more than a page, `Proxy` if no number is free, `Space` if its class has no free
+    /// slot; then only `cost` changes. Sets `cost` to the steps of this call.
     pub fn malloc<A: Mapping>(&mut self, bytes: u32, steps: &mut Steps) -> Result<Handle, Refusal>
         requires kept { Holds A.kind self.old }
         requires room { steps.old ≤ 2 ^ 63 }
@@ -46,7 +47,8 @@ impl OpenHeap {
         result
     }
 
-    /// Makes an object on pages as `malloc` does, or refuses it for the same causes. Leaves `cost` unchanged.
+    /// With pages, makes an object as `malloc` does, or refuses it for the same causes, but leaves
+    /// `cost` unchanged.
     fn malloc_inner<A: Mapping>(&mut self, bytes: u32, steps: &mut Steps) -> Result<Handle, Refusal>
         requires { Holds A.kind self.old }
         ensures step { IsMallocStep (state_at A.kind self.old) bytes result (state_at A.kind self.new) }
@@ -64,8 +66,8 @@ impl OpenHeap {
         Ok(handle)
     }
 
-    /// Returns what a malloc of `bytes` bytes on pages would return now, without the handle: `Ok`, or its refusal.
-    /// Changes nothing, and costs one step.
+    /// With pages, returns what a malloc of `bytes` bytes would return now, without the handle:
+    /// `Ok`, or its refusal. Changes nothing, and costs one step.
     pub fn has_room<A: Mapping>(&self, bytes: u32, steps: &mut Steps) -> Result<(), Refusal>
         requires { Holds A.kind self.now }
         ensures ok { IfOk result (λ u. (e : Refusal) → ¬ IsRefusedBy (state_at A.kind self.now) bytes e) }
@@ -78,8 +80,9 @@ impl OpenHeap {
         }
     }
 
-    /// With pages, returns the class of an object of `bytes` bytes, if a number and a slot of this class are free. Else
-    /// fails with the refusal that a malloc of `bytes` bytes returns.
+    /// With pages, returns the class of an object of `bytes` bytes, if a number and a slot of this
+    /// class are free. Else fails with the refusal that a malloc of `bytes` bytes returns. Costs
+    /// one step.
     fn class_with_room<A: Mapping>(&self, bytes: u32, steps: &mut Steps) -> Result<u32, Refusal>
         requires { Holds A.kind self.now }
         ensures class { IfOk result (λ c. Some c ≡ class_of self.now.tables.classes.sizes bytes) }
@@ -111,8 +114,9 @@ impl OpenHeap {
         self.lists.len(c, Which::NotFull) > 0 || self.tables.pool.left() > 0
     }
 
-    /// With pages, binds the next free number to the address `place`, writes the header of an object of `bytes` bytes
-    /// there, and returns the number.
+    /// With pages, binds the next free number to the address `place`, writes the header of an
+    /// object of `bytes` bytes there, and returns the number. Costs three steps moving, four
+    /// non-moving.
     fn bind<A: Mapping>(&mut self, place: u32, bytes: u32, steps: &mut Steps) -> Handle
         requires laid { FitTable A.kind self.old.blocks self.old.region }
         requires some { map.len self.old.proxies.places ≢ self.old.proxies.limit }

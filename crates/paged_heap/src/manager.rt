@@ -1,4 +1,5 @@
-//! `PagedHeap`: the trait `Manager` over an open heap with pages, or none while it is closed.
+//! `PagedHeap`, the manager with pages, closed or open: the trait `Manager`, and calls of its own.
+//! On an open heap they call `OpenHeap`.
 ghost use Rattle.std.specs.Prelude.{◌≡◌, ◌^◌, ◌+◌, ◌<◌, ◌≤◌, [], IsSome, IsTrue, OnErr, OnOk, Some, option_map};
 ghost use Rattle.std.specs.FinMap as map;
 ghost use Rattle.cf_base.specs.Classes.{class_of};
@@ -58,13 +59,13 @@ impl<A: PageKind> Model for PagedHeap<A> {
     ghost invariant = { λ h. IsValidIn A.kind h.inner };
 }
 
-// The exact steps of a kind with pages.
+// The most steps of each call with pages, exact for reads and writes.
 impl<A: PageKind> StepBounds for PagedHeap<A> {
     ghost most = { Some (page_bounds A.kind) };
 }
 
-// Calls on an open heap pass on to `OpenHeap`. Their contracts require that the heap is open, so
-// their branches `None` are never reached.
+// Each call on an open heap calls `OpenHeap`. Its contract requires that the heap is open, so its
+// branch `None` is never reached.
 impl<A: PageKind> Manager for PagedHeap<A> {
     ghost state = { λ h. h.state };
 
@@ -84,6 +85,7 @@ impl<A: PageKind> Manager for PagedHeap<A> {
         self.inner.is_some()
     }
 
+    // Opens an empty heap, whatever was there before. At `OutOfMemory` the manager is closed.
     fn open_heap(&mut self, s: &Settings) -> Result<(), OutOfMemory>
         ensures ok { OnOk result (IsEmptyHeap self.old.state.kind s.now self.new.state) }
         ensures rules { OnOk result (KeepsRules self.new.state) }
@@ -126,9 +128,9 @@ impl<A: PageKind> Manager for PagedHeap<A> {
         }
     }
 
-    // Writes bytes into an object, as the trait says. If the bytes are in t words, it costs exactly
-    // 2 + t steps moving; 3 + t non-moving, and one for each block that these are in
-    // (`access_steps`).
+    // Writes bytes into an object, as the trait says. If it succeeds and the bytes are in t words,
+    // it costs exactly 2 + t steps moving; 3 + t non-moving, plus one for each block that these
+    // words are in (`access_steps`).
     fn write(
         &mut self,
         h: Handle,
@@ -178,6 +180,8 @@ impl<A: PageKind> Manager for PagedHeap<A> {
         }
     }
 
+    // Sets the bound of the class with this slot size to `k`; no object may be live. False if there
+    // is no such class.
     fn set_bound(&mut self, slot_words: u32, k: u32) -> bool {
         match &mut self.inner {
             Some(open) => open.set_bound::<A>(slot_words, k),
@@ -185,11 +189,13 @@ impl<A: PageKind> Manager for PagedHeap<A> {
         }
     }
 
+    // The address of an object; none if the handle is not live. Costs one step.
     fn place(&self, h: Handle, steps: &mut Steps) -> Option<u32> {
         self.open().place::<A>(h, steps)
     }
 
-    // Returns a word as the objects see it; none past the end of the region.
+    // Returns the word number `word` of the region or, with a block table, of the virtual words;
+    // none past the end of the region. Costs one step moving, two non-moving; none past the end.
     fn peek(&self, word: u32, steps: &mut Steps) -> Option<u64> {
         match &self.inner {
             Some(open) => open.peek::<A>(word, steps),
@@ -203,19 +209,24 @@ impl<A: PageKind> Manager for PagedHeap<A> {
         A::block(self.open(), h, i, steps)
     }
 
+    // The number of size classes.
     fn classes(&self) -> u32 {
         self.open().class_count::<A>()
     }
 
+    // The figures of class c: its slot size, slots of a page, live objects, pages and partly full
+    // pages. None if there is no such class; classes are numbered from 0.
     fn figures(&self, c: u32) -> Option<Figures> {
         self.open().figures::<A>(c)
     }
 
-    // Returns the figures of the whole heap, by counts that it keeps. Costs no step.
+    // Returns the figures of the whole heap, from counts that it keeps. Costs no step.
     fn totals(&self, steps: &mut Steps) -> Totals {
         self.open().totals::<A>()
     }
 
+    // The number of bytes of an object; none if the handle is not live. Costs two steps moving,
+    // three non-moving; one if not live.
     fn length(&self, h: Handle, steps: &mut Steps) -> Option<u32> {
         self.open().length::<A>(h, steps)
     }
@@ -225,11 +236,13 @@ impl<A: PageKind> Manager for PagedHeap<A> {
         self.open().has_room::<A>(bytes, steps)
     }
 
-    // Returns the bytes asked, taken and held, by counts that the heap keeps.
+    // Returns the bytes of the objects, of their slots and of the used pages, from counts that the
+    // heap keeps.
     fn usage(&self) -> Usage {
         Usage::of(&self.open().totals::<A>())
     }
 
+    // The steps of the last malloc, free or resize; 0 before the first.
     fn cost(&self) -> u64 {
         self.open().cost
     }
@@ -273,7 +286,8 @@ impl<A: PageKind> PagedHeap<A> {
         }
     }
 
-    /// `PagedHeap`: the words of an object's slot, which a free of it clears; none if the handle is not live.
+    /// `PagedHeap`: the number of words of an object's slot; none if the handle is not live. Costs
+    /// three steps moving, four non-moving; one if not live.
     pub fn slot_words(&self, h: Handle, steps: &mut Steps) -> Option<u32>
         requires { IsTrue self.now.state.is_open }
         ensures value { result ≡ option_map (slot_in A.kind self.now.state) (map.get self.now.state.held h.0) }
@@ -282,8 +296,8 @@ impl<A: PageKind> PagedHeap<A> {
         self.open().slot_words::<A>(h, steps)
     }
 
-    /// `PagedHeap`: the class of an object of `bytes` bytes, counted from 0; none if it needs more than a page. Costs
-    /// one step.
+    /// `PagedHeap`: the number, from 0, of the class of an object of `bytes` bytes; none if the
+    /// object needs more than a page. Costs one step.
     pub fn class_of(&self, bytes: u32, steps: &mut Steps) -> Option<u32>
         requires { IsTrue self.now.state.is_open }
         ensures value { result ≡ class_of (paging_in self.now.state).sizes bytes }
@@ -333,9 +347,9 @@ impl<A: PageKind> PagedHeap<A> {
 }
 
 impl PagedHeap<Mapped> {
-    /// For its contract, which holds between any two calls: for each virtual block v and j from 0 to 3,
-    /// word `4 * F(v) + j` of the region is the virtual word `4 * v + j`, where F is the block table. The
-    /// call does nothing.
+    /// Shows where the virtual words of an open non-moving manager are: for each virtual block v and j
+    /// from 0 to 3, word `4 * F(v) + j` of the region is the virtual word `4 * v + j`, where F is the
+    /// block table. The call does nothing.
     pub fn physical_words_are_mapped(&self)
         requires { IsTrue self.now.state.is_open }
         ensures kind { self.now.state.kind ≡ NonMoving }

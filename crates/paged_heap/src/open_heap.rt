@@ -41,8 +41,9 @@ pub struct OpenHeap {
 }
 
 impl OpenHeap {
-    /// Opens a heap without objects, with the settings s, the slot sizes of this layout, and this
-    /// block table, if the kind has one. Fails if out of memory; no other call of the heap allocates.
+    /// With pages, opens a heap without objects: with the settings s, the slot sizes of this
+    /// layout, and this block table, if the kind has one. Fails if out of memory; no other call of
+    /// the heap allocates.
     pub fn new<A: Mapping>(
         alloc: Global,
         s: &Settings,
@@ -73,7 +74,7 @@ impl OpenHeap {
         words.and(lists.and(ProxyTable::bytes_needed(s.proxies)))
     }
 
-    /// Makes an open heap with pages of these parts, each without objects.
+    /// With pages, returns the open heap that consists of these parts, which have no objects.
     fn empty<A: Mapping>(
         s: &Settings,
         region: Region,

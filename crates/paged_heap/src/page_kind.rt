@@ -1,4 +1,5 @@
-//! The trait `PageKind`: what the moving and the non-moving manager do each in its own way.
+//! The trait `PageKind`: what differs between the moving and the non-moving manager, apart from how
+//! they find a word (`Mapping`).
 ghost use Rattle.std.specs.Prelude.{◌≡◌, ◌^◌, ◌<◌, IfOk, refl};
 ghost use Rattle.std.specs.FinMap as map;
 ghost use Rattle.step_ledger.specs.Counting.{RoseBy};
@@ -17,9 +18,10 @@ use std::alloc::Global;
 use step_ledger::Steps;
 use virtual_words::{Direct, Mapped, Mapping};
 
-/// A kind of manager with pages: what it does beside `Mapping` in its own way.
+/// A kind of manager with pages: how its heap is opened, the memory that this asks for, and the
+/// physical block of an object. How it finds a word is in the trait `Mapping`.
 pub trait PageKind: Mapping {
-    /// The kind of this `PageKind`.
+    /// Returns which kind of manager this `PageKind` is.
     fn kind() -> Kind
         ensures { result ≡ Self.kind };
 
@@ -33,8 +35,9 @@ pub trait PageKind: Mapping {
         ensures needed { result ≡ paged_bytes Self.kind (profile_of s.now) }
         ensures few { result.total < 2 ^ 45 };
 
-    /// The number of the physical block that holds block i of the object's slot, counted from 0;
+    /// The number of the physical block that holds block i, from 0, of the object's slot;
     /// none if the kind has no block table, the handle is not live, or the slot has no block i.
+    /// Costs at most five steps; none if the kind has no block table.
     fn block(heap: &OpenHeap, h: Handle, i: u32, steps: &mut Steps) -> Option<u32>
         requires { Holds Self.kind heap.now }
         ensures value { result ≡ block_in Self.kind (state_at Self.kind heap.now) h.0 i }
@@ -82,6 +85,7 @@ impl PageKind for Mapped {
         OpenHeap::bytes_needed(s, Layout::Blocks).and(blocks)
     }
 
+    // Finds the blocks of the slot by the length in the object's header, then block i in the table.
     fn block(heap: &OpenHeap, h: Handle, i: u32, steps: &mut Steps) -> Option<u32> {
         let Some(place) = heap.proxies.lookup(h, steps) else {
             return None;

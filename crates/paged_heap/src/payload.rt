@@ -30,8 +30,9 @@ impl PagedHeap<Direct> {
         payload(self.open(), h, steps)
     }
 
-    /// Lends the words that `payload` lends, for writing; none if the handle is not live. After the borrow
-    /// the object has the words that were written, and all else is unchanged.
+    /// Lends the words that `payload` lends, for writing; none if the handle is not live. After the
+    /// borrow the object has the words that were written, and all else is unchanged. Costs at most
+    /// two steps, and one for each word that is lent.
     pub fn payload_mut(&mut self, h: Handle, steps: &mut Steps) -> Option<&mut [u64]>
         requires { IsTrue self.old.state.is_open }
         ensures* writes_back { sem 𝓛 (LendsPayloadIf self.entry h.0 result) }
@@ -43,9 +44,9 @@ impl PagedHeap<Direct> {
         if lent.0 { Some(lent.1) } else { None }
     }
 
-    /// Returns whether the handle is live, and lends the words that `payload_mut` lends; no words if it is
-    /// not live. For callers that prove what the heap is after the borrow: the checker does not follow a
-    /// borrow inside an `Option`.
+    /// Returns whether the handle is live, and lends the words that `payload_mut` lends; no words
+    /// if it is not live. Costs as much as `payload_mut`. For callers that prove what the heap is
+    /// after the borrow: the checker does not follow a borrow inside an `Option`.
     pub fn lend(&mut self, h: Handle, steps: &mut Steps) -> (bool, &mut [u64])
         requires { IsTrue self.old.state.is_open }
         ensures* writes_back { sem 𝓛 (LendsPayload self.entry h.0 result.1) }

@@ -24,11 +24,12 @@ use step_ledger::Steps;
 use virtual_words::Mapping;
 
 impl OpenHeap {
-    /// With pages, changes an object's length to `bytes` bytes; added bytes are zeros. If its class changes, the object
-    /// moves to the slot of the new class that the order lists next. Its old slot is then freed as `free` does. Fails,
-    /// in this order, if the handle is not live, the length needs more than a page, or the class changes and the new
-    /// one has no free slot; then only `cost` changes. Sets `cost` to the steps of this call, which the order, the
-    /// lengths and the result determine.
+    /// With pages, changes an object's length to `bytes` bytes; added bytes are zeros. If its class
+    /// changes, the object moves to a slot of the new class, which the heap's order determines. Its
+    /// old slot is then freed as by `free`. Fails, in this order, if the handle is not live
+    /// (`Unknown`), the length needs more than a page (`Size`), or the class changes and the new
+    /// one has no free slot (`Space`); then only `cost` changes. Sets `cost` to the steps of this
+    /// call.
     pub fn resize<A: Mapping>(
         &mut self,
         h: Handle,
@@ -50,8 +51,8 @@ impl OpenHeap {
         result
     }
 
-    /// Changes an object's length as `resize` does, within its class or to another one; fails for
-    /// the same causes. Leaves `cost` unchanged.
+    /// With pages, changes an object's length as `resize` does, or fails for the same causes, but
+    /// leaves `cost` unchanged.
     fn resize_inner<A: Mapping>(
         &mut self,
         h: Handle,
@@ -90,8 +91,8 @@ impl OpenHeap {
         self.resize_to_class::<A>(change, steps)
     }
 
-    /// Resizes the object h of class c at the address `place` from `length` to `bytes` bytes, which
-    /// is a length of class c too: it stays in its slot.
+    /// Resizes the object h of class c at the address `place` from `length` to `bytes` bytes, also
+    /// a length of class c. The object stays in its slot.
     pub(crate) fn resize_in_place<A: Mapping>(
         &mut self,
         h: Handle,

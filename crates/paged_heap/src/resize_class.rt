@@ -21,8 +21,9 @@ use region::Header;
 use step_ledger::Steps;
 use virtual_words::Mapping;
 
-/// A resize of the object `handle` to a length of another class. Its slot begins at word `place`.
-/// It has `length` bytes now, of class `class`, and gets `bytes` bytes, of class `to`.
+/// A resize of the object `handle` to a length of another class. The object's slot begins at word
+/// `place`. It has `length` bytes before, which is a length of class `class`, and then `bytes`
+/// bytes, a length of class `to`.
 #[derive(Clone, Copy)]
 pub(crate) struct Change {
     pub(crate) handle: Handle,
@@ -34,8 +35,8 @@ pub(crate) struct Change {
 }
 
 impl Change {
-    /// In a resize, the number of words that the kept bytes fill, without the header. The kept bytes are those that
-    /// both the old and the new length have.
+    /// In a resize, the number of words that hold the kept bytes, without the header. The kept
+    /// bytes are those that both the old and the new length have.
     fn words(self) -> u32
         ensures { result ≡ kept_words self }
     {
@@ -44,8 +45,9 @@ impl Change {
 }
 
 impl OpenHeap {
-    /// Does the resize x: moves the object to a slot of its new class, and frees its old slot.
-    /// Fails with `Space`, with the objects unchanged, if the new class has no free slot.
+    /// With pages, does the resize `x`: moves the object to a slot of its new class, and frees its
+    /// old slot, into which another object may move. Fails with `Space`, with the objects
+    /// unchanged, if the new class has no free slot.
     pub(crate) fn resize_to_class<A: Mapping>(
         &mut self,
         x: Change,
@@ -116,9 +118,9 @@ impl OpenHeap {
         Some(to)
     }
 
-    /// Copies the bytes that the resize `x` keeps to the slot at the address `to`, whose words are
-    /// zeros, and clears their words in the old slot. Then writes a header with the new length at
-    /// `to`, and changes the address in the proxy. The caller clears or fills the old slot.
+    /// Copies the bytes that the resize `x` keeps to the slot at the address `to`, and clears their
+    /// words in the old slot. Then writes a header with the new length at `to`, and changes the
+    /// address in the proxy. The caller clears or fills the old slot.
     fn copy_to_slot<A: Mapping>(&mut self, x: Change, to: u32, steps: &mut Steps)
         requires laid { FitTable A.kind self.old.blocks self.old.region }
         requires live { IsSome (map.get self.old.proxies.places x.handle.0) }

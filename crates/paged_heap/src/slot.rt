@@ -14,7 +14,8 @@ use step_ledger::Steps;
 use virtual_words::Mapping;
 
 impl OpenHeap {
-    /// With pages, the words of an object's slot; none if the handle is not live.
+    /// With pages, the number of words of an object's slot; none if the handle is not live. Costs
+    /// three steps moving, four non-moving; one if not live.
     pub fn slot_words<A: Mapping>(&self, h: Handle, steps: &mut Steps) -> Option<u32>
         requires { Holds A.kind self.now }
         ensures value { result ≡ option_map (slot_in A.kind (state_at A.kind self.now)) (map.get (state_at A.kind self.now).held h.0) }

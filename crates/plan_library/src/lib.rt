@@ -1,6 +1,6 @@
-//! The proved functions that `tools/plan` calls: a static library for ctypes. The tool finds the pages that a program
-//! needs, and these functions test them, so the tool need not be trusted. `in_blocks` says which slots: with false those of
-//! the moving manager, with true those of the non-moving one.
+//! The proved functions that `tools/plan` calls: a static library for ctypes. `plan_pages_needed` computes the pages
+//! that a program needs; the others test numbers that the tool finds, so the tool need not be trusted. `in_blocks`
+//! says which slots: with false those of the moving manager, with true those of the non-moving one.
 #![tactic(auto)]
 
 ghost use Rattle.std.specs.Prelude.{ℕ, ◌≡◌, ◌+◌, ◌/◌, ◌<◌, ◌≤◌, ◌↔◌, All, IsTrue, None, false, length, slice_index};
@@ -25,8 +25,8 @@ use sizing::{
 };
 
 /// Writes into `pages` the least number of pages with which no call of a program is refused for space while it keeps to its
-/// needs (`pages_needed`). False only if there are more than 64 entries, the bytes of a page are out of range, an object is
-/// larger than a page, or more objects are declared than a heap may have (`fault`).
+/// needs (`pages_needed`). Returns false only if there are more than 64 entries, the bytes of a page are out of range, an
+/// object is larger than a page, or more than 65,536 objects are declared (`fault`).
 #[unsafe(no_mangle)]
 pub extern "C" fn plan_pages_needed(
     page_bytes: u32,
@@ -52,8 +52,10 @@ pub extern "C" fn plan_pages_needed(
     }
 }
 
-/// Whether the points are a certificate for `pages` pages of `page_bytes` bytes and these bounds and modes
-/// (`is_certified`): then the pages are enough, for resizes too if the program `resizes`.
+/// Whether the lists of pages in `points` are a certificate for `pages` pages of `page_bytes` bytes and these bounds
+/// and modes and, if the program `resizes`, for its resizes (`is_certified`). Then, if it never resizes an object to
+/// another length of its class, no malloc is refused for space (`mallocs`), and with one page more no resize
+/// (`spare`). If it `resizes`, no malloc and no resize is (`resizes`).
 #[unsafe(no_mangle)]
 pub extern "C" fn plan_is_certified(
     pages: u32,
@@ -86,8 +88,9 @@ pub extern "C" fn plan_is_certified(
     )
 }
 
-/// Whether the levels show that `pages` pages of `page_bytes` bytes are enough for a budget with these bounds, if an object of each
-/// class costs at least its price (`are_budget_levels`).
+/// Whether the levels, one of each class, show that `pages` pages of `page_bytes` bytes are enough for a budget with
+/// these bounds, if an object of each class costs at least its price (`are_budget_levels`). With one page more they
+/// are enough for resizes too (`resizes`). False unless there is one bound, price and level for each class.
 #[unsafe(no_mangle)]
 pub extern "C" fn plan_are_budget_levels(
     pages: u32,
@@ -123,8 +126,10 @@ pub extern "C" fn plan_are_budget_levels(
     )
 }
 
-/// Whether the levels and the pages `opened` of each class are a certificate that `pages` pages of `page_bytes` bytes are the least for
-/// a budget, if every bound is 1 and an object of each class costs at least its price (`is_budget_certificate`).
+/// Whether the levels and the pages `opened` of each class are a certificate that `pages` pages of `page_bytes` bytes
+/// are the least for a budget, if every bound is 1 and an object of each class costs at least its price
+/// (`is_budget_certificate`). With one page more no resize is refused either (`resizes`). False unless each class has
+/// a price, a level and a number of opened pages.
 #[unsafe(no_mangle)]
 pub extern "C" fn plan_is_budget_certified(
     pages: u32,
@@ -162,7 +167,7 @@ pub extern "C" fn plan_is_budget_certified(
     )
 }
 
-/// For `tools/plan`, the layout of the slots.
+/// For `tools/plan`, the layout of the slots: `Blocks` if `in_blocks`, else `Words`.
 fn slots_if(in_blocks: bool) -> Layout
     ensures { result ≡ layout_if in_blocks }
 {

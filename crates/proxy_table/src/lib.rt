@@ -85,7 +85,7 @@ impl ProxyTable {
         self.left == 0
     }
 
-    /// Returns the address of the table's number `h`; none if it isn't live. Costs one step.
+    /// Returns the address of the table's number `h`; none if `h` isn't live. Costs one step.
     pub fn lookup(&self, h: Handle, steps: &mut Steps) -> Option<u32>
         ensures found { result ≡ map.get self.now.places h.0 }
         ensures kept { AreBelowLimit self.now }
@@ -149,14 +149,15 @@ impl ProxyTable {
     }
 }
 
-/// Returns a list of `n` proxy entries without an address.
+/// Returns a list of `n` proxy entries without an address. Fails if the allocation fails.
 fn vacancies(alloc: Global, n: u32) -> Result<Vec<Option<u32>>, AllocError>
     ensures { IfOk result (λ places. places.items ≡ vacant n) }
 {
     vec![in alloc; None; n as usize]
 }
 
-/// For a proxy table, returns the numbers below `n`, the greatest first.
+/// For a proxy table, returns the numbers below `n`, the greatest first. Fails if the allocation
+/// fails.
 fn falling(alloc: Global, n: u32) -> Result<Vec<u32>, AllocError>
     ensures { IfOk result (λ numbers. IsFalling n numbers.items) }
 {

@@ -1,7 +1,7 @@
 -- For `figures`: the figures of a class of a task (a slot's words, a page's slots, live objects, pages, partly full pages) that the code returns are those of
 -- the task's objects.
 use Rattle.std.proofs.Common.{◌≡◌, ℕ, ◌+◌, ◌<◌, ◌≤◌, length, get_or, arith, refl, sym, ◌∙◌, ap}
-use Rattle.cf_base.specs.declared.answers.Figures.{Figures}
+use Rattle.cf_base.specs.declared.results.Figures.{Figures}
 use Rattle.class_lists.specs.PageLists.{pages_in}
 use Rattle.class_lists.specs.declared.Which.TheVariants.{Full, NotFull}
 use Rattle.page_model.specs.Arrangement.{pages_of_class, live, not_full_pages}

@@ -8,8 +8,8 @@ use Rattle.std.proofs.lemmas.Option.{slice_get_within}
 use Rattle.std.specs.Ordering.{nat_cmp}
 use Rattle.std.specs.FinMap.{FinMap, empty, get, insert, remove}
 use Rattle.cf_base.specs.Settings.{profile_of}
-use Rattle.cf_base.specs.declared.answers.Freed.{Freed}
-use Rattle.cf_base.specs.declared.answers.Handle.{Handle}
+use Rattle.cf_base.specs.declared.results.Freed.{Freed}
+use Rattle.cf_base.specs.declared.results.Handle.{Handle}
 use Rattle.cf_base.proofs.MapValues.{map_values-insert, map_values-remove}
 use Rattle.cf_base.proofs.Maps.{some_removed}
 use Rattle.cf_model.specs.Steps.{number_of}

@@ -4,7 +4,7 @@ use Rattle.std.specs.Prelude.{nat_eq, option_map}
 use Rattle.std.proofs.lemmas.List.{length-set}
 use Rattle.std.specs.FinMap.{get, remove}
 use Rattle.cf_base.specs.Settings.{profile_of}
-use Rattle.cf_base.specs.declared.answers.Freed.{Freed}
+use Rattle.cf_base.specs.declared.results.Freed.{Freed}
 use Rattle.cf_base.proofs.Ranges.{one}
 use Rattle.cf_base.proofs.Tests.{eq_yes}
 use Rattle.cf_base.proofs.Tallies.{counted_out}

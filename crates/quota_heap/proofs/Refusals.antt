@@ -9,8 +9,8 @@ use Rattle.std.proofs.lemmas.List.Sums.{sum_by-cons}
 use Rattle.std.specs.FinMap.{len}
 use Rattle.cf_base.specs.Classes.{need}
 use Rattle.cf_base.specs.Settings.{profile_of}
-use Rattle.cf_base.specs.declared.answers.Refusal.{Refusal}
-use Rattle.cf_base.specs.declared.answers.Refusal.TheVariants.{Proxy, Size, Space}
+use Rattle.cf_base.specs.declared.results.Refusal.{Refusal}
+use Rattle.cf_base.specs.declared.results.Refusal.TheVariants.{Proxy, Size, Space}
 use Rattle.cf_base.proofs.Tests.{eq_no, eq_yes, lt_no, lt_yes}
 use Rattle.class_lists.specs.PageLists.{pages_in}
 use Rattle.class_lists.specs.declared.Which.TheVariants.{NotFull}

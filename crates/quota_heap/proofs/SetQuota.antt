@@ -14,8 +14,8 @@ use Rattle.page_model.specs.Bytes.{held_at}
 use Rattle.quota_model.specs.Joined.{joined_places}
 use Rattle.quota_model.specs.Refusals.{quota_refusal}
 use Rattle.quota_model.specs.Shared.{AreQuotas, IsShared}
-use Rattle.quota_model.specs.declared.answers.QuotaFault.{QuotaFault}
-use Rattle.quota_model.specs.declared.answers.QuotaFault.TheVariants.{Sum, Used}
+use Rattle.quota_model.specs.declared.results.QuotaFault.{QuotaFault}
+use Rattle.quota_model.specs.declared.results.QuotaFault.TheVariants.{Sum, Used}
 use Rattle.quota_model.proofs.CallerLemmas.{granted_quotas}
 use Rattle.page_model.specs.Image.{IsSlotImage}
 use Rattle.page_slots.specs.Tables.{AreOthers, tables}

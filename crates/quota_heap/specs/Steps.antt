@@ -1,13 +1,13 @@
 -- What each call of a task, by its result, does to the state of the heap that tasks share: `old` is the state before the call, `new` after it.
 use Rattle.std.specs.Prelude.{◌≡◌, ℕ, ◌+◌, ◌<◌, ◌≤◌, List, Option, Some, None, Result, Ok, Err, length, option_map, take, drop, if◌then◌else◌, nat_lt, slice_set}
 use Rattle.std.specs.FinMap.{get, insert}
-use Rattle.cf_base.specs.declared.answers.AccessFault.{AccessFault}
-use Rattle.cf_base.specs.declared.answers.AccessFault.TheVariants.{Unknown, Range}
-use Rattle.cf_base.specs.declared.answers.Figures.{Figures}
-use Rattle.cf_base.specs.declared.answers.Freed.{Freed}
-use Rattle.cf_base.specs.declared.answers.Handle.{Handle}
-use Rattle.cf_base.specs.declared.answers.NotLive.{NotLive}
-use Rattle.cf_base.specs.declared.answers.Refusal.{Refusal}
+use Rattle.cf_base.specs.declared.results.AccessFault.{AccessFault}
+use Rattle.cf_base.specs.declared.results.AccessFault.TheVariants.{Unknown, Range}
+use Rattle.cf_base.specs.declared.results.Figures.{Figures}
+use Rattle.cf_base.specs.declared.results.Freed.{Freed}
+use Rattle.cf_base.specs.declared.results.Handle.{Handle}
+use Rattle.cf_base.specs.declared.results.NotLive.{NotLive}
+use Rattle.cf_base.specs.declared.results.Refusal.{Refusal}
 use Rattle.cf_model.specs.Steps.{Position, number_of}
 use Rattle.page_model.specs.Bytes.{written}
 use Rattle.page_model.specs.Figures.{figures_of}
@@ -18,7 +18,7 @@ use Rattle.page_model.specs.Steps.{Request}
 use Rattle.quota_model.specs.Parts.{key_of}
 use Rattle.quota_model.specs.Refusals.{malloc_refusal, quota_refusal, task_paging}
 use Rattle.quota_model.specs.Shared.{PlacesForTask, RemovesForTask}
-use Rattle.quota_model.specs.declared.answers.QuotaFault.{QuotaFault}
+use Rattle.quota_model.specs.declared.results.QuotaFault.{QuotaFault}
 use Rattle.quota_heap.specs.State.{QuotaState, held_by, objects_by, quota_of}
 
 -- the state s with the objects m and these words in place of its own

@@ -15,9 +15,10 @@ use step_ledger::Steps;
 use virtual_words::Direct;
 
 impl SharedPages {
-    /// Frees object `h` of `task`, task number `t`; `x` is the object's address, length and class. If its
-    /// page was full and the task has a partly full page of the class, the object at the lowest used slot of
-    /// the first such page moves to the freed slot. Returns the words of the slot, and which object moved.
+    /// In `SharedPages`, frees object `h` of `task`, task number `t`; `x` is the object's address,
+    /// length and class. If its page was full and the task has a partly full page of the class, the
+    /// object at the lowest used slot of that page moves to the freed slot; else the slot is
+    /// cleared. Returns the number of words of the slot, and which object moved.
     pub(crate) fn free_inner(
         &mut self,
         task: &mut Task,

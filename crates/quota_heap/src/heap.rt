@@ -1,5 +1,5 @@
-//! `QuotaHeap`, the heap that sixteen tasks share, closed or open, with its public calls: quotas, malloc, free, read,
-//! write, lengths, figures and `peek`. `OpenTasks` does all the work.
+//! `QuotaHeap`, the heap that sixteen tasks share, closed or open, with its public calls.
+//! `OpenTasks` does all the work.
 ghost use Rattle.std.specs.Prelude.{◌≡◌, ◌+◌, ◌^◌, ◌<◌, ◌≤◌, IsTrue, IfErr, IfOk, length, slice_get, sum};
 ghost use Rattle.std.specs.FinMap.{len};
 ghost use Rattle.step_ledger.specs.Counting.{RoseAtMost, RoseBy};
@@ -20,10 +20,10 @@ use std::alloc::Global;
 use std::marker::Model;
 use step_ledger::Steps;
 
-/// A heap of sixteen tasks, numbered from 0 to 15, each with a quota of pages. All calls but `closed`,
-/// `open_heap` and `is_open` need an open heap. A call adds its steps to the ledger `steps`, which must
-/// have counted at most 2^63 before. `inner` is none while the heap is closed, and `alloc` is where open
-/// heaps allocate.
+/// A heap of sixteen tasks, numbered from 0 to 15, each with a quota of pages. All calls but
+/// `closed`, `bytes_needed`, `open_heap` and `is_open` need an open heap. A call with a parameter
+/// `steps` adds its steps to this ledger, which must have counted at most 2^63 before. `inner` is
+/// none while the heap is closed, and `alloc` is where open heaps allocate.
 #[derive(Drop)]
 pub struct QuotaHeap {
     alloc: Global,
@@ -106,7 +106,8 @@ impl QuotaHeap {
         }
     }
 
-    /// `QuotaHeap`: the number of pages that hold objects of a task; it is at most the task's quota.
+    /// `QuotaHeap`: the number of pages that hold objects of a task: as few as they need, and at
+    /// most the task's quota.
     pub fn pages(&self, task: u32) -> u32
         requires opened { IsTrue self.now.is_open }
         requires sixteen { task < 16 }
@@ -158,10 +159,11 @@ impl QuotaHeap {
         }
     }
 
-    /// `QuotaHeap`: makes an object of `bytes` bytes, all zero, for a task, under a handle that was not live in this
-    /// task. If it fails, nothing changes. The causes, tested in this order: `Size`, the object is larger than a page;
-    /// `Proxy`, the task's proxies are all in use; `Space`, the task's objects with this one need more pages than its
-    /// quota.
+    /// `QuotaHeap`: makes an object of `bytes` bytes, all zero, for a task, under a handle that was
+    /// not live in this task. If it fails, nothing changes. The causes, tested in this order:
+    /// `Size`, the object needs more than a page; `Proxy`, the task's proxies are all in use;
+    /// `Space`, the task's objects with this one need more pages than its quota. Costs at most 17
+    /// steps; one if it fails.
     pub fn malloc(&mut self, task: u32, bytes: u32, steps: &mut Steps) -> Result<Handle, Refusal>
         requires opened { IsTrue self.old.is_open }
         requires sixteen { task < 16 }
@@ -177,9 +179,11 @@ impl QuotaHeap {
         }
     }
 
-    /// `QuotaHeap`: frees object `h` of a task. If its page was full and the task has a partly full page of the same
-    /// class, an object of that page moves to the freed slot. Returns the words of the slot, and which object moved.
-    /// Fails, with nothing changed, if the handle is not live in this task.
+    /// `QuotaHeap`: frees object `h` of a task. If its page was full and the task has a partly full
+    /// page of the same class, an object of that page moves to the freed slot. Returns the number
+    /// of words of the slot, and the handle of the object that moved, if one did. Fails, with
+    /// nothing changed, if the handle is not live in this task. Costs at most 20 steps and one for
+    /// each word of the slot; one if it fails.
     pub fn free(&mut self, task: u32, h: Handle, steps: &mut Steps) -> Result<Freed, NotLive>
         requires opened { IsTrue self.old.is_open }
         requires sixteen { task < 16 }
@@ -195,8 +199,10 @@ impl QuotaHeap {
         }
     }
 
-    /// `QuotaHeap`: writes `bytes` into object `h` of a task from byte `at` on. Fails, with nothing changed, with
-    /// `Unknown` if the handle is not live in this task, else with `Range` if the bytes pass the object's end.
+    /// `QuotaHeap`: writes `bytes` into object `h` of a task from byte `at` on. Fails, with nothing
+    /// changed, with `Unknown` if the handle is not live in this task, else with `Range` if the
+    /// bytes pass the object's end. Costs two steps, and one for each word that holds one of the
+    /// bytes; if it fails, one (`Unknown`) or two.
     pub fn write(
         &mut self,
         task: u32,
@@ -218,9 +224,10 @@ impl QuotaHeap {
         }
     }
 
-    /// `QuotaHeap`: fills `out` with the bytes of object `h` of a task from byte `at` on. Fails, with `out` unchanged,
-    /// with `Unknown` if the handle is not live in this task, else with `Range` if `out` is longer than the object's
-    /// bytes from byte `at` on.
+    /// `QuotaHeap`: fills `out` with the bytes of object `h` of a task from byte `at` on. Fails,
+    /// with `out` unchanged, with `Unknown` if the handle is not live in this task, else with
+    /// `Range` if `out` is longer than the object's bytes from byte `at` on. Costs two steps, and
+    /// one for each word that holds one of the bytes; if it fails, one (`Unknown`) or two.
     pub fn read(
         &self,
         task: u32,
@@ -241,7 +248,8 @@ impl QuotaHeap {
         }
     }
 
-    /// `QuotaHeap`: the length of object `h` of a task in bytes. `None` if the handle is not live in this task.
+    /// `QuotaHeap`: the length of object `h` of a task in bytes. `None` if the handle is not live
+    /// in this task. Costs two steps; one if not live.
     pub fn length(&self, task: u32, h: Handle, steps: &mut Steps) -> Option<u32>
         requires opened { IsTrue self.now.is_open }
         requires sixteen { task < 16 }
@@ -255,8 +263,9 @@ impl QuotaHeap {
         }
     }
 
-    /// In a `QuotaHeap`, the figures of class `c` of a task: the slot's words, the slots of a page, and how many live
-    /// objects, pages and partly full pages of the class the task has. `None` if the heap has no such class.
+    /// In a `QuotaHeap`, the figures of class `c` of a task: the words of a slot, the slots of a
+    /// page, and how many live objects, pages and partly full pages of the class the task has.
+    /// `None` if the heap has no such class.
     pub fn figures(&self, task: u32, c: u32) -> Option<Figures>
         requires opened { IsTrue self.now.is_open }
         requires sixteen { task < 16 }
@@ -268,7 +277,8 @@ impl QuotaHeap {
         }
     }
 
-    /// `QuotaHeap`: returns the word of the tasks' region with the number `word`, or `None` past the region's end.
+    /// `QuotaHeap`: returns the word of the tasks' region with the number `word`, or `None` past
+    /// the region's end. Costs one step; none past the end.
     pub fn peek(&self, word: u32, steps: &mut Steps) -> Option<u64>
         requires opened { IsTrue self.now.is_open }
         requires room { steps.old ≤ 2 ^ 63 }

@@ -17,9 +17,10 @@ use region::Header;
 use step_ledger::Steps;
 
 impl SharedPages {
-    /// Makes an object of `bytes` zeros, of class `c`, for task `t`, and returns its handle. The task must
-    /// have a free proxy. It must also have a partly full page of the class, or the pool a free page. The
-    /// header holds `t` and the handle in one number.
+    /// In `SharedPages`, makes an object of `bytes` zeros, of class `c`, for `task`, task number
+    /// `t`, and returns its handle. The task must have a free proxy. There must be a partly full
+    /// page of the class in the task, or a free page in the pool. The header holds `t` and the
+    /// handle in one number.
     pub(crate) fn malloc_inner(
         &mut self,
         task: &mut Task,

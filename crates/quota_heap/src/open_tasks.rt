@@ -41,8 +41,8 @@ pub(crate) struct OpenTasks {
 }
 
 impl OpenTasks {
-    /// Opens a heap of sixteen tasks without objects, whose quotas are 0, with the settings `s`. Of the
-    /// functions of `OpenTasks` it alone allocates. Fails if out of memory.
+    /// Opens a heap of sixteen tasks without objects, whose quotas are 0, with the settings `s`. No
+    /// other function of `OpenTasks` allocates. Fails if out of memory.
     pub(crate) fn new(alloc: Global, s: &Settings) -> Result<OpenTasks, OutOfMemory>
         ensures kept { IfOk result IsValid }
         ensures empty { IfOk result (λ h. tasks_state_of h ≡ empty_state (profile_of s.now)) }
@@ -140,9 +140,11 @@ impl OpenTasks {
         self.granted = granted;
     }
 
-    /// `OpenTasks`: makes an object of `bytes` bytes, all zero, for task `t`, and returns its handle. If it is refused,
-    /// nothing changes. The causes, tested in this order: `Size`, the object is larger than a page; `Proxy`, the task's
-    /// proxies are all in use; `Space`, the task would need more pages than its quota.
+    /// `OpenTasks`: makes an object of `bytes` bytes, all zero, for task `t`, and returns its
+    /// handle. If it is refused, nothing changes. The causes, tested in this order: `Size`, the
+    /// object needs more than a page; `Proxy`, the task's proxies are all in use; `Space`, the task
+    /// would need more pages than its quota. Costs one step if refused, else four and those of
+    /// taking the slot.
     pub(crate) fn malloc(
         &mut self,
         t: u32,
@@ -184,9 +186,11 @@ impl OpenTasks {
         None
     }
 
-    /// `OpenTasks`: frees object `h` of task `t`. If its class would then have two partly full pages, another object of
-    /// the task moves into the slot. Returns the words of the slot, and the handle of the object that moved, if one
-    /// did. Fails, with nothing changed, if the handle is not live in this task.
+    /// `OpenTasks`: frees object `h` of task `t`. If the task would then have two partly full pages
+    /// of the class, another object of the task moves into the slot. Returns the number of words of
+    /// the slot, and the handle of the object that moved, if one did. Fails, with nothing changed,
+    /// if the handle is not live in this task. Costs one step if it fails; else six, one for each
+    /// word of the slot, and those of freeing or filling the slot.
     pub(crate) fn free(&mut self, t: u32, h: Handle, steps: &mut Steps) -> Result<Freed, NotLive>
         requires kept { IsValid self.old }
         requires sixteen { t < 16 }
@@ -201,8 +205,8 @@ impl OpenTasks {
         Ok(self.shared_pages.free_inner(owner, t, h, x, steps))
     }
 
-    /// In `OpenTasks`, looks up object `h` of task `t`: its address, length and class. `None` if the handle is not live
-    /// in this task.
+    /// In `OpenTasks`, looks up object `h` of task `t`: its address, length and class. `None` if
+    /// the handle is not live in this task. Costs three steps; one if not live.
     fn object(&self, t: u32, h: Handle, steps: &mut Steps) -> Option<Found>
         requires kept { IsValid self.now }
         requires sixteen { t < 16 }
@@ -215,7 +219,8 @@ impl OpenTasks {
         self.shared_pages.object(task, h, steps)
     }
 
-    /// `OpenTasks`: the length of object `h` of task `t` in bytes. `None` if the handle is not live in this task.
+    /// `OpenTasks`: the length of object `h` of task `t` in bytes. `None` if the handle is not live
+    /// in this task. Costs two steps; one if not live.
     pub(crate) fn length(&self, t: u32, h: Handle, steps: &mut Steps) -> Option<u32>
         requires kept { IsValid self.now }
         requires sixteen { t < 16 }
@@ -226,8 +231,9 @@ impl OpenTasks {
         self.shared_pages.length(task, h, steps)
     }
 
-    /// `OpenTasks`: returns the address of object `h` of task `t`. Fails with `Unknown` if the handle is not live in
-    /// this task, and with `Range` if the object has fewer than `count` bytes from byte `at` on.
+    /// `OpenTasks`: returns the address of object `h` of task `t`. Fails with `Unknown` if the
+    /// handle is not live in this task, else with `Range` if the object has fewer than `count`
+    /// bytes from byte `at` on. Costs two steps; one at `Unknown`.
     fn find(
         &self,
         t: u32,
@@ -245,8 +251,10 @@ impl OpenTasks {
         self.shared_pages.find(task, h, at, count, steps)
     }
 
-    /// `OpenTasks`: writes `bytes` into object `h` of task `t` from byte `at` on. Fails as `find` does, with nothing
-    /// changed.
+    /// `OpenTasks`: writes `bytes` into object `h` of task `t` from byte `at` on. Fails, with
+    /// nothing changed, with `Unknown` if the handle is not live in this task, else with `Range` if
+    /// the bytes pass the object's end. Costs two steps, and one for each word that holds one of
+    /// the bytes; if it fails, one (`Unknown`) or two.
     pub(crate) fn write(
         &mut self,
         t: u32,
@@ -273,8 +281,10 @@ impl OpenTasks {
         Ok(())
     }
 
-    /// `OpenTasks`: fills `out` with the bytes of object `h` of task `t` from byte `at` on. Fails as `find` does, with
-    /// `out` unchanged.
+    /// `OpenTasks`: fills `out` with the bytes of object `h` of task `t` from byte `at` on. Fails,
+    /// with `out` unchanged, with `Unknown` if the handle is not live in this task, else with
+    /// `Range` if the bytes pass the object's end. Costs two steps, and one for each word that
+    /// holds one of the bytes; if it fails, one (`Unknown`) or two.
     pub(crate) fn read(
         &self,
         t: u32,
@@ -300,7 +310,9 @@ impl OpenTasks {
         Ok(())
     }
 
-    /// `OpenTasks`: the figures of class `c` of task `t`; `None` if the heap has no such class.
+    /// `OpenTasks`: the figures of class `c` of task `t`: the words of a slot, the slots of a page,
+    /// and the task's live objects, pages and partly full pages of the class. `None` if the heap
+    /// has no such class.
     pub(crate) fn figures(&self, t: u32, c: u32) -> Option<Figures>
         requires kept { IsValid self.now }
         requires sixteen { t < 16 }
@@ -332,8 +344,8 @@ impl OpenTasks {
         }
     }
 
-    /// `OpenTasks`: returns the word of the region with the number `word`, or `None` past the region's
-    /// end.
+    /// `OpenTasks`: returns the word of the region with the number `word`, or `None` past the
+    /// region's end. Costs one step; none past the end.
     pub(crate) fn peek(&self, word: u32, steps: &mut Steps) -> Option<u64>
         ensures value { result ≡ slice_get self.now.shared_pages.region word }
         ensures steps { RoseBy steps.old steps.new (task_peek_steps result) }

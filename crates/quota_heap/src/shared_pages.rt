@@ -16,8 +16,8 @@ use region::{Header, Region};
 use std::alloc::Global;
 use step_ledger::Steps;
 
-/// The settings, the words of the region, and in `tables` the size classes, the used slots of each page, and
-/// the pool. Pages that no task uses are in the pool.
+/// The settings, the words of the region, and in `tables` the size classes, the used slots of each
+/// page, and the pool: the pages that no task uses.
 #[derive(Drop)]
 pub(crate) struct SharedPages {
     pub(crate) settings: Settings,
@@ -46,8 +46,8 @@ impl SharedPages {
         })
     }
 
-    /// In `SharedPages`, looks up object `h` of a task: its address, length and class. `None` if the handle is not live
-    /// in this task.
+    /// In `SharedPages`, looks up object `h` of a task: its address, length and class. `None` if
+    /// the handle is not live in this task. Costs three steps; one if not live.
     pub(crate) fn object(&self, task: &Task, h: Handle, steps: &mut Steps) -> Option<Found>
         requires shared_pages { ArePages self.now }
         requires kept { (t : ℕ) × IsTask self.now t task.now }
@@ -69,7 +69,8 @@ impl SharedPages {
         })
     }
 
-    /// `SharedPages`: the length of object `h` of a task in bytes. `None` if the handle is not live in this task.
+    /// `SharedPages`: the length of object `h` of a task in bytes. `None` if the handle is not live
+    /// in this task. Costs two steps; one if not live.
     pub(crate) fn length(&self, task: &Task, h: Handle, steps: &mut Steps) -> Option<u32>
         requires shared_pages { ArePages self.now }
         requires kept { (t : ℕ) × IsTask self.now t task.now }
@@ -82,8 +83,9 @@ impl SharedPages {
         Some(Header::unpack(self.region.read(place, steps)).length)
     }
 
-    /// `SharedPages`: returns the address of object `h` of a task. Fails with `Unknown` if the handle is not live in
-    /// this task, and with `Range` if the object has fewer than `count` bytes from byte `at` on.
+    /// `SharedPages`: returns the address of object `h` of a task. Fails with `Unknown` if the
+    /// handle is not live in this task, else with `Range` if the object has fewer than `count`
+    /// bytes from byte `at` on. Costs two steps; one at `Unknown`.
     pub(crate) fn find(
         &self,
         task: &Task,

@@ -12,9 +12,9 @@ use Rattle.page_model.specs.Paging.{Paging, class_for}
 use Rattle.quota_model.specs.Admission.{CanBeAsked, IsAdmission, IsEnough, Share, count_of_class, first_large, first_refused_for_space}
 use Rattle.quota_model.specs.Admission.{in_order, live_of, mallocs, pages_needed_by}
 use Rattle.quota_model.specs.Refusals.{task_paging}
-use Rattle.quota_model.specs.declared.answers.Admission.{Admission}
-use Rattle.quota_model.specs.declared.answers.Admission.TheVariants.{Yes, No, Size, Proxies}
-use Rattle.quota_model.specs.declared.answers.Need.{Need}
+use Rattle.quota_model.specs.declared.results.Admission.{Admission}
+use Rattle.quota_model.specs.declared.results.Admission.TheVariants.{Yes, No, Size, Proxies}
+use Rattle.quota_model.specs.declared.results.Need.{Need}
 use Rattle.quota_model.proofs.Ceilings.{count-cons, pages_grow, pages_of_none}
 use Rattle.quota_model.proofs.Declared.{all_fit, declared_is, length-in_order}
 use Rattle.quota_model.proofs.EnoughPages.{is_enough}

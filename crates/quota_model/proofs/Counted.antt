@@ -16,7 +16,7 @@ use Rattle.page_model.specs.Paging.{Paging, class_for, classes, slots_of}
 use Rattle.page_model.proofs.CallerLemmas.{class_fits}
 use Rattle.quota_model.specs.Admission.{CanBeAsked, IsEnough, Share, count_of_class, first_refused_for_space, in_order, pages_needed_by}
 use Rattle.quota_model.specs.Refusals.{task_paging}
-use Rattle.quota_model.specs.declared.answers.Need.{Need}
+use Rattle.quota_model.specs.declared.results.Need.{Need}
 use Rattle.quota_model.proofs.CallerLemmas.{all_fail, enough_iff, length-in_order, pages_of_none, some_iff, zeros}
 use Rattle.quota_model.specs.Layout.{AreTallied, IsPast}
 use Rattle.quota_model.proofs.Classes.{tasks_paged}

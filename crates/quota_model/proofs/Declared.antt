@@ -12,7 +12,7 @@ use Rattle.cf_base.specs.Classes.{need}
 use Rattle.cf_base.specs.Settings.{Profile}
 use Rattle.cf_base.proofs.Tests.{lt_yes}
 use Rattle.quota_model.specs.Admission.{declared, declared_in_all, first_large, in_order}
-use Rattle.quota_model.specs.declared.answers.Need.{Need}
+use Rattle.quota_model.specs.declared.results.Need.{Need}
 use Rattle.quota_model.proofs.Ceilings.{count-append}
 use Rattle.quota_model.proofs.Contained.{times}
 

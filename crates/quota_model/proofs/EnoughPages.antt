@@ -7,8 +7,8 @@ use Rattle.std.proofs.lemmas.Bool.{cases_eq, cases_lt, false≢true}
 use Rattle.std.proofs.lemmas.List.{length-map, length-replicate}
 use Rattle.std.specs.FinMap.{empty, entries, get, insert, len, len-entries, remove, values}
 use Rattle.cf_base.specs.Classes.{need}
-use Rattle.cf_base.specs.declared.answers.Refusal.{Refusal}
-use Rattle.cf_base.specs.declared.answers.Refusal.TheVariants as refusal
+use Rattle.cf_base.specs.declared.results.Refusal.{Refusal}
+use Rattle.cf_base.specs.declared.results.Refusal.TheVariants as refusal
 use Rattle.cf_base.proofs.Ranges.{one}
 use Rattle.cf_base.proofs.Sums.{sum_by-inserted, sum_by-removed}
 use Rattle.cf_base.proofs.Tests.{eq_yes, eq_no, lt_no, lt_yes}
@@ -19,7 +19,7 @@ use Rattle.page_model.specs.Paging.{class_for}
 use Rattle.quota_model.specs.Admission.{CallsAreWithin, Call, CanBeAsked, IsEnough, IsRefusedForSpace, IsWithin, MeetsRefusalForSpace, Share, objects_left, asks, count_of_class, declared, frees, granted}
 use Rattle.quota_model.specs.Admission.{in_order, live_of, pages_needed_by}
 use Rattle.quota_model.specs.Refusals.{malloc_refusal, task_paging}
-use Rattle.quota_model.specs.declared.answers.Need.{Need}
+use Rattle.quota_model.specs.declared.results.Need.{Need}
 use Rattle.quota_model.proofs.Ceilings.{count-cons, pages_grow}
 use Rattle.quota_model.proofs.Contained.{contained, times}
 use Rattle.quota_model.proofs.Declared.{AllFit, all_fit, declared_is, length-in_order}

@@ -13,7 +13,7 @@ use Rattle.page_model.specs.Counts.{ceil_div}
 use Rattle.page_model.specs.Paging.{Paging, IsPaging, class_for, classes, slots_of}
 use Rattle.page_model.proofs.CallerLemmas.{class_fits}
 use Rattle.quota_model.specs.Admission.{count_of_class, in_order, pages_needed_by}
-use Rattle.quota_model.specs.declared.answers.Need.{Need}
+use Rattle.quota_model.specs.declared.results.Need.{Need}
 use Rattle.quota_model.proofs.CallerLemmas.{count-append}
 
 module _ (p : Paging) (ok : IsPaging p) (n : ℕ) (fits : need n ≤ p.page_words) (pre : List ℕ) where

@@ -7,8 +7,8 @@ use Rattle.std.proofs.lemmas.Bool.{cases_lt}
 use Rattle.std.proofs.lemmas.List.{append-nil, append_assoc, length-replicate}
 use Rattle.std.specs.FinMap.{get, insert, len, values}
 use Rattle.cf_base.specs.Classes.{need}
-use Rattle.cf_base.specs.declared.answers.Refusal.{Refusal}
-use Rattle.cf_base.specs.declared.answers.Refusal.TheVariants as refusal
+use Rattle.cf_base.specs.declared.results.Refusal.{Refusal}
+use Rattle.cf_base.specs.declared.results.Refusal.TheVariants as refusal
 use Rattle.cf_base.proofs.Maps.{get_insert_other, len_fresh}
 use Rattle.cf_base.proofs.Ranges.{one}
 use Rattle.cf_base.proofs.Sums.{sum_by-inserted}
@@ -19,7 +19,7 @@ use Rattle.page_model.specs.Paging.{Paging, class_for}
 use Rattle.quota_model.specs.Admission.{CallsAreWithin, MeetsRefusalForSpace, Share, count_of_class, declared, first_refused_for_space, granted, is_short, live_of, mallocs}
 use Rattle.quota_model.specs.Admission.{pages_needed_by}
 use Rattle.quota_model.specs.Refusals.{malloc_refusal, task_paging}
-use Rattle.quota_model.specs.declared.answers.Need.{Need}
+use Rattle.quota_model.specs.declared.results.Need.{Need}
 use Rattle.quota_model.proofs.Ceilings.{count-append, count-cons, pages_same}
 use Rattle.quota_model.proofs.Contained.{times}
 use Rattle.quota_model.proofs.Declared.{AllFit}

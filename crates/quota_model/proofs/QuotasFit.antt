@@ -19,7 +19,7 @@ use Rattle.page_model.proofs.CallerLemmas.{sound_empty}
 use Rattle.quota_model.specs.Parts.{key_of, objects_of_task}
 use Rattle.quota_model.specs.Refusals.{quota_refusal, task_paging}
 use Rattle.quota_model.specs.Shared.{AreQuotas, IsShared}
-use Rattle.quota_model.specs.declared.answers.QuotaFault.TheVariants.{Sum, Used}
+use Rattle.quota_model.specs.declared.results.QuotaFault.TheVariants.{Sum, Used}
 use Rattle.quota_model.proofs.Ceilings.{pages_of_none, pages_same}
 use Rattle.quota_model.proofs.TaskParts.{get_part, get_part_past}
 

@@ -6,15 +6,15 @@ use Rattle.std.specs.Prelude.{position, replicate, sum_by}
 use Rattle.std.specs.FinMap.{empty, get, insert, remove, values}
 use Rattle.cf_base.specs.Classes.{need}
 use Rattle.cf_base.specs.Settings.{Profile}
-use Rattle.cf_base.specs.declared.answers.Refusal.{Refusal}
-use Rattle.cf_base.specs.declared.answers.Refusal.TheVariants as refusal
+use Rattle.cf_base.specs.declared.results.Refusal.{Refusal}
+use Rattle.cf_base.specs.declared.results.Refusal.TheVariants as refusal
 use Rattle.page_model.specs.Arrangement.{pages_for}
 use Rattle.page_model.specs.Held.{Objects}
 use Rattle.page_model.specs.Paging.{Paging, class_for}
 use Rattle.quota_model.specs.Refusals.{malloc_refusal}
-use Rattle.quota_model.specs.declared.answers.Admission.{Admission}
-use Rattle.quota_model.specs.declared.answers.Admission.TheVariants.{Yes, No, Size, Proxies}
-use Rattle.quota_model.specs.declared.answers.Need.{Need}
+use Rattle.quota_model.specs.declared.results.Admission.{Admission}
+use Rattle.quota_model.specs.declared.results.Admission.TheVariants.{Yes, No, Size, Proxies}
+use Rattle.quota_model.specs.declared.results.Need.{Need}
 
 -- a task's share of the region: the settings of the region, and the task's quota in pages
 pub record Share : Type 0 where

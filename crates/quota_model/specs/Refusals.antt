@@ -3,14 +3,14 @@ use Rattle.std.specs.Prelude.{ℕ, List, Option, Some, None, if◌then◌else◌
 use Rattle.std.specs.FinMap.{len}
 use Rattle.cf_base.specs.Classes.{need}
 use Rattle.cf_base.specs.Settings.{Profile}
-use Rattle.cf_base.specs.declared.answers.Refusal.{Refusal}
-use Rattle.cf_base.specs.declared.answers.Refusal.TheVariants.{Size, Proxy, Space}
+use Rattle.cf_base.specs.declared.results.Refusal.{Refusal}
+use Rattle.cf_base.specs.declared.results.Refusal.TheVariants.{Size, Proxy, Space}
 use Rattle.cf_base.specs.declared.kind.Layout.TheVariants.{Words}
 use Rattle.page_model.specs.Arrangement.{pages_needed, pages_needed_with}
 use Rattle.page_model.specs.Held.{Objects}
 use Rattle.page_model.specs.Paging.{Paging, first_bounds, paging_of}
-use Rattle.quota_model.specs.declared.answers.QuotaFault.{QuotaFault}
-use Rattle.quota_model.specs.declared.answers.QuotaFault.TheVariants.{Sum, Used}
+use Rattle.quota_model.specs.declared.results.QuotaFault.{QuotaFault}
+use Rattle.quota_model.specs.declared.results.QuotaFault.TheVariants.{Sum, Used}
 
 -- the pages and classes of the region as each task sees them: every class has bound 1, whatever bound the settings have
 abbrev pub task_paging : Profile → Paging

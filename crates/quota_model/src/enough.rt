@@ -1,4 +1,4 @@
-//! The test whether a quota of pages is enough for the objects that a task declares, its `needs`.
+//! Admission: the test whether a quota of pages is enough for the objects that a task declares, its `needs`.
 ghost use Rattle.std.specs.Prelude.{◌≡◌, ◌+◌, ◌-◌, ◌^◌, ◌≤◌, ◌<◌, IfErr, IfOk, Some, length, nat_lt, position};
 ghost use Rattle.std.specs.FinMap.{empty};
 ghost use Rattle.cf_base.specs.Classes.{need, sizes};
@@ -14,13 +14,13 @@ use crate::{Admission, Need};
 use cf_base::{Layout, Settings, need_of};
 
 /// Tests whether `quota` pages are enough for a task with the settings `s` that declares `needs`:
-/// for each length, how many objects of that length it has at most at one time. Entries of the same
-/// length add up.
+/// for each length, how many objects of that length it has at most at one time. There are at most 64
+/// entries; those of the same length add up.
 ///
-/// The result is `Size` if an entry's object is larger than a page, else `Proxies` if the counts
-/// sum to more than the proxies. Else it is `Yes` if no malloc is refused for space as long as the
-/// task keeps to its needs. If one may be, it is `No`: if the declared objects are allocated in
-/// order, malloc number `nth`, counted from 1, is the first that is refused for space.
+/// The result is `Size` with the first entry whose object is larger than a page, if there is one, else
+/// `Proxies` if the counts sum to more than the proxies. Else it is `Yes` if no malloc is refused for
+/// space as long as the task keeps to its needs. If one may be, it is `No`: if the declared objects are
+/// allocated in order, malloc number `nth`, counted from 1, is the first that is refused for space.
 pub fn admit(s: &Settings, quota: u32, needs: &[Need]) -> Admission
     requires few { length needs.now ≤ 64 }
     ensures { IsAdmission (record { profile = profile_of s.now; quota = quota }) needs.now result }
@@ -48,7 +48,7 @@ pub fn first_large(page_words: u32, needs: &[Need]) -> Option<usize>
         .position(|entry| page_words < need_of(entry.bytes))
 }
 
-/// For an admission, the number of objects, of any length, that all entries declare together.
+/// How many objects, of any length, all entries of `needs` declare together.
 pub fn count_in_all(needs: &[Need]) -> u64
     requires few { length needs.now ≤ 64 }
     ensures { result ≡ declared_in_all needs.now }
@@ -56,7 +56,7 @@ pub fn count_in_all(needs: &[Need]) -> u64
     needs.iter().map(|entry| entry.count as u64).sum()
 }
 
-/// For an admission, how many pages, with `slots` slots each, `count` objects need: the quotient, rounded up.
+/// How many pages, with `slots` slots each, `count` objects of one class need: the quotient, rounded up.
 pub fn pages_for(count: u64, slots: u64) -> u64
     requires some { 1 ≤ slots }
     requires few { count + slots < 2 ^ 63 }
@@ -65,9 +65,9 @@ pub fn pages_for(count: u64, slots: u64) -> u64
     (count + (slots - 1)) / slots
 }
 
-/// So far the declared objects of all classes need `pages` pages. One class, with `slots` slots to a page, has `had` of
-/// these objects. Returns how many pages all objects need after `more` objects of that class are added. If that exceeds
-/// `quota` pages, fails with how many of the added objects still fit.
+/// For an admission, returns how many pages all objects need once `more` objects of a class are added. The objects so
+/// far need `pages` pages, and `had` of them are of that class, with `slots` slots to a page. If the pages exceed
+/// `quota`, fails with how many of the added objects still fit.
 fn pages_with(quota: u64, pages: u64, had: u64, more: u64, slots: u64) -> Result<u64, u64>
     requires some { 1 ≤ slots }
     requires low { slots ≤ 4096 }
@@ -101,7 +101,9 @@ fn pages_within(s: &Settings, quota: u32, needs: &[Need]) -> Result<u32, u32>
     count_pages(s, quota, &table[..classes], needs)
 }
 
-/// For an admission, does what `pages_within` does. `slot_sizes` has the words of a slot of each class.
+/// For an admission, counts the pages that all declared objects need, by the words of a slot of each class
+/// (`slot_sizes`). If they exceed `quota`, fails with the number, counted from 1, of the first of their mallocs, in
+/// order, that is refused for space.
 fn count_pages(s: &Settings, quota: u32, slot_sizes: &[u32], needs: &[Need]) -> Result<u32, u32>
     requires sized { slot_sizes.now ≡ sizes s.now.page_words Words }
     requires asked { CanBeAsked (profile_of s.now) needs.now }

@@ -1,9 +1,9 @@
-//! Laws on sixteen tasks on the pages of one region: what is right of an admission, and that a quota can be used.
+//! Laws on sixteen tasks on the pages of one region: the test of a quota has one result, and each quota can be used.
 ghost use Rattle.std.specs.Prelude.{ℕ, ◌≡◌, ◌<◌, List, IsTrue, slice_index};
 ghost use Rattle.quota_model.specs.Admission.{IsAdmission, Share};
 ghost use Rattle.quota_model.specs.Refusals.{task_paging};
-ghost use Rattle.quota_model.specs.declared.answers.Admission.{Admission};
-ghost use Rattle.quota_model.specs.declared.answers.Need.{Need};
+ghost use Rattle.quota_model.specs.declared.results.Admission.{Admission};
+ghost use Rattle.quota_model.specs.declared.results.Need.{Need};
 ghost use Rattle.cf_base.specs.Limits.{is_page_size};
 ghost use Rattle.cf_base.specs.Settings.{Profile};
 ghost use Rattle.page_model.specs.Arrangement.{count_on, used_pages};
@@ -18,8 +18,8 @@ pub fn there_is_one_admission()
         → IsAdmission t needs b → a ≡ b }
 {}
 
-/// While a task uses fewer pages than its quota, some page of the region is free, whatever the
-/// other tasks have done.
+/// While a task uses fewer pages than its quota, some page of the region is free, whatever the other
+/// tasks have done by the rules (`IsShared`, `AreQuotas`).
 pub fn a_page_is_there_for_each_quota()
     ensures { (s : Profile) (quotas : List ℕ) (m : Held) (task : ℕ)
         → IsShared s m → AreQuotas s quotas m → IsTrue (is_page_size s.page_words) → task < 16

@@ -10,11 +10,11 @@ ghost use Rattle.quota_model.specs.Refusals.{task_paging};
 
 use cf_base::{Layout, Settings, class_in};
 
-/// How many classes a page has at most.
+/// The most size classes that a heap has.
 pub const CLASSES: usize = 67;
 
-/// Writes into the fixed `table` the slot sizes, in words, of pages with `page_words` words, in rising order.
-/// Returns how many there are.
+/// Writes into `table`, which has 67 entries, the slot sizes of this layout for pages of `page_words` words: in words,
+/// in rising order. Returns how many there are.
 pub fn fill_sizes(page_words: u32, layout: Layout, table: &mut [u32]) -> usize
     requires room { length table.old ≡ 67 }
     requires page { IsTrue (is_page_size page_words) }
@@ -27,8 +27,8 @@ pub fn fill_sizes(page_words: u32, layout: Layout, table: &mut [u32]) -> usize
     }
 }
 
-/// Does what `fill_sizes` does, by the sizes from `first` up to `page`, each 9/8 of the one before,
-/// rounded up. These are counted in units of `unit` words.
+/// Writes into `table`, in words, the sizes from `first` up to `page`, each 9/8 of the one before, rounded up; the
+/// last is `page`. `first` and `page` count units of `unit` words. Returns how many sizes there are.
 fn fill_rising(unit: u32, first: u32, page: u32, table: &mut [u32]) -> usize
     requires room { length table.old ≡ 67 }
     requires some { 1 ≤ first }
@@ -49,7 +49,7 @@ fn fill_rising(unit: u32, first: u32, page: u32, table: &mut [u32]) -> usize
     count + 1
 }
 
-/// By a fixed table, the class of an object of `bytes` bytes, which must fit a page. `slot_sizes` has the words of a
+/// For `admit`, the class of an object of `bytes` bytes, which must fit a page. `slot_sizes` has the words of a
 /// slot of each class.
 pub(crate) fn class_at(s: &Settings, slot_sizes: &[u32], bytes: u32) -> usize
     requires sized { slot_sizes.now ≡ sizes s.now.page_words Words }
@@ -65,7 +65,7 @@ pub(crate) fn class_at(s: &Settings, slot_sizes: &[u32], bytes: u32) -> usize
     }
 }
 
-/// By a fixed table, how many slots of the class a page has. `slot_sizes` has the words of a slot of each class.
+/// For `admit`, how many slots of the class a page has. `slot_sizes` has the words of a slot of each class.
 pub(crate) fn slots_at(s: &Settings, slot_sizes: &[u32], class: usize) -> u32
     requires sized { slot_sizes.now ≡ sizes s.now.page_words Words }
     requires within { class < length slot_sizes.now }

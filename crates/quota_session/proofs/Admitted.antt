@@ -8,9 +8,9 @@ use Rattle.cf_base.proofs.Tests.{eq_yes, lt_no, lt_yes}
 use Rattle.quota_model.proofs.CallerLemmas.{enough_iff, granted_within, live_of-inserted, none_iff, one_answer}
 use Rattle.quota_model.specs.Admission.{CanBeAsked, IsAdmission, Share, declared, declared_in_all, first_large, first_refused_for_space, in_order, live_of, pages_needed_by}
 use Rattle.quota_model.specs.Refusals.{task_paging}
-use Rattle.quota_model.specs.declared.answers.Admission.{Admission}
-use Rattle.quota_model.specs.declared.answers.Admission.TheVariants.{Yes, No, Size, Proxies}
-use Rattle.quota_model.specs.declared.answers.Need.{Need}
+use Rattle.quota_model.specs.declared.results.Admission.{Admission}
+use Rattle.quota_model.specs.declared.results.Admission.TheVariants.{Yes, No, Size, Proxies}
+use Rattle.quota_model.specs.declared.results.Need.{Need}
 use Rattle.run_model.specs.Replies.{malloc_text}
 use Rattle.script_reader.specs.declared.command.Command.TheVariants as command
 use Rattle.script_laws.specs.RepliesById.{malloc_fault, malloc_said, ok_or}

@@ -5,8 +5,8 @@ use Rattle.std.specs.List.{range_with_len}
 use Rattle.std.proofs.lemmas.Bool.{cases_eq, cases_lt, false≢true}
 use Rattle.run_model.specs.Terms.{AccessFault, class_at, classes, Freed, get, Handle, Held, insert, IsPaging, IsSound, len, need, objects, page_of, Paging, Placed, Profile, Refusal, region_words, Request, slot_words, slots_of, written}
 use Rattle.cf_base.specs.Limits.{is_page_size}
-use Rattle.cf_base.specs.declared.answers.AccessFault.TheVariants as access
-use Rattle.cf_base.specs.declared.answers.Refusal.TheVariants as refusal
+use Rattle.cf_base.specs.declared.results.AccessFault.TheVariants as access
+use Rattle.cf_base.specs.declared.results.Refusal.TheVariants as refusal
 use Rattle.cf_base.proofs.Ranges.{one, sum_at_least, sum_le}
 use Rattle.cf_base.proofs.Searches.{few_keys, fresh_key}
 use Rattle.cf_base.proofs.Tests.{eq_no, eq_yes, lt_yes}

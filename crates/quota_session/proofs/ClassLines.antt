@@ -3,7 +3,7 @@
 use Rattle.std.proofs.Common.{◌≡◌, ◌∙◌, ℕ, ◌+◌, ◌≤◌, ◌<◌, ◌++◌, List, [], ◌∷◌, Some, None, ap, arith, sum_by}
 use Rattle.std.proofs.lemmas.List.Sums.{sum_by-cons}
 use Rattle.std.specs.List.{range_with_len}
-use Rattle.cf_base.specs.declared.answers.Figures.{Figures}
+use Rattle.cf_base.specs.declared.results.Figures.{Figures}
 use Rattle.frag_report.proofs.CallerLemmas.{class_past, class_there, one_class_more}
 use Rattle.page_model.specs.Arrangement.{pages_of_class, used_pages}
 use Rattle.page_model.specs.Figures.{figures_of}

@@ -10,10 +10,10 @@ use Rattle.quota_heap.specs.State.{KeepsTasks, empty_state, held_by, quota_of}
 use Rattle.quota_session.specs.Tasks.{quota_text, quotas_after}
 use Rattle.quota_model.specs.Admission.{CanBeAsked, IsAdmission, Share, declared_in_all, first_large, first_refused_for_space, in_order}
 use Rattle.quota_model.specs.Refusals.{task_paging}
-use Rattle.quota_model.specs.declared.answers.Admission.{Admission}
-use Rattle.quota_model.specs.declared.answers.Admission.TheVariants.{Yes, No, Size, Proxies}
-use Rattle.quota_model.specs.declared.answers.Need.{Need}
-use Rattle.quota_model.specs.declared.answers.QuotaFault.{QuotaFault}
+use Rattle.quota_model.specs.declared.results.Admission.{Admission}
+use Rattle.quota_model.specs.declared.results.Admission.TheVariants.{Yes, No, Size, Proxies}
+use Rattle.quota_model.specs.declared.results.Need.{Need}
+use Rattle.quota_model.specs.declared.results.QuotaFault.{QuotaFault}
 use Rattle.quota_model.proofs.CallerLemmas.{enough_iff, first_quotas, first_shared, granted_quotas, none_iff}
 use Rattle.script_laws.specs.ValidItems.{IsValidCommand}
 use Rattle.script_laws.proofs.CallerLemmas.{HasCalls, object_step_exists, CanGoOn}

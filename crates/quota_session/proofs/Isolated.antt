@@ -12,8 +12,8 @@ use Rattle.std.proofs.lemmas.List.{get_or-set_same, get_or-set_other, length-set
 use Rattle.std.proofs.lemmas.List.Sums.{sum_by-cons}
 use Rattle.cf_base.proofs.Tests.{eq_yes, eq_no, lt_no, lt_yes}
 use Rattle.quota_model.proofs.CallerLemmas.{zeros}
-use Rattle.quota_model.specs.declared.answers.QuotaFault.{QuotaFault}
-use Rattle.quota_model.specs.declared.answers.QuotaFault.TheVariants.{Sum, Used}
+use Rattle.quota_model.specs.declared.results.QuotaFault.{QuotaFault}
+use Rattle.quota_model.specs.declared.results.QuotaFault.TheVariants.{Sum, Used}
 use Rattle.quota_session.specs.Own.{is_left_out, is_own, own_items, replies_of}
 use Rattle.quota_session.specs.Runs.{is_accepted, own_calls, replies_to}
 use Rattle.quota_session.specs.Transcript.{MeetsTasks, TaskState, admission, admission_text, command_reply, first_state, need_text, one_need_more, present_after, state_after, task_replies}

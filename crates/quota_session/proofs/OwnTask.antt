@@ -27,10 +27,10 @@ use Rattle.run_model.proofs.CallerLemmas.{by_id_counts}
 use Rattle.quota_session.proofs.RunInvariant.{task_keeps}
 use Rattle.std.proofs.lemmas.Bool.{cases_eq}
 use Rattle.cf_base.proofs.Tests.{eq_yes, eq_no}
-use Rattle.quota_model.specs.declared.answers.QuotaFault.{QuotaFault}
+use Rattle.quota_model.specs.declared.results.QuotaFault.{QuotaFault}
 use Rattle.script_laws.specs.Transcripts.{replies_from}
 use Rattle.quota_session.specs.Runs.{AreTaskCommands, LeaveQuota, own_commands, replies_to}
-use Rattle.cf_base.specs.declared.answers.Refusal.TheVariants as refusal
+use Rattle.cf_base.specs.declared.results.Refusal.TheVariants as refusal
 use Rattle.script_reader.specs.declared.command.Command.TheVariants as command
 
 -- For `OwnTask`: the cause of a refused malloc of a task, and its `walk` report, follow from the settings, the task's quota and its objects by id, without

@@ -15,7 +15,7 @@ use Rattle.std.proofs.lemmas.Bool.{cases_eq, cases_lt}
 use Rattle.std.proofs.lemmas.List.{get_or-set_same, get_or-set_other, length-set, length-append, length-replicate, set-get_or}
 use Rattle.cf_base.proofs.Tests.{lt_no, lt_yes}
 use Rattle.cf_session.specs.declared.outcome.Outcome.{Outcome}
-use Rattle.quota_model.specs.declared.answers.Need.{Need}
+use Rattle.quota_model.specs.declared.results.Need.{Need}
 use Rattle.script_loop.specs.Semantics.{snapshot}
 use Rattle.script_loop.specs.Applying.{Applies}
 use Rattle.id_table.specs.Ties.{AreTiedTo}
@@ -35,7 +35,7 @@ use Rattle.script_loop.proofs.CallerLemmas.{reported}
 use Rattle.run_model.proofs.CallerLemmas.{by_id_counts}
 use Rattle.frag_report.specs.Classes.{totals_with}
 use Rattle.quota_session.specs.Layout.{IsOfTask}
-use Rattle.cf_base.specs.declared.answers.AccessFault.TheVariants as access
+use Rattle.cf_base.specs.declared.results.AccessFault.TheVariants as access
 use Rattle.script_reader.specs.declared.command.Command.TheVariants as command
 
 -- What each call for a task does to the task's objects, and what it keeps: the heap keeps its settings, quotas and rules, and no other task's objects change.

@@ -12,9 +12,9 @@ use Rattle.quota_session.specs.Tasks.{Tasks, after_item, calls, is_for_task, no_
 use Rattle.quota_session.specs.Transcript.{MeetsTasks, TaskState, admission_text, command_reply, first_state, needs_after, one_need_more, reply_to_item, state_after, state_after_item}
 use Rattle.quota_session.specs.Transcript.{task_replies, after_if, item_of, present_after}
 use Rattle.quota_model.specs.Refusals.{task_paging}
-use Rattle.quota_model.specs.declared.answers.Need.{Need}
-use Rattle.quota_model.specs.declared.answers.QuotaFault.{QuotaFault}
-use Rattle.quota_model.specs.declared.answers.QuotaFault.TheVariants.{Sum, Used}
+use Rattle.quota_model.specs.declared.results.Need.{Need}
+use Rattle.quota_model.specs.declared.results.QuotaFault.{QuotaFault}
+use Rattle.quota_model.specs.declared.results.QuotaFault.TheVariants.{Sum, Used}
 use Rattle.script_laws.specs.ValidItems.{AreValidItems, IsValidCommand, IsValidItem}
 use Rattle.script_laws.proofs.CallerLemmas.{all_items_valid, needed_alike}
 use Rattle.run_model.specs.Plays.{IsAt, PlayStep}

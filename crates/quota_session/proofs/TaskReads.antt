@@ -3,8 +3,8 @@
 use Rattle.std.proofs.Common.{◌≡◌, ℕ, Bool, true, false, cond, List, [], ◌∷◌, Option, Some, None, length, replicate, sym, ◌∙◌, ap, refl, subst, inl, inr, ◌&&◌, Err, nat_eq, option_map}
 use Rattle.std.proofs.lemmas.Bool.{cases_eq}
 use Rattle.run_model.specs.Terms.{AccessFault, asks, bad, Command, get, insert, Item, Objects, Refusal, remove, Reply, said, starts, written}
-use Rattle.cf_base.specs.declared.answers.AccessFault.TheVariants as access
-use Rattle.cf_base.specs.declared.answers.Refusal.TheVariants as refusal
+use Rattle.cf_base.specs.declared.results.AccessFault.TheVariants as access
+use Rattle.cf_base.specs.declared.results.Refusal.TheVariants as refusal
 use Rattle.cf_base.proofs.Tests.{eq_no, eq_yes}
 use Rattle.cf_base.proofs.Maps.{remove_missing}
 use Rattle.quota_session.specs.Tasks.{Tasks, own_heap, task_leaves, task_reply}

@@ -9,9 +9,9 @@ use Rattle.quota_session.specs.Transcript.{admission_text, need_text, one_need_m
 use Rattle.quota_model.specs.Admission.{IsAdmission}
 use Rattle.quota_model.specs.Refusals.{quota_refusal}
 use Rattle.quota_model.specs.contracts.Need as need
-use Rattle.quota_model.specs.declared.answers.Admission.{Admission}
-use Rattle.quota_model.specs.declared.answers.Need.{Need}
-use Rattle.quota_model.specs.declared.answers.QuotaFault.{QuotaFault}
+use Rattle.quota_model.specs.declared.results.Admission.{Admission}
+use Rattle.quota_model.specs.declared.results.Need.{Need}
+use Rattle.quota_model.specs.declared.results.QuotaFault.{QuotaFault}
 use Rattle.script_loop.specs.Semantics.{Snapshot, snapshot}
 use Rattle.script_reader.specs.declared.command.Command.TheVariants as command
 use Rattle.id_table.specs.Ties.{AreTiedTo}

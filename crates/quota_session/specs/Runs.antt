@@ -1,6 +1,6 @@
 -- For isolation of calls: in a list of calls and quota lines of many tasks (`TaskItem`), the items that concern one task, and the replies to it.
 use Rattle.std.specs.Prelude.{◌≡◌, ◌≢◌, ⊤, ℕ, Bool, true, false, ◌&&◌, List, [], ◌∷◌, Option, Some, None, if◌then◌else◌, nat_eq}
-use Rattle.quota_model.specs.declared.answers.QuotaFault.{QuotaFault}
+use Rattle.quota_model.specs.declared.results.QuotaFault.{QuotaFault}
 use Rattle.run_model.specs.Terms.{asks, Item, Reply}
 use Rattle.quota_session.specs.Tasks.{TaskItem, Tasks, after_item, calls, is_for_task, set_refusal, sets, task_reply}
 

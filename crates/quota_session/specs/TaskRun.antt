@@ -3,7 +3,7 @@
 use Rattle.std.specs.Prelude.{◌≡◌, ℕ, ◌-◌, ◌++◌, List, Option, Some, None, codes, filter, map, nat_eq, not}
 use Rattle.std.specs.List.{range_with_len}
 use Rattle.run_model.specs.Terms.{classes, Command, Freed, get, Ids, Placed, Refusal, Reply, said, Walk}
-use Rattle.cf_base.specs.declared.answers.Totals.{Totals}
+use Rattle.cf_base.specs.declared.results.Totals.{Totals}
 use Rattle.script_laws.specs.ObjectRun.{Calls, ObjectRun, ObjectStep, object_run}
 use Rattle.page_model.specs.Arrangement.{live, used_pages}
 use Rattle.page_model.specs.Figures.{figures_of, totals_of}

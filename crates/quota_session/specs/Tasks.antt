@@ -3,8 +3,8 @@
 use Rattle.std.specs.Prelude.{ℕ, Bool, true, false, List, Option, Some, None, codes, if◌then◌else◌, nat_eq, replicate, slice_index, slice_set}
 use Rattle.run_model.specs.Terms.{Command, empty, Free, Malloc, Moving, Objects, Profile, Read, Reply, said, Walk, Write}
 use Rattle.quota_model.specs.Refusals.{quota_refusal}
-use Rattle.quota_model.specs.declared.answers.QuotaFault.{QuotaFault}
-use Rattle.quota_model.specs.declared.answers.QuotaFault.TheVariants.{Sum, Used}
+use Rattle.quota_model.specs.declared.results.QuotaFault.{QuotaFault}
+use Rattle.quota_model.specs.declared.results.QuotaFault.TheVariants.{Sum, Used}
 use Rattle.script_laws.specs.ById.{ById, begun}
 use Rattle.script_laws.specs.RepliesById.{objects_after, reply_by_id}
 

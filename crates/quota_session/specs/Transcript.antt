@@ -3,9 +3,9 @@
 use Rattle.std.specs.Prelude.{◌≡◌, ℕ, ◌++◌, Bool, true, false, List, [], ◌∷◌, Option, Some, None, codes, if◌then◌else◌, length, nat_eq, nat_lt, slice_index}
 use Rattle.run_model.specs.Terms.{asks, at_bound_one, bad, bad_line, Command, empty, Item, Profile, Reply, said, starts, with_number}
 use Rattle.quota_model.specs.Admission.{Share, declared_in_all, first_large, first_refused_for_space, in_order}
-use Rattle.quota_model.specs.declared.answers.Admission.{Admission}
-use Rattle.quota_model.specs.declared.answers.Admission.TheVariants.{Yes, No, Size, Proxies}
-use Rattle.quota_model.specs.declared.answers.Need.{Need}
+use Rattle.quota_model.specs.declared.results.Admission.{Admission}
+use Rattle.quota_model.specs.declared.results.Admission.TheVariants.{Yes, No, Size, Proxies}
+use Rattle.quota_model.specs.declared.results.Need.{Need}
 use Rattle.script_reader.specs.declared.command.Command.TheVariants as command
 use Rattle.quota_session.specs.Tasks.{TaskItem, Tasks, after_item, calls, no_tasks, quota_text, set_refusal, sets, task_reply}
 

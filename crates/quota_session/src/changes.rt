@@ -19,8 +19,9 @@ use id_table::IdTable;
 use quota_heap::QuotaHeap;
 use step_ledger::Steps;
 
-/// `m`: makes an object of `bytes` zero bytes for an id of the task that isn't live. The reply is `ok`; or
-/// `live` if the id is live, or the name of the heap's refusal, and then nothing changes.
+/// `m`: makes an object of `bytes` zero bytes for an id of the task that isn't live. The reply is
+/// `ok`; or `live` if the id is live, or `refused` and the cause if the heap refuses the malloc,
+/// and then nothing changes.
 pub(crate) fn malloc(
     ids: &mut IdTable,
     heap: &mut QuotaHeap,
@@ -47,8 +48,8 @@ pub(crate) fn malloc(
     }
 }
 
-/// `f`: frees the object of a live id of the task. The reply is `ok`; or `unknown` if the id isn't live, and
-/// then nothing changes.
+/// `f`: frees the object of a live id of the task, and the id. The reply is `ok`; or `unknown` if
+/// the id isn't live, and then nothing changes.
 pub(crate) fn free(
     ids: &mut IdTable,
     heap: &mut QuotaHeap,
@@ -73,8 +74,9 @@ pub(crate) fn free(
     Short::Done
 }
 
-/// `w`: writes these bytes into the object of a live id of the task, from byte `at` on. The reply is `ok`; or
-/// `unknown` if the id isn't live, or `range` if the bytes pass the object's end, and then nothing changes.
+/// `w`: writes `bytes` into the object of a live id of the task, from byte `at` on. The reply is
+/// `ok`; or `unknown` if the id isn't live, or `range` if the bytes pass the object's end, and then
+/// nothing changes.
 pub(crate) fn write(
     ids: &IdTable,
     heap: &mut QuotaHeap,

@@ -22,11 +22,12 @@ ghost use Rattle.quota_session.specs.Runs.{AreTaskCommands, LeaveQuota, own_comm
 
 use quota_model::a_page_is_there_for_each_quota;
 
-/// Clause `reply`: the reply to a call of the present task depends on the settings, its quota and its objects
-/// by id alone. It is the reply of a heap that only this task uses and that has the quota as its number of
-/// pages. Clause `after`: a command changes the objects by id of no task but the present one, and the quota of
-/// no task but the one that it names. Clause `alike`: so two runs that are alike for a task (`AreAlikeFor`)
-/// print the same reply to a call of it.
+/// In a run in progress in mode `quota`, the reply to a call of the present task depends on the
+/// settings, its quota and its objects by id alone (clause `reply`). It is the reply of a heap that
+/// only this task uses and that has the quota as its number of pages. A command changes the objects
+/// by id of no task but the present one, and the quota of no task but the one that it names
+/// (`after`). So two runs that are alike for a task (`AreAlikeFor`) print the same reply to a call
+/// of it (`alike`).
 pub fn a_task_is_answered_from_its_own()
     ensures reply { (old new : QuotaRun) (command : Command) (reply : Reply) → IsGoingQuotas old
         → is_for_task command ≡ true → QuotaStep old command reply new
@@ -43,9 +44,9 @@ pub fn a_task_is_answered_from_its_own()
     a_reply_follows_from_the_task_alone();
 }
 
-/// In every script each read returns the bytes last written through its id by the present task. These
-/// bytes follow from the lines and their replies alone: `t` makes a task present, and each task has ids
-/// of its own.
+/// In every script in mode `quota`, each read prints the bytes last written through its id by the
+/// present task. These bytes follow from the lines and their replies alone: `t` makes a task
+/// present, and each task has ids of its own.
 pub fn reads_give_what_was_written()
     ensures run { (items : List Item) (replies : List Reply) (new : Option QuotaRun)
         → AreValidItems items → RunsQuotas None items replies new → AreReadsOfTasks None items replies }
@@ -66,8 +67,9 @@ pub fn one_transcript_of_tasks()
     a_task_is_answered_from_its_own();
 }
 
-/// A run of tasks can begin under any settings in their ranges. In each state of a run in progress every command that a
-/// script can contain has a reply, and the run is in progress after it.
+/// A run of tasks can begin under any settings in their ranges, and is then in progress
+/// (`IsGoingQuotas`). In each state of a run in progress every command that a script can contain
+/// has a reply, and the run is in progress after it.
 pub fn each_command_has_its_turn()
     ensures begins { (p : Profile) → AreInRange p → (new : QuotaRun) × BeginsQuotas p new }
     ensures begun { (p : Profile) (new : QuotaRun) → BeginsQuotas p new → IsGoingQuotas new }
@@ -101,9 +103,9 @@ pub fn what_was_cut_is_a_prefix()
     a_page_is_there_for_each_quota();
 }
 
-/// Let two states have the same settings, and let a task have the same quota and the same objects by id in
-/// both. Then a command of the task has the same reply in both (`reply`), and leaves the task the same
-/// objects (`left`). `refusal`: the cause of a refused malloc in these replies is the one of `malloc_refusal`, the
+/// A command of a task has the same reply in two states (`reply`), and leaves the task the same
+/// objects (`left`), if the settings, the task's quota and its objects by id are the same in both.
+/// `refusal`: the cause of a refused malloc in these replies is the one of `malloc_refusal`, the
 /// definition for the heap of tasks.
 pub fn a_reply_follows_from_the_task_alone()
     ensures reply { (one other : Tasks) (task : ℕ) (command : Command)
@@ -129,10 +131,11 @@ pub fn tasks_are_isolated()
         ≡ replies_to task (no_tasks s) items }
 {}
 
-/// Isolation in mode `quota`: remove from a script every line of the other tasks, and every refused quota line. The
-/// replies to the commands of the task are the same, in the same order. If two scripts have the same
-/// lines after this removal, the replies to the task are the same in both, whatever the other tasks do.
-/// The two scripts may be run separately: only their replies are compared.
+/// Isolation in mode `quota`: remove from a script every line of the other tasks, and every refused
+/// quota line. The replies to the commands of the task but `t` and `quota` are the same, in the
+/// same order. If two scripts have the same lines after this removal, these replies are the same in
+/// both, whatever the other tasks do. The two scripts may be run separately: only their replies are
+/// compared.
 pub fn tasks_are_isolated_in_a_script()
     ensures own { (items : List Item) (task : ℕ) (replies shown : List Reply) → task < 16
         → MeetsTasks items replies → MeetsTasks (own_items task None items) shown
@@ -143,10 +146,9 @@ pub fn tasks_are_isolated_in_a_script()
         → replies_of task 0 others shown ≡ replies_of task 0 items replies }
 {}
 
-/// Admission: suppose `admit` of a task prints `yes`. Suppose too that each later malloc of the task stays
-/// within the numbers of objects declared before this `admit`, and that the quota is then at least as large
-/// (`StayWithin`). Then each of these mallocs prints `ok`, or `live` if its id is live, whatever the other
-/// tasks do.
+/// After `admit` of a task prints `yes`, each later malloc of the task prints `ok`, or `live` if
+/// its id is live, whatever the other tasks do, if each stays within the numbers of objects
+/// declared before this `admit`, and the quota is then at least as large (`StayWithin`).
 pub fn an_admitted_task_is_served()
     ensures { (before later : List Item) (task : ℕ) (admitted : TaskState) (replies : List Reply)
         → states_in None before ≡ Some admitted
@@ -156,12 +158,13 @@ pub fn an_admitted_task_is_served()
         → AreServed task admitted.present later (drop (length before + 1) replies) }
 {}
 
-/// In mode `quota`, wrong replies violate the claim, so it isn't empty. The scripts have two pages of 64 words and a
-/// quota of one page for task 0. The claim fails for a refusal of the quota line and of the malloc (`refused`); for a
-/// malloc that fits, with `refused space` (`room`), a reply without a line (`silent`), no reply (`missing`) or one
-/// reply too many (`over`); for `ok` to a malloc beyond the quota (`beyond`); for the bytes of another task
-/// (`foreign`); for `yes` to two objects that need a page each (`admitted`); and for `ok` to quotas of three pages
-/// (`sum`).
+/// In mode `quota`, the claim `MeetsTasks` excludes wrong replies: nine wrong ones violate it. The
+/// scripts have two pages of 64 words and a quota of one page for task 0. The claim fails for a
+/// refusal of the quota line and of the malloc (`refused`); for a malloc that fits, with
+/// `refused space` (`room`), a reply without a line (`silent`), no reply (`missing`) or one reply
+/// too many (`over`); for `ok` to a malloc beyond the quota (`beyond`); for the bytes of another
+/// task (`foreign`); for `yes` to two objects that need a page each (`admitted`); and for `ok` to
+/// quotas of three pages (`sum`).
 pub fn wrong_task_replies_fall_short()
     ensures refused { ¬ MeetsTasks (items (codes "heap 2 512 1 8\nquota 0 1\nm 1 176\n") true)
         (said (codes "ok") ∷ said (codes "refused sum") ∷ said (codes "refused space") ∷ []) }
@@ -184,9 +187,9 @@ pub fn wrong_task_replies_fall_short()
         (said (codes "ok") ∷ said (codes "ok") ∷ said (codes "ok") ∷ []) }
 {}
 
-/// Suppose no line sets the quota of a task, and each of its commands is one on its objects (`is_for_task`).
-/// Then the replies to these commands are those of a moving heap that only this task uses. The quota is this
-/// heap's number of pages, and each class has the bound 1.
+/// If no line sets the quota of a task, and each of its commands is one on its objects
+/// (`is_for_task`), the replies to these commands are those of a moving heap that only this task
+/// uses. The quota is this heap's number of pages, and each class has the bound 1.
 pub fn a_task_has_a_heap_of_its_own()
     ensures { (one : Tasks) (task : ℕ) (items : List TaskItem) → LeaveQuota task items
         → AreTaskCommands task items

@@ -1,5 +1,5 @@
-//! A session of mode `quota`, over a heap that sixteen tasks share: each task's ids and declared needs, and the
-//! present task, for which `m`, `f`, `w` and `r` act.
+//! Mode `quota`: a session over a heap that sixteen tasks share. It holds each task's ids and
+//! declared needs, and the number of the present task, for which `m`, `f`, `w`, `r` and `walk` act.
 #![tactic(auto)]
 
 mod changes;

@@ -15,7 +15,8 @@ use std::alloc::Global;
 use std::rt::Memory;
 use step_ledger::Meter;
 
-/// The mode handler: a session over sixteen tasks, with the settings of the `heap` line and a ledger.
+/// The handler of mode `quota`: a session over sixteen tasks, with the settings of the `heap` line
+/// and the meter of the steps.
 #[derive(Drop)]
 pub struct QuotaHandler {
     pub session: QuotaSession,
@@ -48,14 +49,15 @@ impl ModeHandler<QuotaHeap> for QuotaHandler {
 
     ghost semantics = { quota_tasks };
 
-    /// Opens the heap of tasks with the settings of the `heap` line, but the bound 1, and writes the reply `ok`.
+    /// Opens the heap of tasks with the settings of the `heap` line, but always with the bound 1,
+    /// stores these settings, and writes the reply `ok`. Fails with `OutOfMemory` if an allocation
+    /// fails, and with `Failed` if the sink fails.
     fn open<K: Sink>(
         &mut self,
         heap: &mut QuotaHeap,
         settings: &Settings,
         sink: &mut K,
     ) -> Result<(), OpenFault> {
-        // Every class has the bound 1, whatever bound the line has.
         let settings = Settings {
             pages: settings.pages,
             page_words: settings.page_words,
@@ -68,7 +70,8 @@ impl ModeHandler<QuotaHeap> for QuotaHandler {
         Ok(())
     }
 
-    /// Does the command on the heap of tasks and writes its reply. The heap was opened before.
+    /// Does the command on the heap of tasks, which was opened before, with its steps counted from
+    /// 0, and writes its reply. Fails if the sink fails: the command has taken effect.
     fn answer<K: Sink>(
         &mut self,
         heap: &mut QuotaHeap,

@@ -1,7 +1,7 @@
 //! `Needs`: the objects that one task declared with `need`, at most 64 entries. An entry is a number of objects
 //! of one length in bytes; `admit` tests whether the task's quota is enough for them.
 ghost use Rattle.std.specs.Prelude.{◌≡◌, ◌<◌, ◌≤◌, [], IsTrue, length, nat_lt};
-ghost use Rattle.quota_model.specs.declared.answers.Need.{Need as ANeed};
+ghost use Rattle.quota_model.specs.declared.results.Need.{Need as ANeed};
 ghost use Rattle.quota_session.specs.Transcript.{one_need_more};
 
 use quota_model::Need;
@@ -10,7 +10,8 @@ use std::marker::Model;
 /// The most entries that a task can declare.
 const MOST_ENTRIES: usize = 64;
 
-/// The entries that one task declared, at most 64. They are stored in place, so that `need` allocates nothing.
+/// The entries that one task declared with `need`: the first `count` of `entries`, at most 64. They
+/// are stored in place, so that `need` allocates nothing.
 #[derive(Drop)]
 pub(crate) struct Needs {
     entries: [Need; MOST_ENTRIES],
@@ -21,7 +22,7 @@ impl Model for Needs {
     ghost use Rattle.std.specs.Prelude.{◌≤◌, List, take};
     ghost use Rattle.std.specs.Coded.{coded_list};
     ghost use Rattle.quota_model.specs.contracts.Need as need;
-    ghost use Rattle.quota_model.specs.declared.answers.Need.{Need as ANeed};
+    ghost use Rattle.quota_model.specs.declared.results.Need.{Need as ANeed};
 
     ghost Value = { List ANeed };
 
@@ -51,7 +52,8 @@ impl Needs {
         &self.entries[..self.count]
     }
 
-    /// Adds an entry at the needs' end and returns true; if there are 64, changes nothing and returns false.
+    /// Adds an entry after those that a task declared, and returns true; if there are 64 already,
+    /// changes nothing and returns false.
     pub(crate) fn push(&mut self, entry: Need) -> bool
         ensures room { result ≡ nat_lt (length self.old) 64 }
         ensures value { self.new ≡ one_need_more self.old entry }

@@ -38,8 +38,7 @@ impl Records {
     }
 }
 
-/// Sixteen id tables, one for each task, in which no id is live. Fails with `OutOfMemory` if an allocation
-/// fails.
+/// Sixteen id tables without a live id, one for each task; `OutOfMemory` if an allocation fails.
 fn first_ids(alloc: Global) -> Result<Vec<IdTable>, OutOfMemory>
     ensures { IfOk result (λ ids. ids.items ≡ replicate 16 map.empty) }
 {
@@ -55,8 +54,7 @@ fn first_ids(alloc: Global) -> Result<Vec<IdTable>, OutOfMemory>
     Ok(all)
 }
 
-/// Sixteen lists of needs without entries, one for each task. Fails with `OutOfMemory` if the allocation
-/// fails.
+/// Sixteen empty lists of needs, one for each task; `OutOfMemory` if the allocation fails.
 fn first_needs(alloc: Global) -> Result<Vec<Needs>, OutOfMemory>
     ensures { IfOk result (λ needs. needs.items ≡ replicate 16 []) }
 {

@@ -38,9 +38,9 @@ pub(crate) fn walk<K: Sink>(
     }
 }
 
-/// Writes a line for each class of the task with live objects, the smallest first, and returns the number of
-/// pages that the task uses. If the sink fails, the result is `Failed`, and a prefix of these lines was
-/// written.
+/// For `walk`, writes a line for each class of the task with live objects, the class of the
+/// smallest slots first, and returns the number of pages that the task uses. If the sink fails, the
+/// result is `Failed`, and a prefix of these lines was written.
 fn put_classes<K: Sink>(
     heap: &QuotaHeap,
     task: u32,

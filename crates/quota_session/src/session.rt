@@ -1,5 +1,5 @@
-//! A session over a heap that sixteen tasks share: it does each command, on the present task or on the one
-//! that the command names, and writes its reply.
+//! A session over a heap that sixteen tasks share: it does each command, for the present task or
+//! the one that the command names, and writes its reply.
 ghost use Rattle.std.specs.Prelude.{◌≡◌, ◌<◌, ◌^◌, ◌≤◌, [], IfOk, IsTrue, Option, Some, length};
 ghost use Rattle.step_ledger.specs.Counting.{RoseAtMost};
 ghost use Rattle.run_model.specs.Terms.{IsWellFormed, owned_command, Profile, profile_of, said, SinkFailsIf};
@@ -66,9 +66,10 @@ impl QuotaSession {
         })
     }
 
-    /// Resets the ledger to 0, does the command c on the heap of tasks, which is open with the settings `s`, and writes
-    /// its reply to the sink `out`. If the sink fails, the result is `Failed`: the command has taken effect, and a
-    /// prefix of its reply was written.
+    /// Resets the ledger of `meter` to 0, does the command c on the heap of tasks, which is open
+    /// with the settings `s`, and writes its reply to the sink `out`. Returns the reply's outcome.
+    /// If the sink fails, the result is `Failed`: the command has taken effect, and a prefix of its
+    /// reply was written.
     pub fn apply<K: Sink>(
         &mut self,
         heap: &mut QuotaHeap,
@@ -84,7 +85,6 @@ impl QuotaSession {
         ensures step { Applies quota_tasks (quota_moment (Some (profile_of s.now)) self.old heap.old (K.state out.old).written) c.now result
             (quota_moment (Some (profile_of s.now)) self.new heap.new (K.state out.new).written) }
         ensures going { IsGoingQuotas (quota_run (Some (profile_of s.now)) self.new heap.new) }
-        // The ledger counts from 0 in each command.
         ensures steps { meter.new ≤ most_tasks_steps (quota_run (Some (profile_of s.now)) self.old heap.old) c.now }
         ensures sink { SinkFailsIf (is_err result) (K.state out.old) (K.state out.new) }
     {
@@ -92,8 +92,9 @@ impl QuotaSession {
         self.apply_ref(heap, s, c.as_ref(), out, meter.steps())
     }
 
-    /// `QuotaSession::apply` for a command whose bytes are borrowed, and on a ledger that the caller keeps: the call
-    /// doesn't reset it, and raises it by at most `most_tasks_steps` of the command.
+    /// Does the command c, whose bytes are borrowed, and writes its reply, as `QuotaSession::apply`
+    /// does. But it doesn't reset the ledger `steps`, which must be at most 2^63: it adds to it, at
+    /// most `most_tasks_steps` of the command.
     pub fn apply_ref<K: Sink>(
         &mut self,
         heap: &mut QuotaHeap,
@@ -129,10 +130,10 @@ impl QuotaSession {
     }
 }
 
-/// Does the command c on the heap of tasks, which is open with the settings `s`, writes its reply to the sink `out`,
-/// and returns how the command ended (`Outcome`). `buffer` gets the bytes of a read, and `line` the text of each line
-/// of the reply. If the sink fails, the result is `Failed`: the command has taken effect, and a prefix of its reply was
-/// written.
+/// Does the command c on the heap of tasks, which is open with the settings `s`, writes its reply
+/// to the sink `out`, and returns the reply's outcome. `buffer` gets the bytes of a read, and
+/// `line` the text of each line of the reply. If the sink fails, the result is `Failed`: the
+/// command has taken effect, and a prefix of its reply was written.
 fn answer<K: Sink>(
     records: &mut Records,
     heap: &mut QuotaHeap,
@@ -166,8 +167,9 @@ fn answer<K: Sink>(
     }
 }
 
-/// Does a command of mode `quota` whose reply is one line, that is, any but `walk`, builds the text of the reply in
-/// `line`, and returns its outcome. `buffer` gets the bytes of a read.
+/// Does a command of mode `quota` whose reply is one line, that is, any but `walk`, builds the text
+/// of the reply in `line`, and returns its outcome. `s` has the settings of the heap; `buffer` gets
+/// the bytes of a read.
 fn build_reply(
     records: &mut Records,
     heap: &mut QuotaHeap,

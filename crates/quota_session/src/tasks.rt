@@ -1,5 +1,6 @@
-//! The commands `quota`, `need` and `admit`, which name a task, 0 to 15, whichever is present: they set its
-//! quota, add to the objects that it declares, and test whether the quota is enough for these.
+//! The commands `quota`, `need` and `admit`, which name a task, 0 to 15, whichever is present: they
+//! set its quota, add to the objects that it declares, and test whether the quota and the proxies
+//! are enough for these.
 ghost use Rattle.std.specs.Prelude.{◌≡◌, ◌<◌, [], IsTrue, length};
 ghost use Rattle.cf_io.specs.Lines.{line_capacity};
 ghost use Rattle.cf_session.specs.Apply.{outcome_in};
@@ -16,9 +17,9 @@ use cf_session::{Outcome, Short};
 use quota_heap::{QuotaFault, QuotaHeap};
 use quota_model::{Admission, Need};
 
-/// `quota`: sets the quota of a task to `pages` pages. The heap refuses, and nothing changes, if the quotas
-/// would sum to more pages than the region has, else if the task uses more than `pages` pages; the reply shows
-/// which.
+/// `quota`: sets the quota of a task to `pages` pages. The reply is `ok`; or `refused sum` if the
+/// quotas would sum to more pages than the region has, else `refused used` if the task uses more
+/// than `pages` pages, and then nothing changes.
 pub(crate) fn set_quota(heap: &mut QuotaHeap, task: u32, pages: u32) -> Short
     requires opened { IsTrue heap.old.is_open }
     requires sixteen { task < 16 }
@@ -33,8 +34,8 @@ pub(crate) fn set_quota(heap: &mut QuotaHeap, task: u32, pages: u32) -> Short
     }
 }
 
-/// `need`: adds an entry to the needs of a task. If the task has 64 entries already, the reply is `full`, and
-/// nothing changes.
+/// `need`: adds an entry to the needs of a task. The reply is `ok`; or `full` if the task has 64
+/// entries already, and then nothing changes.
 pub(crate) fn declare(records: &mut Records, task: u32, entry: Need) -> Short
     requires sixteen { task < 16 }
     requires kept { HasSixteen (tasks_session records.old) }
@@ -49,8 +50,11 @@ pub(crate) fn declare(records: &mut Records, task: u32, entry: Need) -> Short
     }
 }
 
-/// `admit`: builds the reply in `line`, the result of the admission test: `yes`, `no` and a number,
-/// `proxies` or `size`.
+/// `admit`: builds in `line` the reply for `answer`, the test whether a task's quota and proxies
+/// are enough for the objects that it declares, and returns its outcome. The reply is `yes`; `no`
+/// and the number, from 1, of the first declared malloc that is refused for space; `proxies` if the
+/// task declares more objects than it has proxies; or `size` if it declares an object larger than a
+/// page.
 pub(crate) fn push_admission(line: &mut Line, answer: Admission) -> Outcome
     requires { line.old ≡ [] }
     ensures text { line.new ≡ admission_text answer }

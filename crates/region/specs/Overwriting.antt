@@ -8,7 +8,7 @@ use Rattle.region.specs.Cells.{overwritten}
 abbrev pub byte_from : List ℕ → ℕ → ℕ → ℕ
 byte_from words first k = byte_of (k % 8) (slice_index words (first + k / 8))
 
--- how many words hold `count` bytes, if the first of these is byte `at` of the first word
+-- how many words hold the first `at + count` bytes of a list of words
 abbrev pub words_with : ℕ → ℕ → ℕ
 words_with at count = (at + count + 7) / 8
 

@@ -1,5 +1,5 @@
-//! `Block`, the memory of a region: one allocation of a fixed size. It has nothing to do with the blocks of four
-//! words. No other file of the crate has a raw pointer.
+//! `Block`, the memory of a region: one allocation of a fixed size. It is not a block of four
+//! words, as `ranges` has them. No other file of the crate has a raw pointer.
 ghost use Rattle.std.specs.Prelude.{◌≡◌, ℕ, ◌+◌, ◌^◌, ◌<◌, ◌≤◌, List, length, take, drop, replicate, IfSome};
 ghost use Rattle.std.specs.Borrow.{sem, u64, Array, lent_at};
 ghost use Rattle.region.specs.Layout.{block_owns, room_of_words, words_at};
@@ -77,9 +77,9 @@ impl Block {
     }
 }
 
-// Writes zeros to `len` words: the allocator has no call for zeroed memory. The compiler makes one
-// `memset` of this loop. It touches each page of virtual memory that the block is on, so that no
-// later call meets a page fault.
+// Writes zeros to the `len` words from `at` on: the allocator has no call for zeroed memory. The
+// compiler makes one `memset` of this loop. The loop touches all memory of the block, so that no
+// later call is the first to touch some, which would cost a page fault.
 unsafe fn zero(at: *mut u64, len: usize)
     requires small { len < 2 ^ 32 }
     requires* room { sem 𝓛 (room_of_words at len) }

@@ -7,8 +7,7 @@ ghost use Rattle.region.specs.Cells.{byte_in, overwritten};
 /// How many bytes a word has.
 const WORD_BYTES: usize = 8;
 
-/// Replaces the bytes of `cell` from byte `from` on by those of `part`. A cell is the eight bytes
-/// of a word.
+/// Writes `part` over the bytes of `cell` from byte `from` on. Every other byte stays.
 fn overwrite(cell: &mut [u8], from: usize, part: &[u8])
     requires { from + length part.now ≤ length cell.old }
     ensures { cell.new ≡ written cell.old from part.now }
@@ -21,7 +20,8 @@ fn overwrite(cell: &mut [u8], from: usize, part: &[u8])
     }
 }
 
-/// Returns `word` after its bytes from byte `from` on were replaced by those of `part`.
+/// Returns `word` with `part` in place of its bytes from byte `from` on. Every other byte is that
+/// of `word`.
 pub(crate) fn patched(word: u64, from: usize, part: &[u8]) -> u64
     requires { from + length part.now ≤ 8 }
     ensures { (j : ℕ) → j < 8 → byte_of j result ≡ overwritten (λ k. byte_of k word) from part.now j }
@@ -84,7 +84,7 @@ pub(crate) fn put_words(words: &mut [u64], bytes: &[u8])
 /// How many bytes two words have.
 const PAIR_BYTES: usize = 16;
 
-/// Fills `out` with the bytes of two words from byte `at` on. Counts no step.
+/// Fills `out` with the bytes of two words from byte `at` on.
 fn read_pair(words: &[u64], at: usize, out: &mut [u8])
     requires two { length words.now ≡ 2 }
     requires within { at + length out.old ≤ 16 }
@@ -100,8 +100,7 @@ fn read_pair(words: &[u64], at: usize, out: &mut [u8])
     }
 }
 
-/// Replaces the bytes of two words from byte `at` on by `bytes`. Every other byte stays. Counts no
-/// step.
+/// Replaces the bytes of two words from byte `at` on by `bytes`. Every other byte stays.
 fn write_pair(words: &mut [u64], at: usize, bytes: &[u8])
     requires two { length words.old ≡ 2 }
     requires within { at + length bytes.now ≤ 16 }
@@ -113,7 +112,7 @@ fn write_pair(words: &mut [u64], at: usize, bytes: &[u8])
     put_words(words, &cells);
 }
 
-/// Fills `out` with bytes of one word, those from byte `at` of the words on.
+/// Fills `out` with the bytes of the words from byte `at` on. The bytes read must be in one word.
 fn copy_part(words: &[u64], at: usize, out: &mut [u8])
     requires one { at % 8 + length out.old ≤ 8 }
     requires within { at + length out.old ≤ 8 * length words.now }
@@ -124,7 +123,8 @@ fn copy_part(words: &[u64], at: usize, out: &mut [u8])
     }
 }
 
-/// Replaces bytes of one word, those from byte `at` of the words on, by `part`.
+/// Writes `part` over the bytes of the words from byte `at` on. The bytes replaced must be in one
+/// word. Every other byte stays.
 fn put_part(words: &mut [u64], at: usize, part: &[u8])
     requires one { at % 8 + length part.now ≤ 8 }
     requires within { at + length part.now ≤ 8 * length words.old }
@@ -136,15 +136,16 @@ fn put_part(words: &mut [u64], at: usize, part: &[u8])
     }
 }
 
-/// How many of the `count` bytes from byte `at` on are before the next byte that begins a word.
+/// How many of the `count` bytes from byte `at` on are before the next byte that begins a word; 0
+/// if byte `at` begins one.
 fn before_word(at: usize, count: usize) -> usize
     ensures { result ≡ min ((8 - at % 8) % 8) count }
 {
     (at.wrapping_neg() % WORD_BYTES).min(count)
 }
 
-/// Fills `out` with the bytes of the words from byte `at` on. Counts no step.
-// Not inlined, so that callers which take a shorter path for one word save no registers for this one.
+/// Fills `out` with the bytes of the words from byte `at` on.
+// Not inlined: a caller that has a shorter path for one word saves no registers on that path.
 #[inline(never)]
 pub(crate) fn read_bytes(words: &[u64], at: usize, out: &mut [u8])
     requires { at + length out.old ≤ 8 * length words.now }
@@ -157,8 +158,8 @@ pub(crate) fn read_bytes(words: &[u64], at: usize, out: &mut [u8])
     }
 }
 
-/// Does what `read_bytes` does, in three parts: the bytes before the first whole word, the whole
-/// words, and the bytes after them.
+/// Fills `out` with the bytes of the words from byte `at` on, in three parts: the bytes before the
+/// first whole word, the whole words, and the bytes after them.
 fn read_parts(words: &[u64], at: usize, out: &mut [u8])
     requires { at + length out.old ≤ 8 * length words.now }
     ensures { (k : ℕ) → k < length out.new → slice_index out.new k ≡ byte_in words.now (at + k) }
@@ -172,8 +173,7 @@ fn read_parts(words: &[u64], at: usize, out: &mut [u8])
     copy_part(words, at + end, &mut out[end..]);
 }
 
-/// Replaces the bytes of the words from byte `at` on by `bytes`. Every other byte stays. Counts no
-/// step.
+/// Replaces the bytes of the words from byte `at` on by `bytes`. Every other byte stays.
 // Not inlined, as `read_bytes`.
 #[inline(never)]
 pub(crate) fn write_bytes(words: &mut [u64], at: usize, bytes: &[u8])
@@ -187,7 +187,8 @@ pub(crate) fn write_bytes(words: &mut [u64], at: usize, bytes: &[u8])
     }
 }
 
-/// Does what `write_bytes` does, in three parts, as `read_parts`.
+/// Replaces the bytes of the words from byte `at` on by `bytes`, in three parts: the bytes before
+/// the first whole word, the whole words, and the bytes after them.
 fn write_parts(words: &mut [u64], at: usize, bytes: &[u8])
     requires { at + length bytes.now ≤ 8 * length words.old }
     ensures { (k : ℕ) → byte_in words.new k ≡ overwritten (byte_in words.old) at bytes.now k }

@@ -1,5 +1,5 @@
-//! Reading and writing bytes in a run of consecutive words of a region, at a step for each word of
-//! the run.
+//! Reading and writing bytes in consecutive words of a region, at a step for each word; and how
+//! many words hold a number of bytes.
 ghost use Rattle.std.specs.Prelude.{◌≡◌, ℕ, ◌+◌, ◌*◌, ◌<◌, ◌≤◌, length, slice_index};
 ghost use Rattle.step_ledger.specs.Counting.{RoseBy};
 ghost use Rattle.region.specs.Overwriting.{Overwrites, byte_from, words_with};
@@ -8,7 +8,7 @@ use crate::Region;
 use crate::cells::{copy_word, patched, read_bytes, write_bytes};
 use step_ledger::Steps;
 
-/// How many words hold `count` bytes, if the first of these is byte `at` of the first word.
+/// How many words hold the first `at + count` bytes of a list of words.
 pub fn words_with(at: usize, count: usize) -> u32
     requires { words_with at count < 4294967296 }
     ensures { result ≡ words_with at count }

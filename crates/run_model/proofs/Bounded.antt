@@ -2,7 +2,7 @@
 -- malloc is refused. So each `Step` is an `IsCommandStep`.
 use Rattle.std.proofs.Common.{◌≡◌, ℕ, ◌≤◌, Option, Some, None, Result, Ok, Err, ap, sym, ◌∙◌, subst, inl, inr, refl, ◌↔◌, codes}
 use Rattle.run_model.specs.Terms.{Command, EveryBoundIsOne, family_of, get, Handle, HeapState, IsGoing, IsPaged, KeepsRules, Kind, Malloc, need, paging_in, Refusal, Reply, Request, RunState, said}
-use Rattle.cf_base.specs.declared.answers.Refusal.TheVariants as refusal
+use Rattle.cf_base.specs.declared.results.Refusal.TheVariants as refusal
 use Rattle.id_table.proofs.CallerLemmas.{LacksByNeed, refused_by_need}
 use Rattle.page_model.proofs.CallerLemmas.{sound_few}
 use Rattle.cf_model.specs.Families as family

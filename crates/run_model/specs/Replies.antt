@@ -1,14 +1,14 @@
--- The text of the reply to each command, computed from the result of the manager's call or from the state of the run.
+-- The texts of the replies to commands, but for `f` and `k`, computed from the result of the manager's call or from the state of the run.
 use Rattle.std.specs.Prelude.{ℕ, ◌+◌, List, ◌++◌, Option, Some, None, Result, Ok, Err, codes, length, take, drop, nat_le, if◌then◌else◌, slice_get}
 use Rattle.hex.specs.Hex.{encode_lower}
-use Rattle.cf_base.specs.declared.answers.AccessFault.{AccessFault}
-use Rattle.cf_base.specs.declared.answers.AccessFault.TheVariants as access
-use Rattle.cf_base.specs.declared.answers.Handle.{Handle}
-use Rattle.cf_base.specs.declared.answers.Refusal.{Refusal}
-use Rattle.cf_base.specs.declared.answers.Refusal.TheVariants as refusal
-use Rattle.cf_base.specs.declared.answers.Resized.{Resized}
-use Rattle.cf_base.specs.declared.answers.ResizeFault.{ResizeFault}
-use Rattle.cf_base.specs.declared.answers.ResizeFault.TheVariants as resize
+use Rattle.cf_base.specs.declared.results.AccessFault.{AccessFault}
+use Rattle.cf_base.specs.declared.results.AccessFault.TheVariants as access
+use Rattle.cf_base.specs.declared.results.Handle.{Handle}
+use Rattle.cf_base.specs.declared.results.Refusal.{Refusal}
+use Rattle.cf_base.specs.declared.results.Refusal.TheVariants as refusal
+use Rattle.cf_base.specs.declared.results.Resized.{Resized}
+use Rattle.cf_base.specs.declared.results.ResizeFault.{ResizeFault}
+use Rattle.cf_base.specs.declared.results.ResizeFault.TheVariants as resize
 use Rattle.cf_base.specs.declared.kind.Kind.{Kind}
 use Rattle.cf_base.specs.declared.kind.Kind.TheVariants.{Moving, NonMoving, Tlsf, HalfFit}
 use Rattle.page_model.specs.Held.{Placed}
@@ -44,12 +44,13 @@ resize_text (Err resize.Kind) = codes "none"
 resize_text (Err resize.Size) = codes "refused size"
 resize_text (Err resize.Space) = codes "refused space"
 
--- the reply to `r` of `count` bytes from byte `at` on: `=` and the bytes in hexadecimal; `range` if the read passes the end of the object
+-- the reply to `r` of `count` bytes from byte `at` on: `=` and the bytes in hexadecimal; `range` if the read passes the end of the object; `unknown` if
+-- there is no object
 abbrev pub read_text : Option Placed → ℕ → ℕ → List ℕ
 read_text None at count = codes "unknown"
 read_text (Some x) at count = if nat_le (at + count) (length x.bytes) then codes "=" ++ encode_lower (take count (drop at x.bytes)) else codes "range"
 
--- the reply to `q`: the address of the object in words, from the start of the region
+-- the reply to `q`: the address of the object in words, from the start of the region; `unknown` if there is no object
 abbrev pub place_text : Option Placed → List ℕ
 place_text None = codes "unknown"
 place_text (Some x) = with_number (codes "at ") x.place
@@ -76,8 +77,8 @@ abbrev pub peek_text : Option ℕ → List ℕ
 peek_text None = codes "range"
 peek_text (Some word) = word_text word
 
--- the reply to `steps`: `cost`, the steps of the last malloc, free or resize; with pages also the bound on them, how many objects have moved since the start,
--- and the words of their slots
+-- the reply to `steps`: `cost`, the steps of the last malloc, free or, with pages, resize; with pages also the bound on them, how many objects frees and
+-- resizes have moved into the slots that they freed, and the words of these slots
 abbrev pub steps_text : Kind → SessionState → ℕ → List ℕ
 steps_text kind s cost = elim (family_of kind) [
   | paged ↦ with_number (codes "steps last ") cost ++ (with_number (codes " bound ") s.bound

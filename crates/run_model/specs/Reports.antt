@@ -1,8 +1,8 @@
 -- The replies to `walk`, a report on classes and pages or on blocks, and to `frag`, a line on the bytes that a heap uses.
 use Rattle.std.specs.Prelude.{ℕ, List, ◌++◌, codes, map, filter, not, nat_eq}
 use Rattle.std.specs.List.{range_with_len}
-use Rattle.cf_base.specs.declared.answers.Figures.{Figures}
-use Rattle.cf_base.specs.declared.answers.Totals.{Totals}
+use Rattle.cf_base.specs.declared.results.Figures.{Figures}
+use Rattle.cf_base.specs.declared.results.Totals.{Totals}
 use Rattle.cf_base.specs.declared.kind.Kind.{Kind}
 use Rattle.page_model.specs.Arrangement.{live}
 use Rattle.page_model.specs.Figures.{figures_of}

@@ -4,12 +4,12 @@
 use Rattle.std.specs.Prelude.{◌≡◌, ℕ, List, Option, Some, None, Result, Ok, Err, codes, if◌then◌else◌, nat_eq}
 use Rattle.std.specs.Option.{MatchOption}
 use Rattle.std.specs.FinMap.{get, len, remove}
-use Rattle.cf_base.specs.declared.answers.AccessFault.{AccessFault}
-use Rattle.cf_base.specs.declared.answers.Freed.{Freed}
-use Rattle.cf_base.specs.declared.answers.Handle.{Handle}
-use Rattle.cf_base.specs.declared.answers.Refusal.{Refusal}
-use Rattle.cf_base.specs.declared.answers.Resized.{Resized}
-use Rattle.cf_base.specs.declared.answers.ResizeFault.{ResizeFault}
+use Rattle.cf_base.specs.declared.results.AccessFault.{AccessFault}
+use Rattle.cf_base.specs.declared.results.Freed.{Freed}
+use Rattle.cf_base.specs.declared.results.Handle.{Handle}
+use Rattle.cf_base.specs.declared.results.Refusal.{Refusal}
+use Rattle.cf_base.specs.declared.results.Resized.{Resized}
+use Rattle.cf_base.specs.declared.results.ResizeFault.{ResizeFault}
 use Rattle.page_model.specs.Steps.{Request}
 use Rattle.cf_model.specs.Answers.{with_bound, class_with}
 use Rattle.cf_model.specs.Costs.{block_free_bound, free_bound, resize_bound}
@@ -87,7 +87,7 @@ abbrev pub bound_text : Option ℕ → List ℕ
 bound_text None = codes "none"
 bound_text (Some c) = codes "ok"
 
--- the step of command `k`: the class with slots of `slot_words` words, if there is one, gets the bound `k`: how many of its pages may be partly full
+-- the step of command `k`: if no object is live, the class with slots of `slot_words` words, if there is one, gets the bound `k`
 pub record Bounds (old : RunState) (slot_words k : ℕ) (reply : Reply) (new : RunState) : Type 0 where
   pub heap : new.heap ≡ with_bound old.heap (class_to_bound old.heap slot_words) k
   pub rules : KeepsRules new.heap

@@ -10,13 +10,13 @@ pub use Rattle.run_model.specs.Sessions.{AreTied, CostsAtMost, CostsByKind, Ids,
 pub use Rattle.run_model.specs.Texts.{Reply, bad_line, led, said, text_of, with_number}
 pub use Rattle.cf_base.specs.Classes.{need}
 pub use Rattle.cf_base.specs.Settings.{Profile, at_bound_one, profile_of}
-pub use Rattle.cf_base.specs.declared.answers.AccessFault.{AccessFault}
-pub use Rattle.cf_base.specs.declared.answers.Failed.{Failed}
-pub use Rattle.cf_base.specs.declared.answers.Freed.{Freed}
-pub use Rattle.cf_base.specs.declared.answers.Handle.{Handle}
-pub use Rattle.cf_base.specs.declared.answers.Refusal.{Refusal}
-pub use Rattle.cf_base.specs.declared.answers.ResizeFault.{ResizeFault}
-pub use Rattle.cf_base.specs.declared.answers.Resized.{Resized}
+pub use Rattle.cf_base.specs.declared.results.AccessFault.{AccessFault}
+pub use Rattle.cf_base.specs.declared.results.Failed.{Failed}
+pub use Rattle.cf_base.specs.declared.results.Freed.{Freed}
+pub use Rattle.cf_base.specs.declared.results.Handle.{Handle}
+pub use Rattle.cf_base.specs.declared.results.Refusal.{Refusal}
+pub use Rattle.cf_base.specs.declared.results.ResizeFault.{ResizeFault}
+pub use Rattle.cf_base.specs.declared.results.Resized.{Resized}
 pub use Rattle.cf_base.specs.declared.kind.Kind.{Kind}
 pub use Rattle.cf_base.specs.declared.kind.Kind.TheVariants.{HalfFit, Moving, NonMoving, Tlsf}
 pub use Rattle.cf_base.specs.declared.status.Status.{Status}

@@ -2,8 +2,8 @@
 -- and from its reply.
 use Rattle.std.proofs.Common.{◌≡◌, ℕ, Bool, true, false, cond, ◌+◌, List, Option, Some, None, Err, length, sym, ◌∙◌, ap, refl, inl, inr, ◌⊎◌, codes, nat_eq, nat_le, position}
 use Rattle.run_model.specs.Terms.{Admit, Block, Bound, Command, family_of, Frag, Free, get, insert, IsPaged, IsPaging, IsSound, len, Malloc, Need, Objects, objects, paged, paging_in, Peek, Place, Placed, Quota, Read, Refusal, remove, Reply, Resize, ResizeFault, said, Slice, Steps, Task, tiled, Walk, with_bound, Write, written}
-use Rattle.cf_base.specs.declared.answers.Refusal.TheVariants as refusal
-use Rattle.cf_base.specs.declared.answers.ResizeFault.TheVariants as resize
+use Rattle.cf_base.specs.declared.results.Refusal.TheVariants as refusal
+use Rattle.cf_base.specs.declared.results.ResizeFault.TheVariants as resize
 use Rattle.cf_base.proofs.MapValues.{map_values-insert, map_values-remove}
 use Rattle.cf_base.proofs.Sums.{insert_again}
 use Rattle.page_model.specs.Steps.{resized, resized_at, without}

@@ -5,9 +5,9 @@ use Rattle.std.specs.List.{Contains, IsDistinct}
 use Rattle.std.proofs.lemmas.Bool.{cases_eq, cases_lt}
 use Rattle.run_model.specs.Terms.{AreBytes, CostsAtMost, CostsByKind, Freed, get, HalfFit, Handle, HeapState, Held, insert, KeepsRules, Kind, len, Moving, need, NonMoving, objects, Placed, Position, Refusal, region_words, remove, Request, Tlsf, with_bound, written}
 use Rattle.cf_base.proofs.Members.{contains_cases, contains_head, contains_tail, distinct_cons, distinct_head, distinct_tail}
-use Rattle.cf_base.specs.declared.answers.AccessFault.TheVariants as access
-use Rattle.cf_base.specs.declared.answers.Refusal.TheVariants as refusal
-use Rattle.cf_base.specs.declared.answers.ResizeFault.TheVariants as resize
+use Rattle.cf_base.specs.declared.results.AccessFault.TheVariants as access
+use Rattle.cf_base.specs.declared.results.Refusal.TheVariants as refusal
+use Rattle.cf_base.specs.declared.results.ResizeFault.TheVariants as resize
 use Rattle.cf_base.proofs.Maps.{get_insert_other, get_inserted, get_remove_other, get_removed, len_fresh, len_rebound}
 use Rattle.cf_base.proofs.MapValues.{map_values-insert, map_values-remove}
 use Rattle.page_model.specs.Image.{IsOutside}

@@ -4,9 +4,9 @@ use Rattle.std.specs.Prelude.{⊤, ◌⊎◌, ◌↔◌, codes, filter, nat_eq, 
 use Rattle.std.proofs.lemmas.Bool.{cases_lt}
 use Rattle.std.specs.List.{range_with_len}
 use Rattle.run_model.specs.Terms.{Admit, asks, bad, Block, Bound, class_at, classes, Command, EveryBoundIsOne, Frag, Free, get, insert, IsPaged, IsPaging, IsSound, Item, Kind, len, Malloc, Need, need, Objects, Paging, paging_in, Peek, Place, Placed, Profile, Quota, Read, Refusal, remove, Reply, Resize, ResizeFault, said, Slice, starts, Steps, Task, totals_in, Walk, Write, written}
-use Rattle.cf_base.specs.declared.answers.AccessFault.TheVariants as access
-use Rattle.cf_base.specs.declared.answers.Refusal.TheVariants as refusal
-use Rattle.cf_base.specs.declared.answers.ResizeFault.TheVariants as resize
+use Rattle.cf_base.specs.declared.results.AccessFault.TheVariants as access
+use Rattle.cf_base.specs.declared.results.Refusal.TheVariants as refusal
+use Rattle.cf_base.specs.declared.results.ResizeFault.TheVariants as resize
 use Rattle.cf_base.proofs.Values.{map_values-empty}
 use Rattle.cf_base.proofs.Tests.{eq_no, eq_yes, lt_no, lt_yes}
 use Rattle.cf_base.proofs.Maps.{remove_missing}

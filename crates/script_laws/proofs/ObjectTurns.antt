@@ -16,7 +16,7 @@ use Rattle.std.proofs.lemmas.Option.{same_Some}
 use Rattle.run_model.specs.ById.{objects_by_id}
 use Rattle.run_model.proofs.CallerLemmas.{by_id_changed, by_id_given, by_id_gone, gone_by_id, live_by_id}
 use Rattle.script_laws.specs.RepliesById.{ok_or, put_unless, write_fault, write_leaves, write_said}
-use Rattle.cf_base.specs.declared.answers.AccessFault.TheVariants as access
+use Rattle.cf_base.specs.declared.results.AccessFault.TheVariants as access
 use Rattle.script_reader.specs.declared.command.Command.TheVariants as command
 
 -- For a session over any heap of objects: if the calls of the heap change its map of objects as they should (`KeepsObjects`), each command keeps the run in

@@ -3,7 +3,7 @@
 use Rattle.std.proofs.Common.{◌≡◌, ◌≢◌, ℕ, ◌+◌, ◌≤◌, List, Option, Some, None, Ok, Err, length, arith, sym, ◌∙◌, ap, refl, subst, inl, inr, IfSome}
 use Rattle.std.proofs.lemmas.Bool.{cases_eq, cases_lt}
 use Rattle.run_model.specs.Terms.{class_at, get, Handle, HeapState, Held, insert, IsPaged, IsPaging, IsSound, KeepsRules, need, objects, Paging, paging_in, Placed, Request, Resized, ResizeFault}
-use Rattle.cf_base.specs.declared.answers.ResizeFault.TheVariants as resize
+use Rattle.cf_base.specs.declared.results.ResizeFault.TheVariants as resize
 use Rattle.cf_base.proofs.MapValues.{map_values-insert}
 use Rattle.cf_base.proofs.Searches.{there_or_not}
 use Rattle.cf_base.proofs.Sums.{insert_again}

@@ -33,8 +33,8 @@ use Rattle.std.specs.Ordering.{nat_cmp}
 use Rattle.cf_base.proofs.MapValues.{map_values-insert}
 use Rattle.cf_base.proofs.Sums.{insert_again}
 use Rattle.run_model.specs.Steps.{class_to_bound}
-use Rattle.cf_base.specs.declared.answers.Refusal.TheVariants as refusal
-use Rattle.cf_base.specs.declared.answers.AccessFault.TheVariants as access
+use Rattle.cf_base.specs.declared.results.Refusal.TheVariants as refusal
+use Rattle.cf_base.specs.declared.results.AccessFault.TheVariants as access
 
 -- For the calls of a heap with pages: every sound arrangement of objects has words of a region, namely their headers and bytes, and zeros.
 

@@ -1,9 +1,9 @@
 -- For `reads_give_what_was_written`: over a run on one manager, reads print the bytes that follow from the lines before them and their replies.
 use Rattle.std.proofs.Common.{◌≡◌, ◌⊎◌, ℕ, false, List, Option, Some, None, Result, Ok, Err, sym, ◌∙◌, ap, refl, inl, inr, codes, option_map}
 use Rattle.run_model.specs.Terms.{AccessFault, Bound, Command, Free, get, Handle, HeapState, IsGoing, Item, Kind, Malloc, objects, Placed, Read, Refusal, Reply, Resize, Resized, ResizeFault, RunState, said, SessionState, with_bound, Write}
-use Rattle.cf_base.specs.declared.answers.AccessFault.TheVariants as access
-use Rattle.cf_base.specs.declared.answers.Refusal.TheVariants as refusal
-use Rattle.cf_base.specs.declared.answers.ResizeFault.TheVariants as resize
+use Rattle.cf_base.specs.declared.results.AccessFault.TheVariants as access
+use Rattle.cf_base.specs.declared.results.Refusal.TheVariants as refusal
+use Rattle.cf_base.specs.declared.results.ResizeFault.TheVariants as resize
 use Rattle.cf_base.proofs.MapValues.{get-map_values, map_values-insert}
 use Rattle.page_model.proofs.CallerLemmas.{malloc_objects, bytes_held, bytes_missing}
 use Rattle.cf_model.specs.Steps.{IsMallocStep, IsResizeStep, IsWriteStep}

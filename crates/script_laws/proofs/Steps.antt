@@ -5,10 +5,10 @@ use Rattle.std.specs.List.{range_with_len}
 use Rattle.std.proofs.lemmas.Bool.{cases_lt}
 use Rattle.std.proofs.lemmas.Option.{slice_get-get_or, slice_get_past}
 use Rattle.run_model.specs.Terms.{AccessFault, class_at, CostsAtMost, CostsByKind, counted, family_of, get, HalfFit, Handle, HeapState, Held, Ids, insert, IsGoing, IsPaged, Kind, Moving, NonMoving, paged, Paging, paging_in, Placed, Refusal, region_words, remove, Reply, Request, Resized, ResizeFault, RunState, said, SessionState, tiled, Tlsf, totals_in, with_bound, written}
-use Rattle.cf_base.specs.declared.answers.AccessFault.TheVariants as access
-use Rattle.cf_base.specs.declared.answers.Refusal.TheVariants as refusal
-use Rattle.cf_base.specs.declared.answers.ResizeFault.TheVariants as resize
-use Rattle.cf_base.specs.declared.answers.Totals.{Totals}
+use Rattle.cf_base.specs.declared.results.AccessFault.TheVariants as access
+use Rattle.cf_base.specs.declared.results.Refusal.TheVariants as refusal
+use Rattle.cf_base.specs.declared.results.ResizeFault.TheVariants as resize
+use Rattle.cf_base.specs.declared.results.Totals.{Totals}
 use Rattle.cf_base.proofs.Tests.{le_no, le_yes, lt_no, lt_yes}
 use Rattle.page_model.specs.Image.{slot_for}
 use Rattle.page_model.specs.Paging.{class_for}

@@ -10,7 +10,7 @@ use Rattle.std.specs.FinMap.{empty, get, get-empty, insert, len}
 use Rattle.hex.specs.Hex.{decode_pairs, encode_with}
 use Rattle.cf_base.specs.Classes.{sizes_from}
 use Rattle.run_model.specs.Terms.{asks, Command, family_of, Free, HeapState, IsPaging, IsSound, Item, items, Kind, Malloc, Moving, Objects, paged, Paging, paging_in, Peek, Place, Placed, Profile, Refusal, Reply, said, slot_words, slots_of, starts, Steps, Tlsf, Walk, with_number}
-use Rattle.cf_base.specs.declared.answers.Refusal.TheVariants as refusal
+use Rattle.cf_base.specs.declared.results.Refusal.TheVariants as refusal
 use Rattle.cf_io.specs.Numbers.{is_digit, number_in}
 use Rattle.cf_io.proofs.CallerLemmas.{number_of_decimal, spells}
 use Rattle.cf_base.proofs.Maps.{get_inserted, get_insert_other}

@@ -3,8 +3,8 @@
 use Rattle.std.specs.Prelude.{ℕ, ◌-◌, ◌*◌, ◌%◌, List, ◌++◌, filter, map, if◌then◌else◌, nat_eq, not}
 use Rattle.std.specs.List.{range_with_len}
 use Rattle.run_model.specs.Terms.{classes, len, Objects, Paging, Reply, said, slot_words, slots_of}
-use Rattle.cf_base.specs.declared.answers.Figures.{Figures}
-use Rattle.cf_base.specs.declared.answers.Totals.{Totals}
+use Rattle.cf_base.specs.declared.results.Figures.{Figures}
+use Rattle.cf_base.specs.declared.results.Totals.{Totals}
 use Rattle.page_model.specs.Arrangement.{live, pages_needed}
 use Rattle.page_model.specs.Counts.{ceil_div}
 use Rattle.page_model.specs.Figures.{asked_bytes, taken_bytes}

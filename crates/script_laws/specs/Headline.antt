@@ -145,7 +145,8 @@ abbrev pub Peeks : ShownHeap → ℕ → Reply → ShownHeap → Type 0
 Peeks old word reply new = (value : ℕ) × Stays old (peek_text (if nat_lt word (region_words old.heap.profile) then Some value else None)) reply new
     × ShowsWord old word value
 
--- the reply to `steps` with pages: the steps of the last malloc, free or resize, the bound on them, how many objects have moved, and the words of their slots
+-- the reply to `steps` with pages: the steps of the last malloc, free or resize, the bound on them, how many objects frees and resizes have moved into the
+-- slots that they freed, and the words of these slots
 abbrev pub steps_line : ℕ → ℕ → ℕ → ℕ → List ℕ
 steps_line last bound moves words = with_number (codes "steps last ") last ++ (with_number (codes " bound ") bound
     ++ (with_number (codes " moves ") moves ++ with_number (codes " words ") words))

@@ -2,9 +2,9 @@
 use Rattle.std.specs.Prelude.{ℕ, ◌+◌, Bool, ◌&&◌, List, Option, Some, None, Err, codes, if◌then◌else◌, length, nat_eq, nat_le, nat_lt, not}
 use Rattle.std.specs.Prelude.{position, replicate, slice_set}
 use Rattle.run_model.specs.Terms.{AccessFault, Bound, Command, Frag, Free, get, insert, len, Malloc, need, Objects, Read, Refusal, remove, Reply, Request, Resize, ResizeFault, said, Walk, Write, written}
-use Rattle.cf_base.specs.declared.answers.AccessFault.TheVariants as access
-use Rattle.cf_base.specs.declared.answers.Refusal.TheVariants as refusal
-use Rattle.cf_base.specs.declared.answers.ResizeFault.TheVariants as resize
+use Rattle.cf_base.specs.declared.results.AccessFault.TheVariants as access
+use Rattle.cf_base.specs.declared.results.Refusal.TheVariants as refusal
+use Rattle.cf_base.specs.declared.results.ResizeFault.TheVariants as resize
 use Rattle.page_model.specs.Arrangement.{pages_needed_with}
 use Rattle.page_model.specs.Paging.{class_for}
 use Rattle.page_model.specs.Steps.{resized}

@@ -7,7 +7,7 @@ use Rattle.cf_model.specs.Steps.{empty_heap}
 -- `heap` is the state of a manager, with objects under the ids of the script instead of handles. Its words are always the empty list, since the objects and
 -- blocks determine them (`ShowsWord`), and its order is none: the headline claims nothing of it. `numbers` has the manager's own number of each id's object,
 -- which only the object's header shows. `step_bound` is the bound on the steps of the last malloc, free or resize, 0 before the first. `moves` counts the
--- objects that moved, `moved_words` the words of their slots.
+-- objects that frees and resizes moved into the slots that they freed, `moved_words` the words of these slots.
 pub record ShownHeap : Type 0 where
   pub heap : HeapState
   pub numbers : Ids

@@ -1,4 +1,5 @@
-//! Theorems on the headline, on the transcript, and on runs of managers that promise an order.
+//! Theorems on the headline (`MeetsHeadline`: what is claimed of the replies to every script), on
+//! the transcript, and on runs with equal objects or on managers that promise an order.
 ghost use Rattle.std.specs.Prelude.{◌≡◌, Bool, codes, IsSome, ℕ, List, [], ◌∷◌, None, Option, Some, true};
 ghost use Rattle.run_model.specs.Terms.{EveryBoundIsOne, IsGoing, IsPaged, Item, items, Kind, Moving, paging_in, Reply, RunState, said, text_of, Tlsf};
 ghost use Rattle.run_model.specs.Runs.{Run};
@@ -7,37 +8,40 @@ ghost use Rattle.script_laws.specs.Transcripts.{ArePlaceless, StaysAtOne, transc
 ghost use Rattle.script_laws.specs.Headline.{MeetsHeadline};
 ghost use Rattle.script_laws.specs.OneOutput.{BeginNone, BeginOnce, IsOrdered};
 
-/// The replies of every run over a script meet the headline: there is exactly one reply for each item, and the
-/// item may get this reply (`MayReply`) in the heap that the lines and replies before it show (`ShownHeap`).
+/// The replies of every run over a script meet the headline (`MeetsHeadline`): each item has
+/// exactly one reply, and between the items there are heaps (`ShownHeap`) such that each item may
+/// get its reply in the heap before it and leave the heap after it (`MayReply`).
 pub fn the_headline()
     ensures { (kind : Kind) (items : List Item) (replies : List Reply) (end : Option RunState)
         → Run kind None items replies end → MeetsHeadline kind items replies }
 {}
 
-/// Replies that meet the headline are determined by their text: no two different lists of replies that meet
-/// it for the same items have the same text. So the output shows which lines are the reply to which command.
+/// Replies that meet the headline are determined by their text: no two different lists of replies
+/// that meet it for the same kind and items have the same text. So the output shows which lines are
+/// the reply to which command.
 pub fn the_output_shows_the_replies()
     ensures { (kind : Kind) (items : List Item) (replies others : List Reply)
         → MeetsHeadline kind items replies → MeetsHeadline kind items others
         → text_of [] others ≡ text_of [] replies → others ≡ replies }
 {}
 
-/// For a kind with pages, if every bound is 1 and no item asks for an address or a cost, only one list
-/// of replies meets the headline: the transcript.
+/// For a kind with pages, if every bound is 1 and no item asks for an address or a cost, no list of
+/// replies but the transcript meets the headline.
 pub fn at_bound_one_the_headline_is_the_transcript()
     ensures { (kind : Kind) (items : List Item) (replies : List Reply)
         → IsPaged kind → StaysAtOne kind None items → ArePlaceless items
         → MeetsHeadline kind items replies → replies ≡ transcript kind items }
 {}
 
-/// The headline excludes wrong replies: each clause has a script on two pages of 64 words, and replies to it
-/// that don't meet the headline. A malloc that fits gets `refused space` (`room`), `refused size` (`size`), a
-/// reply without a line (`silent`), or no reply (`missing`); or there is one reply more than items (`over`).
-/// `walk` prints one page more than the object needs (`pages`), or a total that isn't the sum of the lines
-/// above it (`total`). `steps` prints more steps than a malloc may take: 65 with pages (`steps`), where the
-/// bound is 64, and 26 with TLSF (`blocks`), where it is 25. A free of an id that isn't live gets `ok`
-/// (`unknown`). Two live objects have the same address (`shared`). An object has a new address, though nothing
-/// was freed or resized (`moved`). A heap without objects has a word that isn't 0 (`word`).
+/// The headline excludes wrong replies: each clause has a script on two pages of 64 words, and
+/// replies to it that don't meet the headline. A malloc that fits gets `refused space` (`room`),
+/// `refused size` (`size`), a reply without a line (`silent`), or no reply (`missing`); or there is
+/// one reply more than items (`over`). `walk` prints one page more than the object needs (`pages`),
+/// or a total that isn't the sum of the lines above it (`total`). `steps` prints for a malloc more
+/// steps than the headline allows: 65 with pages (`steps`; it allows 64), 26 with TLSF (`blocks`;
+/// it allows 25). A free of an id that isn't live gets `ok` (`unknown`). Two live objects have the
+/// same address (`shared`). An object has a new address, though nothing was freed or resized
+/// (`moved`). A heap without objects has a word that isn't 0 (`word`).
 pub fn wrong_replies_fall_short()
     ensures room { ¬ MeetsHeadline Moving (items (codes "heap 2 512 1 8\nm 1 176\n") true)
         (said (codes "ok") ∷ said (codes "refused space") ∷ []) }
@@ -72,17 +76,19 @@ pub fn wrong_replies_fall_short()
         (said (codes "ok") ∷ said (codes "ok") ∷ said (codes "steps last 26") ∷ []) }
 {}
 
-/// For a kind with pages, if every bound is 1 and no item asks for an address or a cost, all runs over
-/// the items have the same replies, whichever slot, page, number or object the manager chose.
+/// For a kind with pages, if every bound is 1 and no item asks for an address or a cost, all runs
+/// over the items have the same replies, the transcript, whichever slot, page, number or object the
+/// manager chose.
 pub fn one_transcript()
     ensures { (kind : Kind) (items : List Item) (replies : List Reply) (last : Option RunState)
         → IsPaged kind → StaysAtOne kind None items → ArePlaceless items
         → Run kind None items replies last → replies ≡ transcript kind items }
 {}
 
-/// If two runs of one kind with pages are in states in which each id names the same bytes, under equal
-/// settings and with every bound 1, then the same further items get the same replies in both, whatever their
-/// scripts were so far. Further items set no bound and ask for no address or cost (`AreFurther`).
+/// If two runs of one kind with pages are in states in which each id names the same bytes, under
+/// equal settings and with every bound 1, then the same further items get the same replies in both,
+/// whatever their scripts were so far. Further items are no `heap` line, set no bound and ask for
+/// no address or cost (`AreFurther`).
 pub fn equal_objects_get_equal_replies()
     ensures { (one other : RunState) (items : List Item) (replies shown : List Reply)
         (last end : Option RunState)
@@ -93,11 +99,12 @@ pub fn equal_objects_get_equal_replies()
         → shown ≡ replies }
 {}
 
-/// On managers of one kind that promise an order, one script has one output: two runs over the same items
-/// have the same replies, with each address, block, word and cost, and lead to the same state. `there`: for
-/// any input there is such a run. `script`: two runs over the items of any bytes, whose managers both have an
-/// order at the end. `items`: the same for any items without a `heap` line after the first (`BeginOnce`).
-/// `further`: the same for two runs that continue from one state with an order.
+/// On managers of one kind that promise an order, one script has one output: two runs over the same
+/// items have the same replies, with each address, block, word and cost, and lead to the same
+/// state. `there`: for any input there is such a run. `script`: two runs over the items of any
+/// bytes, whose managers both have an order at the end. `items`: the same for any items without a
+/// `heap` line after the first (`BeginOnce`). `further`: the same for two runs that continue from
+/// one state with an order, over items without a `heap` line.
 pub fn one_output()
     ensures there { (kind : Kind) (bytes : List ℕ) (ended : Bool)
         → (replies : List Reply) × (last : Option RunState) × Run kind None (items bytes ended) replies last × IsOrdered last }

@@ -1,7 +1,8 @@
-//! What is claimed of the replies to every script in modes `run` and `compare`, by its lines and replies alone
-//! (`MeetsHeadline`), and the transcript: the replies if every bound is 1, as a function of the kind and the
-//! script. `ObjectRun` defines the runs of a session over any heap of objects, by the calls of the heap. The public
-//! functions do nothing: the contract of each is a theorem on runs.
+//! What is claimed of the replies to every script in modes `run` and `compare`, by its lines and
+//! replies alone (`MeetsHeadline`), and the transcript: with pages, the replies if every bound is 1
+//! and no command asks for an address or a cost, as a function of the kind and the script.
+//! `ObjectRun` defines the runs of a session over any heap of objects, by the calls of the heap.
+//! The public functions do nothing: the contract of each is a theorem on runs or on the headline.
 #![tactic(auto)]
 
 mod headline;

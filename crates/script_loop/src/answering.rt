@@ -1,7 +1,9 @@
-//! Two inner loops: `answer_chunk` feeds a chunk to the reader in one call of `feed` or more. After each it calls
-//! `answer_pending_items`, which passes each whole item that the reader holds to the mode handler. An error is the
-//! status with which the script ends: `BadScript`, and the number of the bad line was written; `WriteFault`, and only
-//! a prefix of the last reply was written, though its item has taken effect; or `OutOfMemory`, at the `heap` line.
+//! Feeds a chunk to the reader (`answer_chunk`), after each `feed` passes the `heap` line and each
+//! command that is whole to the mode handler (`answer_pending_items`), and writes the reply to a
+//! bad line (`put_bad_line`). An error is the status with which the script ends. `BadScript`: a
+//! line was bad, and its number was written. `WriteFault`: the sink failed; the last item has taken
+//! effect, and a prefix of its reply was written. `OutOfMemory`: an allocation failed at the `heap`
+//! line.
 ghost use Rattle.std.specs.Prelude.{◌≡◌, ◌≤◌, ◌+◌, [], length, false, None};
 ghost use Rattle.cf_io.specs.Feeds.{SinkFailsIf};
 ghost use Rattle.script_reader.specs.Reading.{MOST_FED};
@@ -14,9 +16,9 @@ use cf_base::Status;
 use cf_io::{Line, Sink, push_field, put_line};
 use script_reader::{NextRef, PayloadBuffer, Reader};
 
-/// Writes the reply `bad line` with this number, counted from 1, and returns `BadScript`, or `WriteFault` if the
-/// sink failed.
-fn name_bad<K: Sink>(number: u32, sink: &mut K) -> Status
+/// Writes the reply `bad line` with `number`, that of the bad line (the first line is 1), and
+/// returns `BadScript`, or `WriteFault` if the sink failed.
+fn put_bad_line<K: Sink>(number: u32, sink: &mut K) -> Status
     ensures names { PrintsBadLine (K.state sink.old).written number result (K.state sink.new).written }
     ensures sink { SinkFailsIf (is_write_fault result) (K.state sink.old) (K.state sink.new) }
 {
@@ -28,9 +30,11 @@ fn name_bad<K: Sink>(number: u32, sink: &mut K) -> Status
     }
 }
 
-/// Passes each whole item that the reader holds to the mode handler, which does the item on the heap and writes
-/// the reply, until the reader needs more bytes or the script has ended. `payload` is scratch, for the bytes of a
-/// write.
+/// Passes the `heap` line and each command that the reader holds whole to the mode handler, which
+/// does it on the heap and writes the reply. Returns when the reader needs more bytes or the script
+/// has ended. Fails at a bad line, to which it writes the reply itself, if the sink fails, and if
+/// an allocation fails at the `heap` line. The reader must not have met a bad line before, and the
+/// state of the run must fit its stage (`IsReady`). `payload` is scratch, for the bytes of a write.
 pub fn answer_pending_items<H, A: ModeHandler<H>, K: Sink>(
     reader: &mut Reader,
     mode_handler: &mut A,
@@ -58,12 +62,14 @@ pub fn answer_pending_items<H, A: ModeHandler<H>, K: Sink>(
                 Err(_) => return Err(Status::WriteFault),
             },
             NextRef::NeedMore | NextRef::End => return Ok(()),
-            NextRef::Bad { line } => return Err(name_bad(line, sink)),
+            NextRef::Bad { line } => return Err(put_bad_line(line, sink)),
         }
     }
 }
 
-/// Feeds the chunk to the reader, and passes the items that the chunk completes to the mode handler. At most `2^32 - 1` bytes may be fed to the reader in all.
+/// Feeds the chunk to the reader, and passes the items that the chunk completes to the mode
+/// handler. Fails as `answer_pending_items` does. The reader must need more bytes, of which at most
+/// `2^32 - 1` may be fed in all. `payload` is scratch, for the bytes of a write.
 pub fn answer_chunk<H, A: ModeHandler<H>, K: Sink>(
     reader: &mut Reader,
     mode_handler: &mut A,

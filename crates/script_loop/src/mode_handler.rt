@@ -10,7 +10,7 @@ use cf_base::{Failed, OutOfMemory, Settings};
 use cf_io::Sink;
 use script_reader::CommandRef;
 
-/// Why the reply to a `heap` line wasn't written.
+/// Why the reply to a `heap` line wasn't written whole.
 #[derive(Clone, Copy, Debug, Drop, PartialEq, Eq)]
 pub enum OpenFault {
     /// The sink failed. The line has taken effect, and a prefix of its reply was written.
@@ -22,6 +22,7 @@ pub enum OpenFault {
 impl From<Failed> for OpenFault {
     ghost from_gives = { λ _ made. made ≡ fault.Failed };
 
+    /// The fault of an opening for a failed sink: `OpenFault::Failed`.
     fn from(_failed: Failed) -> OpenFault {
         OpenFault::Failed
     }
@@ -30,13 +31,15 @@ impl From<Failed> for OpenFault {
 impl From<OutOfMemory> for OpenFault {
     ghost from_gives = { λ _ made. made ≡ fault.OutOfMemory };
 
+    /// The fault of an opening for a failed allocation: `OpenFault::OutOfMemory`.
     fn from(_error: OutOfMemory) -> OpenFault {
         OpenFault::OutOfMemory
     }
 }
 
-/// A mode handler: it answers the items of a script on a heap, which is one manager, a list of managers,
-/// or another heap. Each mode that reads a script has one, and `play_script` is the loop that calls it.
+/// A mode handler: it answers the `heap` line and commands of a script on a heap, which is one
+/// manager, a list of managers, or another heap. Each mode that reads a script has one, and
+/// `play_script` is the loop that calls it.
 pub trait ModeHandler<H> {
     /// The type of the states of a run: what contracts see of the handler and its heap together.
     ghost State: { Type 0 };

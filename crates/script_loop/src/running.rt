@@ -15,8 +15,8 @@ use script_reader::{PayloadBuffer, Reader};
 /// The most bytes of a script.
 pub const LIMIT: usize = 268_435_455;
 
-/// A script between two chunks: its reader, a buffer for the bytes of a write, and `left`, how many bytes may
-/// still be taken within the limit, `LIMIT`.
+/// A script between two chunks: its reader, a buffer for the bytes of a write, and `left`, how many
+/// more bytes may be taken before the script has `LIMIT` bytes.
 #[derive(Drop)]
 pub struct Script {
     reader: Reader,
@@ -37,10 +37,12 @@ impl Script {
         }
     }
 
-    /// One turn of the loop: takes one chunk, and lets `mode_handler` answer each item whose line is complete. Returns
-    /// false if the source has ended, and no byte was taken. An error is the status with which the script ends: at a
-    /// bad line, if the source or the sink fails, if an allocation fails at the `heap` line, and if the chunk passes
-    /// the limit.
+    /// One turn of the loop: takes one chunk, lets `mode_handler` answer each item whose line is
+    /// complete, and returns true. Call it on a new script, or after a turn that returned true.
+    /// Returns false if the source has ended; then no byte was taken. An error is the status with
+    /// which the script ends: at a bad line, if the source or the sink fails, if an allocation
+    /// fails at the `heap` line, and if the chunk passes the limit (its items within the limit are
+    /// answered first).
     pub fn turn<H, A: ModeHandler<H>, S: Source, K: Sink>(
         &mut self,
         mode_handler: &mut A,
@@ -85,9 +87,10 @@ impl Script {
     }
 }
 
-/// Runs a script: takes chunks from the source, and lets the mode handler answer each whole line before the
-/// next chunk. It stops at a bad line, if the source or the sink fails, if an allocation fails at the `heap`
-/// line, and after 268,435,455 bytes. The status shows which.
+/// Runs a script: takes chunks from the source until it ends, and lets the mode handler answer each
+/// whole line before the next chunk, and a last line without line feed at the end. It stops earlier
+/// at a bad line, if the source or the sink fails, if an allocation fails at the `heap` line, and
+/// past 268,435,455 bytes. The status shows how it ended.
 pub fn play_script<H, A: ModeHandler<H>, S: Source, K: Sink>(
     mode_handler: &mut A,
     heap: &mut H,

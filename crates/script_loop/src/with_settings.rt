@@ -7,7 +7,7 @@ use cf_base::{Failed, Settings};
 use cf_io::Sink;
 use script_reader::CommandRef;
 
-/// The inner mode handler, `mode_handler`, and the settings of the `heap` line that it answered; none before that
+/// The inner mode handler, `mode_handler`, and the settings of the `heap` line; none before that
 /// line.
 #[derive(Drop)]
 pub struct WithSettings<A> {

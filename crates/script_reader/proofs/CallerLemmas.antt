@@ -1,5 +1,5 @@
 -- For proofs of other crates: how calls of `feed`, `finish` and `next_command` change the items that a reader has left, and that a bad line leaves none.
--- Re-exported: facts on the lines of a text.
+-- Re-exported: a script that this crate writes is read as the commands that it was written for, and a line of numbers is short.
 use Rattle.std.proofs.Common.{◌≡◌, ◌∙◌, ◌++◌, ℕ, Bool, true, false, List, [], ◌∷◌, Option, Some, None, refl, sym, ap, subst, append-nil, append_assoc}
 use Rattle.std.proofs.lemmas.Bool.{true≢false}
 use Rattle.cf_base.specs.Settings.{profile_of}
@@ -8,7 +8,8 @@ use Rattle.script_reader.specs.Items.{Item, asks, bad, starts}
 use Rattle.script_reader.specs.Reading.{Answers, AnswersBad, Reading, StopsAt, fed_with, items_left}
 use Rattle.script_reader.specs.declared.next.Next.{Next}
 use Rattle.script_reader.specs.declared.next.Next.TheVariants.{Start, Command, NeedMore, Bad, End}
-pub use Rattle.script_reader.proofs.ItemLemmas.{some_stretch}
+pub use Rattle.script_reader.proofs.ReadBack.{script_back}
+pub use Rattle.script_reader.proofs.TextLemmas.{numbers_short}
 
 bad_same_end : (old : Reading) (before : Option ℕ) (line : ℕ) (new : Reading) → AnswersBad old before line new → new.ended ≡ old.ended
 bad_same_end old None line new answer = answer.reads.same_end

@@ -1,5 +1,4 @@
 pub mod AnswerLemmas
-pub mod CallerLemmas
 pub mod ExactAnswers
 pub mod FieldLemmas
 pub mod FirstLine
@@ -9,3 +8,8 @@ pub mod Prefix
 pub mod Searches
 pub mod SilentLines
 pub mod Words
+mod TextLemmas
+mod TokenLemmas
+mod ReadBack
+mod GeneratedLemmas
+pub mod CallerLemmas

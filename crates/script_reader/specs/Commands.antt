@@ -1,5 +1,5 @@
--- The grammar of a command and its fields. A token is a list of bytes; `args` is the tokens after the first one of a line. Each definition is none if
--- the tokens are not of its form.
+-- The grammar of a command, of its fields, and of the settings of a `heap` line. A token is a list of bytes; `args` is the tokens after the first one of a
+-- line. An optional value is none if the tokens are not of its form.
 use Rattle.std.specs.Prelude.{◌≤◌, ℕ, Bool, true, false, ◌==◌, List, [], ◌∷◌, length, Option, Some, None, option_map, if◌then◌else◌}
 use Rattle.std.specs.Result.{result_ok}
 use Rattle.std.specs.Str.{bytes_eq, byte}

@@ -7,3 +7,6 @@ pub mod Owned
 pub mod Fields
 pub mod Answered
 pub mod Layout
+pub mod Generated
+pub mod CommandText
+pub mod ReadBack

@@ -16,7 +16,8 @@ pub enum Command {
     Read { id: u16, at: u32, len: u16 },
     /// `q ID`: prints the address of object ID.
     Place { id: u16 },
-    /// `b ID I`: prints which physical block holds block I of object ID, counted from 0.
+    /// `b ID I`: prints the number of the physical block that holds block I of object ID; I counts
+    /// from 0.
     Block { id: u16, i: u32 },
     /// `p WORD`: prints the word of the region with this number.
     Peek { word: u32 },
@@ -24,7 +25,8 @@ pub enum Command {
     Walk,
     /// `frag`: reports the bytes asked for, taken and held.
     Frag,
-    /// `steps`: prints the steps of the last malloc, free or resize.
+    /// `steps`: prints the steps of the last malloc, free or, with pages, resize; with pages also
+    /// their bound, how many objects moved into freed slots, and the words of these slots.
     Steps,
     /// `k SLOTWORDS K`: of the class whose slots have SLOTWORDS words, at most K pages may be partly full
     /// from now on; K is from 1 to 64.

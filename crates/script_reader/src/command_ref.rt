@@ -30,7 +30,7 @@ pub enum CommandRef<'a> {
 }
 
 impl Command {
-    /// Returns the same command, which borrows the bytes of a write from this one.
+    /// The same command, but the bytes of a write are borrowed from this one.
     pub fn as_ref(&self) -> CommandRef
         ensures { owned_command result ≡ self.now }
     {
@@ -81,7 +81,8 @@ impl Command {
 }
 
 impl<'a> CommandRef<'a> {
-    /// Returns the same command, with a copy of the bytes of a write, which must be 1 to 4,096.
+    /// The same command, with a copy of the bytes of a write. Its fields must be in the ranges of
+    /// the grammar (`IsWellFormed`).
     pub fn to_command(self) -> Command
         requires { IsWellFormed (owned_command self) }
         ensures { result ≡ owned_command self.entry }

@@ -12,7 +12,8 @@ ghost use Rattle.script_reader.specs.Lines.{tokens};
 use crate::tokens::{is_done, split_token, take_number};
 use cf_base::CHUNK;
 
-/// The first token as a number, and the text after the token. `None` if it isn't a number from `low` to `high`.
+/// Reads the first token of `text` as a number, and returns it with the text after the token.
+/// `None` if there is no token, or it isn't a number from `low` to `high`.
 #[inline(always)]
 fn take_from(low: u32, high: u32, text: &[u8]) -> Option<(u32, &[u8])>
     ensures value { option_map (λ p. (p.0, tokens p.1.now)) result
@@ -27,7 +28,8 @@ fn take_from(low: u32, high: u32, text: &[u8]) -> Option<(u32, &[u8])>
     }
 }
 
-/// The first token as an id, and the text after the token. `None` if it isn't a number from 0 to 65,535.
+/// Reads the first token of `text` as an id, and returns it with the text after the token. `None`
+/// if there is no token, or it isn't a number from 0 to 65,535.
 #[inline(always)]
 fn take_id(text: &[u8]) -> Option<(u16, &[u8])>
     ensures { option_map (λ p. (p.0, tokens p.1.now)) result ≡ first_by grammar.id_in (tokens text.now) }
@@ -36,8 +38,8 @@ fn take_id(text: &[u8]) -> Option<(u16, &[u8])>
     Some((n as u16, rest))
 }
 
-/// The only token, as a number. `None` if the text hasn't exactly one token, or it isn't a number from
-/// `low` to `high`.
+/// The only token of the text, as a number. `None` if the text hasn't exactly one token, or the
+/// token isn't a number from `low` to `high`.
 #[inline(always)]
 fn one_from(low: u32, high: u32, args: &[u8]) -> Option<u32>
     ensures value { result ≡ one_by (grammar.number_from low high) (tokens args.now) }
@@ -55,7 +57,7 @@ fn one_token(text: &[u8]) -> Option<&[u8]>
     if is_done(rest) { Some(first) } else { None }
 }
 
-/// The only token, as an id from 0 to 65,535. `None` if the text is anything else.
+/// The only token of the text, as an id from 0 to 65,535. `None` if the text is anything else.
 #[inline(always)]
 pub fn one_id(args: &[u8]) -> Option<u16>
     ensures { result ≡ grammar.one_id (tokens args.now) }
@@ -64,7 +66,7 @@ pub fn one_id(args: &[u8]) -> Option<u16>
     Some(n as u16)
 }
 
-/// The only token, as a number of 32 bits. `None` if the text is anything else.
+/// The only token of the text, as a number of 32 bits. `None` if the text is anything else.
 #[inline(always)]
 pub fn one_number(args: &[u8]) -> Option<u32>
     ensures { result ≡ grammar.one_number (tokens args.now) }
@@ -73,7 +75,7 @@ pub fn one_number(args: &[u8]) -> Option<u32>
     if is_done(rest) { Some(n) } else { None }
 }
 
-/// The only token, as a task from 0 to 15. `None` if the text is anything else.
+/// The only token of the text, as a task from 0 to 15. `None` if the text is anything else.
 pub fn one_task(args: &[u8]) -> Option<u32>
     ensures value { result ≡ grammar.one_task (tokens args.now) }
     ensures within { IfSome result (λ n. n ≤ 15) }
@@ -91,8 +93,8 @@ pub fn id_and_number(args: &[u8]) -> Option<(u16, u32)>
     Some((id, n))
 }
 
-/// The two tokens of the text, as a number of 32 bits and the bound of a class, from 1 to 64. `None` if the
-/// text is anything else.
+/// The two tokens of the text, as a number of 32 bits and the bound k of a class, from 1 to 64.
+/// `None` if the text is anything else.
 pub fn number_and_bound(args: &[u8]) -> Option<(u32, u32)>
     ensures value { result ≡ grammar.number_and_bound (tokens args.now) }
     ensures within { IfSome result (λ p. (1 ≤ p.1) × (p.1 ≤ 64)) }
@@ -157,8 +159,8 @@ pub fn id_number_and_length(args: &[u8]) -> Option<(u16, u32, u16)>
     Some((id, n, len))
 }
 
-/// The two tokens of the text: the first as a number of 32 bits, the second unread. `None` if the text is
-/// anything else.
+/// The two tokens of the text: the first as a number of 32 bits, the second as it stands. `None` if
+/// the text is anything else.
 #[inline(always)]
 fn number_and_text(args: &[u8]) -> Option<(u32, &[u8])>
     ensures { two_by number_in Some (tokens args.now) ≡ option_map (λ p. (p.0, p.1.now)) result }
@@ -168,8 +170,8 @@ fn number_and_text(args: &[u8]) -> Option<(u32, &[u8])>
     Some((n, text))
 }
 
-/// The three tokens of the text: the first as an id, the second as a number of 32 bits, the third unread.
-/// `None` if the text is anything else.
+/// The three tokens of the text: the first as an id, the second as a number of 32 bits, the third
+/// as it stands. `None` if the text is anything else.
 #[inline(always)]
 pub fn id_number_and_text(args: &[u8]) -> Option<(u16, u32, &[u8])>
     ensures { grammar.id_number_and_text (tokens args.now) ≡ option_map (λ p. (p.0, p.1, p.2.now)) result }

@@ -7,15 +7,16 @@ ghost use Rattle.script_reader.specs.Reading.{Answers, Reading, fresh, items_lef
 ghost use Rattle.script_reader.specs.declared.next.Next.{Next};
 ghost use Rattle.script_reader.specs.declared.next.Next.TheVariants.{NeedMore, Bad, End};
 
-/// The items of the first bytes of a script are the first items of the whole script, whatever bytes (`more`)
-/// follow. `ended` is whether the script ends after these.
+/// The items of the first bytes of a script (`bytes`) stay the script's first items, whatever bytes
+/// follow (`more`). `ended` is whether the script ends after `more`.
 pub fn items_stay()
     ensures { (bytes more : List ℕ) (ended : Bool) → AreFirstOf (items bytes false) (items (bytes ++ more) ended) }
 {}
 
-/// However a script is cut into chunks, and whenever `next_command` is called: the items that the calls
-/// returned, up to the first bad line, are the first items of the bytes fed (`first`). They and then the items
-/// that the reader has left are all items of the bytes fed (`rest`).
+/// However a script is cut into chunks, and whenever `next_command` is called: the items that the
+/// calls returned, up to the first bad line, are the first items of the bytes fed (clause `first`).
+/// Followed by the items that the reader has left, they are all items of the bytes fed (clause
+/// `rest`).
 pub fn answers_are_items()
     ensures first { (calls : List ReaderCall) (now : Reading) → AreCalls fresh calls now
         → AreFirstOf (items_given calls) (items (bytes_fed calls) (is_finished calls)) }
@@ -23,10 +24,10 @@ pub fn answers_are_items()
         → items (bytes_fed calls) (is_finished calls) ≡ items_given calls ++ items_left now [] false }
 {}
 
-/// What `next_command` returns after these calls of a reader. It returns `NeedMore` if and only if the end
-/// was not announced, and every item of the bytes fed was returned, with no bad line among them. It returns
-/// `End` if and only if the end was announced, and every item was returned, with no bad line among them. If
-/// no bad line was returned before, it returns `Bad` if and only if the next item is a bad line.
+/// What `next_command` returns after some calls of a reader. It returns `NeedMore` if and only if
+/// the end was not announced, every item of the bytes fed was returned, and none of them is a bad
+/// line; `End` if and only if the end was announced, and the same is true of the items. If no bad
+/// line was returned before, it returns `Bad` if and only if the next item is a bad line.
 pub fn answers_come_exactly()
     ensures need_more { (calls : List ReaderCall) (now new : Reading) (next : Next) → AreCalls fresh calls now → Answers now next new
         → (next ≡ NeedMore ↔ AllGiven calls × (is_finished calls ≡ false)) }

@@ -1,6 +1,7 @@
-//! Reads one line of a script by the grammar. There is a function for each command, which reads `args`, the
-//! text after the command's word. It puts the command into `next` and returns true, or returns false if the
-//! text isn't in the grammar; its contract then says nothing of `next`.
+//! Reads one line of a script by the grammar. There is a function for each command and for the
+//! `heap` line, which reads `args`, the text after the line's first word. It puts the command or
+//! the settings into `next` and returns true, or returns false if the text isn't in the grammar;
+//! its contract then says nothing of `next`.
 ghost use Rattle.std.specs.Prelude.{◌≡◌, IsTrue, codes, false, option_map};
 ghost use Rattle.std.specs.Str.{bytes_eq};
 ghost use Rattle.cf_base.specs.Settings.{profile_of};
@@ -198,8 +199,8 @@ fn admit(args: &[u8], next: &mut NextRef) -> bool
     true
 }
 
-/// Reads the text after `s`, which must have no token, and puts the command into `next`. False if it has
-/// one.
+/// Reads the text after `s`, which must have no token, and puts the command into `next`. False if
+/// the text has a token.
 fn slice(args: &[u8], next: &mut NextRef) -> bool
     ensures value { some_if result (owned_next next.new) ≡ option_map answer.Command (grammar.alone_in Command.Slice (tokens args.now)) }
     ensures fits { IsTrue result → IsInRange (owned_next next.new) }
@@ -208,8 +209,8 @@ fn slice(args: &[u8], next: &mut NextRef) -> bool
     is_done(args)
 }
 
-/// Reads the text after `walk`, which must have no token, and puts the command into `next`. False if it has
-/// one.
+/// Reads the text after `walk`, which must have no token, and puts the command into `next`. False
+/// if the text has a token.
 fn walk(args: &[u8], next: &mut NextRef) -> bool
     ensures value { some_if result (owned_next next.new) ≡ option_map answer.Command (grammar.alone_in Command.Walk (tokens args.now)) }
     ensures fits { IsTrue result → IsInRange (owned_next next.new) }
@@ -218,8 +219,8 @@ fn walk(args: &[u8], next: &mut NextRef) -> bool
     is_done(args)
 }
 
-/// Reads the text after `frag`, which must have no token, and puts the command into `next`. False if it has
-/// one.
+/// Reads the text after `frag`, which must have no token, and puts the command into `next`. False
+/// if the text has a token.
 fn frag(args: &[u8], next: &mut NextRef) -> bool
     ensures value { some_if result (owned_next next.new) ≡ option_map answer.Command (grammar.alone_in Command.Frag (tokens args.now)) }
     ensures fits { IsTrue result → IsInRange (owned_next next.new) }
@@ -228,8 +229,8 @@ fn frag(args: &[u8], next: &mut NextRef) -> bool
     is_done(args)
 }
 
-/// Reads the text after `steps`, which must have no token, and puts the command into `next`. False if it has
-/// one.
+/// Reads the text after `steps`, which must have no token, and puts the command into `next`. False
+/// if the text has a token.
 fn steps(args: &[u8], next: &mut NextRef) -> bool
     ensures value { some_if result (owned_next next.new) ≡ option_map answer.Command (grammar.alone_in Command.Steps (tokens args.now)) }
     ensures fits { IsTrue result → IsInRange (owned_next next.new) }
@@ -238,9 +239,9 @@ fn steps(args: &[u8], next: &mut NextRef) -> bool
     is_done(args)
 }
 
-/// Reads `args`, the text after the word of a line, if the word is one letter. Puts the command into `next`,
-/// and the bytes of a write into `payload`. False if no command has this letter, or the text isn't in the
-/// grammar.
+/// Reads the text `args` after the one-letter word `letter` of a line. Puts the command into
+/// `next`, and the bytes of a write into `payload`. False if no command has this letter, or the
+/// text isn't in the grammar.
 fn letter_command<'a>(
     letter: u8,
     args: &[u8],
@@ -266,8 +267,8 @@ fn letter_command<'a>(
     }
 }
 
-/// Reads `args`, the text after the word of a line, if the word is longer than a letter and isn't `heap`,
-/// and puts the command into `next`. False if no command has this word, or the text isn't in the grammar.
+/// Reads the text `args` after the first word `word` of a line. Puts the command into `next`. False
+/// if no command of more than one letter has this word, or the text isn't in the grammar.
 fn word_command(word: &[u8], args: &[u8], next: &mut NextRef) -> bool
     ensures value { some_if result (owned_next next.new) ≡ option_map answer.Command (grammar.word_command word.now (tokens args.now)) }
     ensures fits { IsTrue result → IsInRange (owned_next next.new) }
@@ -289,8 +290,8 @@ fn word_command(word: &[u8], args: &[u8], next: &mut NextRef) -> bool
     }
 }
 
-/// Reads the text after `heap` in a line `heap PAGES PAGEBYTES K PROXIES`, and returns the settings. `None`
-/// if the text hasn't four numbers, or the settings aren't allowed.
+/// Reads the text after `heap` in a line `heap PAGES PAGEBYTES K PROXIES`, and returns the
+/// settings. `None` if the text isn't four numbers, or the settings aren't allowed.
 fn settings(args: &[u8]) -> Option<Settings>
     ensures { option_map (λ s. profile_of s) result ≡ grammar.settings_in (tokens args.now) }
 {
@@ -303,28 +304,30 @@ fn settings(args: &[u8]) -> Option<Settings>
     }
 }
 
-/// Whether the line has more than 8,999 bytes, the most of any line.
+/// Whether the line has more than 8,999 bytes, the most that a line may have.
 fn is_too_long(text: &[u8]) -> bool
     ensures { result ≡ too_long text.now }
 {
     text.len() > LONGEST
 }
 
-/// Whether the token is `heap`.
+/// Whether the first token of a line is `heap`.
 fn is_heap(word: &[u8]) -> bool
     ensures { result ≡ bytes_eq word.now (codes "heap") }
 {
     word == b"heap".as_slice()
 }
 
-/// Whether a line, without its line feed, is blank or a comment.
+/// Whether a line, given without its line feed, is blank or a comment. A line of more than 8,999
+/// bytes is neither.
 pub fn is_silent(text: &[u8]) -> bool
     ensures { result ≡ is_blank_or_comment (line_says text.now) }
 {
     !is_too_long(text) && has_no_item(without_return(text))
 }
 
-/// Whether the text is blank (it has no token) or a comment (its first token begins with `#`).
+/// Whether the text of a line is blank (it has no token) or a comment (its first token begins with
+/// `#`).
 #[tactic(auto, using(crate::proofs::SilentLines::item_at_once))]
 fn has_no_item(text: &[u8]) -> bool
     ensures { result ≡ is_blank_or_comment (tokens_say (tokens text.now)) }
@@ -375,8 +378,8 @@ fn read_item<'a>(
     word_command(word, args, next)
 }
 
-/// Reads the text after `heap` in a line `heap PAGES PAGEBYTES K PROXIES`, and puts the settings into `next`. False if
-/// the text isn't four numbers, or a setting is out of range.
+/// Reads the text after `heap` in a line `heap PAGES PAGEBYTES K PROXIES`, and puts the settings
+/// into `next`. False if the text isn't four numbers, or the settings aren't allowed.
 fn start(args: &[u8], next: &mut NextRef) -> bool
     ensures value { saying_if result (owned_next next.new) ≡ item_or_wrong (option_map starts (grammar.settings_in (tokens args.now))) }
     ensures fits { IsTrue result → IsInRange (owned_next next.new) }

@@ -9,10 +9,12 @@ pub enum Next {
     Start(Settings),
     /// The next command.
     Command(Command),
-    /// The bytes fed hold no further whole line: more must be fed, or the end announced.
+    /// The bytes fed hold no further whole line: more must be fed, or the end of the script
+    /// announced.
     NeedMore,
-    /// The line of this number, counted from 1, isn't in the grammar at its place.
+    /// The line of this number, counted from 1, isn't in the grammar, or isn't allowed at its
+    /// place.
     Bad { line: u32 },
-    /// The end was announced, and no line is left.
+    /// The end of the script was announced, and no line is left.
     End,
 }

@@ -7,23 +7,20 @@ use crate::command_ref::CommandRef;
 use crate::next::Next;
 use cf_base::Settings;
 
-/// What a call of the reader returns, like `Next`, but the bytes of a write are borrowed.
+/// What a call of the reader returns; the variants are those of `Next`, but a write borrows its
+/// bytes.
 #[derive(Clone, Copy, Debug, PartialEq, Eq)]
 pub enum NextRef<'a> {
-    /// The `heap` line, with its settings.
     Start(Settings),
-    /// The next command.
     Command(CommandRef<'a>),
-    /// The bytes fed hold no further whole line: more must be fed, or the end announced.
     NeedMore,
-    /// The line of this number, counted from 1, isn't in the grammar at its place.
     Bad { line: u32 },
-    /// The end was announced, and no line is left.
     End,
 }
 
 impl<'a> NextRef<'a> {
-    /// Returns the same result, with a copy of the bytes of a write.
+    /// The same result of the reader, with a copy of the bytes of a write. The fields of a command
+    /// must be in the ranges of the grammar.
     pub(crate) fn to_next(self) -> Next
         requires { IsInRange (owned_next self) }
         ensures { result ≡ owned_next self.entry }

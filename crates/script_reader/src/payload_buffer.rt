@@ -6,8 +6,8 @@ ghost use Rattle.script_reader.specs.Answered.{some_if};
 use cf_base::CHUNK;
 use std::marker::Model;
 
-/// A buffer for the bytes of one write, at most 4,096. Its owner makes it once, and a reader fills it again
-/// for each write. The first `len` of its cells are the bytes. A `Payload` instead belongs to one write.
+/// A buffer for the bytes of one write, at most 4,096: the first `len` of its cells. A reader fills
+/// it again for each write, so its owner makes only one. A `Payload` instead belongs to one write.
 #[derive(Drop)]
 pub struct PayloadBuffer {
     cells: [u8; CHUNK],
@@ -36,8 +36,8 @@ impl PayloadBuffer {
         }
     }
 
-    /// The bytes of the last write that was decoded into the buffer; none in a new buffer, and any bytes
-    /// after a decoding that failed.
+    /// The bytes of the last write that was decoded into the buffer; none in a new buffer, and any
+    /// bytes after a failed decoding.
     pub fn bytes(&self) -> &[u8]
         ensures { result.now ≡ self.now }
     {

@@ -1,5 +1,6 @@
-//! `Reader`: takes the bytes of a script in chunks, and returns its items one after the other: the `heap`
-//! line, each command, and the first bad line, at which it stops.
+//! `Reader`: takes the bytes of a script in chunks, and returns its items one after the other: the
+//! `heap` line, each command, and the first bad line, at which it stops. More than 8,999 bytes
+//! without a line feed count as a whole line, a bad one.
 ghost use Rattle.std.specs.Prelude.{◌≡◌, ◌≤◌, ◌+◌, ◌==◌, true, false, length, take, drop, position, MatchOption, None};
 ghost use Rattle.script_reader.specs.Answered.{IsNextLine, line_passed, is_blank_or_comment};
 ghost use Rattle.script_reader.specs.Items.{line_says};
@@ -16,7 +17,7 @@ use crate::tokens::line_feed_at;
 use arrayvec::ArrayVec;
 use std::marker::Model;
 
-/// The most bytes that a reader keeps: those that it was fed but has not read yet.
+/// The most bytes that a reader keeps: bytes that were fed, but not read yet.
 const MOST_KEPT: usize = 9_000;
 
 /// The length of the buffer in bytes: so large that the kept bytes, when they move to its start, never overlap
@@ -39,7 +40,7 @@ pub struct Reader {
     stage: Stage,
     /// Whether the end of the script was announced (`finish`).
     ended: bool,
-    /// The number of the bad line, once it was returned: the reader then reads nothing more.
+    /// The number of the bad line, once it was returned; the reader then reads nothing more.
     stopped: Option<u32>,
     /// The number of bytes that were fed in all.
     fed: u32,
@@ -114,8 +115,8 @@ impl Reader {
         self.next_ref(&mut payload).to_next()
     }
 
-    /// Does what `next_command` does, but the result borrows the bytes of a write from `payload`, into which
-    /// they are put.
+    /// Does what `next_command` does, but puts the bytes of a write into `payload`, from which the
+    /// result borrows them.
     pub fn next_ref<'a>(&mut self, payload: &'a mut PayloadBuffer) -> NextRef<'a>
         ensures { Answers self.old (owned_next result) self.new }
     {
@@ -138,7 +139,8 @@ impl Reader {
         }
     }
 
-    /// What a call returns if the kept bytes hold no line: `End` if the end was announced, else `NeedMore`.
+    /// What `next_command` returns if the kept bytes hold no line: `End` if the end was announced,
+    /// else `NeedMore`.
     fn without_line<'a>(&self) -> NextRef<'a>
         requires going { self.now.stopped ≡ None }
         requires none { HasNoLine self.now.kept self.now.ended }
@@ -167,8 +169,8 @@ impl Reader {
         }
     }
 
-    /// Returns where the first line of the kept bytes ends. `None` if they hold no whole line; the next call
-    /// then doesn't search the same bytes again.
+    /// Returns where the first line of the kept bytes ends. `None` if they hold no whole line; the
+    /// next call then searches only bytes fed later.
     fn find_line(&mut self) -> Option<Cut>
         ensures same { self.new ≡ self.old }
         ensures found { MatchOption result (HasNoLine self.old.kept self.old.ended)
@@ -230,8 +232,8 @@ impl Reader {
     }
 }
 
-/// Drops the bytes of the buffer before `start`, and moves the others to its start. They must not overlap
-/// their new place.
+/// Drops the bytes before `start` from the buffer, and moves the others to the buffer's start.
+/// Their old and their new place must not overlap.
 fn drop_front(buffer: &mut ArrayVec<u8, BUFFER>, start: usize)
     requires within { start ≤ length buffer.old.items }
     requires apart { length buffer.old.items ≤ start + start }
@@ -243,8 +245,8 @@ fn drop_front(buffer: &mut ArrayVec<u8, BUFFER>, start: usize)
     buffer.truncate(left);
 }
 
-/// Where the first line of the kept bytes ends: it has `len` bytes, its line feed not counted, and the next
-/// line starts at byte `next` of the kept bytes.
+/// Where the first line of the kept bytes ends: the line has `len` bytes, its line feed not
+/// counted, and the next line starts at byte `next` of the kept bytes.
 #[derive(Clone, Copy)]
 struct Cut {
     len: usize,
@@ -279,8 +281,9 @@ fn first_line(kept: &[u8], searched: usize, ended: bool) -> Option<Cut>
     }
 }
 
-/// Whether the bytes `rest`, which hold no line feed, count as a line: there is at least one byte, and the script
-/// has ended (`ended`) or the bytes are more than a line may have. In the latter case the line is bad.
+/// Whether the bytes `rest`, which hold no line feed, count as a line: there is at least one byte,
+/// and the script has ended (`ended`) or there are more bytes than a line may have. In the latter
+/// case the line is bad.
 fn is_line(rest: &[u8], ended: bool) -> bool
     ensures { result ≡ is_last_line ended rest.now }
 {

@@ -1,4 +1,5 @@
-//! The stages of a script, by which a line is allowed or not: first `heap`, then `k`, then the others.
+//! The stages of a script, which determine whether a line is allowed: first the `heap` line, then
+//! any `k` commands, then the other commands.
 ghost use Rattle.std.specs.Prelude.{◌≡◌};
 ghost use Rattle.script_reader.specs.Answered.{saying_if, stage_said};
 ghost use Rattle.script_reader.specs.Items as place;
@@ -10,11 +11,11 @@ use crate::next_ref::NextRef;
 /// The stage that a script is at after the lines read so far. It determines which lines are allowed next.
 #[derive(Clone, Copy, Debug, PartialEq, Eq)]
 pub enum Stage {
-    /// No command was read; only `heap` may follow.
+    /// No item was read; only the `heap` line may follow.
     Opening,
-    /// Only `heap` and maybe `k` were read; any command but `heap` may follow.
+    /// Only the `heap` line and maybe `k` commands were read; any command may follow.
     Bounding,
-    /// A command other than `heap` and `k` was read; neither of these two may follow.
+    /// A command other than `k` was read; any command but `k` may follow.
     Running,
 }
 

@@ -1,5 +1,6 @@
-//! Splits a line into tokens, the runs of bytes between spaces and tabs, and reads a token as a number. A
-//! space or a tab is called a gap.
+//! Splits a line into tokens, the runs of bytes between spaces and tabs, and reads a token as a
+//! number. A space or a tab is called a gap. Also finds a line feed, and cuts off a carriage
+//! return.
 ghost use Rattle.std.specs.Prelude.{◌≡◌, ◌≤◌, ◌==◌, length, position, not, option_map, true, false, MatchOption, IfSome, [], ◌∷◌};
 ghost use Rattle.std.specs.List.{position_or_len};
 ghost use Rattle.cf_io.specs.Numbers.{number_in};
@@ -10,7 +11,8 @@ ghost use Rattle.script_reader.specs.Lines.{without_return as no_return, is_gap 
 use cf_io::leading_number;
 use memchr::{memchr_iter, memchr2};
 
-/// The least length in bytes of a text in which `memchr2`, which tests many bytes at once, finds the first gap.
+/// Texts of at least this many bytes are searched for a gap by `memchr2`, which tests many bytes at
+/// once.
 const LONG: usize = 64;
 
 /// The position of the first line feed, if there is one.
@@ -108,7 +110,7 @@ pub fn split_token(text: &[u8]) -> Option<(&[u8], &[u8])>
     Some(text.split_at(token_length(text)))
 }
 
-/// Whether the text has no token.
+/// Whether the text has no token: it is empty, or has only gaps.
 pub fn is_done(text: &[u8]) -> bool
     ensures { result ≡ none_of (tokens text.now) }
 {
@@ -127,8 +129,8 @@ pub fn take_number(text: &[u8]) -> Option<(u32, &[u8])>
     Some((n, rest))
 }
 
-/// `text` follows the first bytes of a token. If `text` is empty or begins with a gap, the token ends before it:
-/// returns `text` without that gap. `None` if the token continues in `text`.
+/// If `text`, which follows the first bytes of a token, is empty or begins with a gap, the token
+/// ends before it: returns `text` without that gap. `None` if the token continues in `text`.
 #[inline(always)]
 fn past_token(text: &[u8]) -> Option<&[u8]>
     ensures { MatchOption result (parted text.now ≡ false) (λ rest. (parted text.now ≡ true) × (tokens rest.now ≡ tokens text.now)) }

@@ -1,5 +1,5 @@
 //! The size classes of a heap's pages as a table (`Classes`): the words of a slot of each class,
-//! and the class of a request.
+//! the class of an object by its length, and the page of a word of the region.
 #![tactic(auto)]
 
 mod needs;

@@ -7,7 +7,7 @@ ghost use Rattle.size_classes.specs.Layout.{ShowsClasses};
 use std::alloc::{AllocError, Global};
 
 /// Returns, for each need from 0 to `page_words` words, its class: the index of the least of
-/// `sizes` that is at least the need.
+/// `sizes` that is at least the need. Fails if the allocation fails.
 pub(crate) fn classes_by_need(
     alloc: Global,
     sizes: &[u32],

@@ -1,4 +1,5 @@
-//! `Classes`: the slot sizes of a heap's pages in a table, and the class of a length.
+//! `Classes`: the slot sizes of a heap's pages in a table, the class of an object by its length,
+//! and the page of a word of the region.
 ghost use Rattle.std.specs.Prelude.{◌≡◌, ◌↔◌, ◌/◌, ◌%◌, ◌^◌, ◌<◌, ◌≤◌, IsTrue, IsNone, IfOk, IfSome, length, slice_index};
 ghost use Rattle.step_ledger.specs.Counting.{RoseBy};
 ghost use Rattle.cf_base.specs.Classes.{need, slots, class_of};
@@ -12,8 +13,8 @@ use std::alloc::Global;
 use std::marker::Model;
 use step_ledger::{Cells, Steps};
 
-/// The size classes of pages: the words of a slot of each class, in rising order, by the rule of
-/// Compact-fit (2008). A class is an index into this list.
+/// The size classes of pages: the words of a slot of each class, in rising order (`slot_sizes`). A
+/// class is an index into this list.
 #[derive(Drop)]
 pub struct Classes {
     sizes: Vec<u32>,
@@ -67,7 +68,7 @@ impl Classes {
         sizes.and(BytesNeeded::block(u64::from(page_words) + 1))
     }
 
-    /// The number of classes in the table, at most 67.
+    /// The number of classes in the table.
     pub fn len(&self) -> u32
         ensures { result ≡ length self.now.sizes }
     {
@@ -116,15 +117,16 @@ impl Classes {
         address & (self.page_words - 1)
     }
 
-    /// By the table `Classes`, the class of an object of `bytes` bytes: the one with the smallest slots that hold it
-    /// and its header; none if it needs more than a page. Costs one step.
+    /// By the table `Classes`, the class of an object of `bytes` bytes: the one with the smallest
+    /// slots that hold the object and its header; none if these need more words than a page has.
+    /// Costs one step.
     pub fn class_of(&self, bytes: u32, steps: &mut Steps) -> Option<u32>
         ensures found { result ≡ class_of self.now.sizes bytes }
         ensures none { IsNone result ↔ (self.now.page_words < need bytes) }
         ensures within { IfSome result (λ c. c < length self.now.sizes) }
         ensures steps { RoseBy steps.old steps.new 1 }
     {
-        // The words that it needs (`need_of`), by one division.
+        // The words that the object needs (`need_of`), by one division.
         let words = (u64::from(bytes) + 15) / 8;
         if words > u64::from(self.page_words) {
             // A refused size reads an entry too, so that each call costs one step.

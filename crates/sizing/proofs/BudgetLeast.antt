@@ -19,7 +19,7 @@ use Rattle.page_model.specs.Held.{Objects}
 use Rattle.page_model.specs.Paging.{IsPaging, Paging, class_for, classes, slots_of}
 use Rattle.page_model.proofs.CallerLemmas.{ceil_mono, class_holds, slot_fits, slots_some, sum_plus, sum_same, sum_zeros}
 use Rattle.quota_model.specs.Admission.{count_of_class, first_large, in_order, pages_needed_by}
-use Rattle.quota_model.specs.declared.answers.Need.{Need}
+use Rattle.quota_model.specs.declared.results.Need.{Need}
 use Rattle.quota_model.proofs.CallerLemmas.{contained, count-map, counted_by, declared_is, times}
 use Rattle.sizing.specs.Demands.{Affords, KeepsBudget, KeepsTo, objects_to_open}
 use Rattle.sizing.specs.Runs.{CanBeRefused}

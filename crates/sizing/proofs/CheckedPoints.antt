@@ -15,7 +15,7 @@ use Rattle.cf_base.proofs.Tests.{eq_no, eq_yes}
 use Rattle.page_model.specs.Counts.{most_pages}
 use Rattle.page_model.specs.Paging.{IsPaging, Paging, bound_of, class_for, classes, paging_of, slots_of}
 use Rattle.page_model.proofs.CallerLemmas.{paged}
-use Rattle.quota_model.specs.declared.answers.Need.{Need}
+use Rattle.quota_model.specs.declared.results.Need.{Need}
 use Rattle.sizing.specs.Certificates.{AreForResizes, IsCertificate, IsPoint, LeadsInto, in_both, kept_count, mode_at, mode_count, one_more_of, pages_with_copy}
 use Rattle.sizing.specs.Checks.{AllowsResizes, AreCounts, IsRow, needs_of, paging_with, with_pages}
 use Rattle.sizing.specs.Demands.{KeepsToOne, count_in}

@@ -21,7 +21,7 @@ use Rattle.page_model.proofs.CallerLemmas.{bytes_missing, can_malloc, class_fits
 use Rattle.page_model.proofs.Enough.{needed_le_used}
 use Rattle.page_model.proofs.Lacking.{lacks_room_is, used_le}
 use Rattle.quota_model.specs.Admission.{count_of_class, declared, first_large, in_order, live_of, pages_needed_by}
-use Rattle.quota_model.specs.declared.answers.Need.{Need}
+use Rattle.quota_model.specs.declared.results.Need.{Need}
 use Rattle.quota_model.proofs.CallerLemmas.{AllFit, all_fit, count-append, count-cons, declared_is, live_of-inserted, times}
 use Rattle.sizing.specs.Demands.{KeepsTo}
 use Rattle.sizing.specs.Runs.{CanBeRefused, malloc_of}

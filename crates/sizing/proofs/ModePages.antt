@@ -25,7 +25,7 @@ use Rattle.page_model.proofs.Nothing.{none_home}
 use Rattle.page_model.proofs.PageCounts.{sound_can_hold}
 use Rattle.page_model.proofs.PageLaws.{most_pages_least}
 use Rattle.quota_model.specs.Admission.{first_large, in_order, live_of, pages_needed_by}
-use Rattle.quota_model.specs.declared.answers.Need.{Need}
+use Rattle.quota_model.specs.declared.results.Need.{Need}
 use Rattle.quota_model.proofs.CallerLemmas.{live_of-inserted}
 use Rattle.sizing.specs.Certificates.{AreForResizes, HoldCopies, IsCertificate, IsPoint, KeepResized, LeadsInto, LeadsToPoint, kept_count, mode_at, mode_count, one_more_of, pages_with_copy}
 use Rattle.sizing.specs.Demands.{HasAtMost, KeepsTo, KeepsToOne, count_in, greatest_of, pages_of_modes, spread_of, spread_of_modes}

@@ -12,7 +12,7 @@ use Rattle.page_model.proofs.CallerLemmas.{sound_empty}
 use Rattle.page_model.proofs.Lacking.{none_free}
 use Rattle.page_model.proofs.Nothing.{none_home}
 use Rattle.quota_model.specs.Admission.{in_order, pages_needed_by}
-use Rattle.quota_model.specs.declared.answers.Need.{Need}
+use Rattle.quota_model.specs.declared.results.Need.{Need}
 use Rattle.quota_model.proofs.CallerLemmas.{contained, count-map, declared_is}
 use Rattle.sizing.specs.Demands.{HasAtMost, KeepsTo, count_in}
 use Rattle.sizing.specs.Runs.{Does, HeapCall, IsServed, RunCalls}

@@ -20,8 +20,8 @@ use Rattle.page_model.proofs.CallerLemmas.{class_holds, first_paged}
 use Rattle.page_model.proofs.Sizes.{class_least}
 use Rattle.quota_model.specs.Admission.{CanBeAsked, IsAdmission, IsEnough, count_of_class, declared_in_all, in_order, pages_needed_by}
 use Rattle.quota_model.specs.Refusals.{task_paging}
-use Rattle.quota_model.specs.declared.answers.Admission.TheVariants.{Yes}
-use Rattle.quota_model.specs.declared.answers.Need.{Need}
+use Rattle.quota_model.specs.declared.results.Admission.TheVariants.{Yes}
+use Rattle.quota_model.specs.declared.results.Need.{Need}
 use Rattle.quota_model.proofs.CallerLemmas.{counted_by, enough_iff, length-in_order, pages_few}
 use Rattle.sizing.specs.Demands.{KeepsTo}
 use Rattle.sizing.specs.Layout.{declared_between, pages_by_size, size_before}

@@ -18,7 +18,7 @@ use Rattle.page_model.specs.Paging.{IsPaging, Paging, class_for, classes}
 use Rattle.page_model.specs.Steps.{resized, resized_at}
 use Rattle.page_model.proofs.CallerLemmas.{bytes_held, bytes_missing, free_objects, length-resized, live_added, live_taken, malloc_objects}
 use Rattle.quota_model.specs.Admission.{declared, declared_in_all, in_order, live_of}
-use Rattle.quota_model.specs.declared.answers.Need.{Need}
+use Rattle.quota_model.specs.declared.results.Need.{Need}
 use Rattle.quota_model.proofs.CallerLemmas.{contained, declared_is, live_of-inserted}
 use Rattle.sizing.specs.Certificates.{in_both, one_more_of}
 use Rattle.sizing.specs.Checks.{common_entry, need_at}

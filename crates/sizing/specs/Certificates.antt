@@ -1,11 +1,12 @@
--- Certificates that pages are enough for the modes of a program, whatever the bounds: for each mode some numbers of pages by class, one of which no run that is
--- in the mode exceeds. An unverified planner can compute them, and `is_certified` tests them.
+-- Certificates that pages are enough for the modes of a program, whatever the bounds: for each mode some points, lists of pages by class, one of which no
+-- run that is in the mode exceeds. An unverified planner can compute them, and `is_certified` tests them.
+-- Then the levels and the certificate of a budget.
 use Rattle.std.specs.Prelude.{◌≡◌, ◌≢◌, ℕ, ◌+◌, ◌-◌, ◌*◌, ◌/◌, ◌<◌, ◌≤◌, All, List, [], ◌∷◌, Contains, if◌then◌else◌, length, min, nat_eq, slice_index, slice_index_or, sum_by}
 use Rattle.std.specs.List.{range_with_len}
 use Rattle.page_model.specs.Counts.{ceil_div, most_pages}
 use Rattle.page_model.specs.Paging.{Paging, bound_of, classes, slots_of}
 use Rattle.quota_model.specs.Admission.{declared}
-use Rattle.quota_model.specs.declared.answers.Need.{Need}
+use Rattle.quota_model.specs.declared.results.Need.{Need}
 use Rattle.sizing.specs.Demands.{Affords, count_in}
 use Rattle.sizing.specs.declared.certificate.PointPages.{PointPages}
 

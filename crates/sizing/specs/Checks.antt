@@ -1,8 +1,8 @@
--- What the test of a certificate is given, and the tables that it computes.
+-- What the test of a certificate is given, the tables that it computes, and the conditions of a point, one list of the certificate, as it tests them.
 use Rattle.std.specs.Prelude.{◌≡◌, ℕ, ◌-◌, ◌<◌, ◌≤◌, ◌+◌, Bool, IsTrue, List, drop, length, map, min, slice_index, slice_index_or}
 use Rattle.page_model.specs.Paging.{Paging, classes}
 use Rattle.quota_model.specs.Admission.{declared, declared_in_all}
-use Rattle.quota_model.specs.declared.answers.Need.{Need}
+use Rattle.quota_model.specs.declared.results.Need.{Need}
 use Rattle.sizing.specs.Certificates.{HoldsCopies, IsPoint, KeepsResized, LeadsInto, in_both, kept_count, mode_count}
 use Rattle.sizing.specs.Demands.{count_in}
 use Rattle.sizing.specs.declared.points.HeapClasses.{HeapClasses}
@@ -28,7 +28,8 @@ with_pages n p = record p { pages = n }
 abbrev pub paging_with : ℕ → HeapClasses → Paging
 paging_with pages heap = record { pages = pages; page_words = heap.page_words; sizes = heap.sizes.now; bounds = heap.bounds.now }
 
--- the tables have by class how many objects the needs of a mode declare, and those of a mode after it, and how many both
+-- the tables have by class how many objects `needs` declare (`before`), how many `others` declare (`after`), and how many both declare, of each length the
+-- smaller number (`kept`)
 pub record AreCounts (p : Paging) (needs others : List Need) (t : TwoModes) : Type 0 where
   pub before : (c : ℕ) → c < classes p → slice_index t.before c ≡ count_in p needs c
   pub after : (c : ℕ) → c < classes p → slice_index t.after c ≡ count_in p others c

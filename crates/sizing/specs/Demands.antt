@@ -8,7 +8,7 @@ use Rattle.page_model.specs.Counts.{ceil_div, most_pages}
 use Rattle.page_model.specs.Held.{Objects}
 use Rattle.page_model.specs.Paging.{Paging, bound_of, class_for, classes, slots_of}
 use Rattle.quota_model.specs.Admission.{count_of_class, declared, in_order, live_of, pages_needed_by}
-use Rattle.quota_model.specs.declared.answers.Need.{Need}
+use Rattle.quota_model.specs.declared.results.Need.{Need}
 
 -- of each class c at most `most c` objects
 abbrev pub HasAtMost : Paging → (ℕ → ℕ) → Objects → Type 0

@@ -1,15 +1,15 @@
 -- Runs of a program on a manager with pages, as the trait `Manager` shows them: its calls with their results, refused ones too.
 use Rattle.std.specs.Prelude.{◌≡◌, ℕ, List, [], ◌∷◌, Err, None, Result, Some, replicate}
 use Rattle.std.specs.FinMap.{empty, get, insert}
-use Rattle.cf_base.specs.declared.answers.AccessFault.{AccessFault}
-use Rattle.cf_base.specs.declared.answers.Freed.{Freed}
-use Rattle.cf_base.specs.declared.answers.Handle.{Handle}
-use Rattle.cf_base.specs.declared.answers.NotLive.{NotLive}
-use Rattle.cf_base.specs.declared.answers.Refusal.{Refusal}
-use Rattle.cf_base.specs.declared.answers.Refusal.TheVariants as refusal
-use Rattle.cf_base.specs.declared.answers.Resized.{Resized}
-use Rattle.cf_base.specs.declared.answers.ResizeFault.{ResizeFault}
-use Rattle.cf_base.specs.declared.answers.ResizeFault.TheVariants as resize
+use Rattle.cf_base.specs.declared.results.AccessFault.{AccessFault}
+use Rattle.cf_base.specs.declared.results.Freed.{Freed}
+use Rattle.cf_base.specs.declared.results.Handle.{Handle}
+use Rattle.cf_base.specs.declared.results.NotLive.{NotLive}
+use Rattle.cf_base.specs.declared.results.Refusal.{Refusal}
+use Rattle.cf_base.specs.declared.results.Refusal.TheVariants as refusal
+use Rattle.cf_base.specs.declared.results.Resized.{Resized}
+use Rattle.cf_base.specs.declared.results.ResizeFault.{ResizeFault}
+use Rattle.cf_base.specs.declared.results.ResizeFault.TheVariants as resize
 use Rattle.page_model.specs.Held.{Objects, Placed, objects}
 use Rattle.page_model.specs.Steps.{Request, resized}
 use Rattle.cf_model.specs.Rules.{IsPaged, KeepsRules}
@@ -47,7 +47,7 @@ ServesHeapMallocs allowed s = (calls : List AnsweredCall) (last new : HeapState)
     → ((h : ℕ) → get last.held h ≡ None → allowed (insert (objects last.held) h (replicate n 0)))
     → ¬ IsMallocStep last n (Err refusal.Space) new
 
--- the same of resizes
+-- whatever the program called before, in whatever order, no allowed resize is refused for space
 abbrev pub ServesHeapResizes : (Objects → Type 0) → HeapState → Type 0
 ServesHeapResizes allowed s = (calls : List AnsweredCall) (last new : HeapState) (asked : Request) → HeapRun allowed s calls last
     → ((x : Placed) → get last.held asked.number ≡ Some x → allowed (insert (objects last.held) asked.number (resized x.bytes asked.length)))

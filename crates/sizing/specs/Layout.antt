@@ -2,7 +2,7 @@
 use Rattle.std.specs.Prelude.{ℕ, zero, suc, ◌+◌, ◌/◌, ◌&&◌, List, [], ◌∷◌, if◌then◌else◌, nat_le, nat_lt, slice_index, sum_by}
 use Rattle.cf_base.specs.Classes.{need}
 use Rattle.page_model.specs.Counts.{ceil_div}
-use Rattle.quota_model.specs.declared.answers.Need.{Need}
+use Rattle.quota_model.specs.declared.results.Need.{Need}
 
 -- how many of the declared objects need more than `below` words and at most `most`
 abbrev pub declared_between : ℕ → ℕ → List Need → ℕ

@@ -68,21 +68,23 @@ pub record ResizeLacks (p : Paging) (allowed : Objects → Type 0) (m : Held) (h
 abbrev pub ServesMallocsBy : (Held → HeapCall → Held → Type 0) → Paging → (Objects → Type 0) → Type 0
 ServesMallocsBy step p allowed = (calls : List HeapCall) (m : Held) (h n : ℕ) → RunCallsBy step allowed empty calls m → ¬ MallocLacks p allowed m h n
 
--- the same of resizes
+-- whatever a program called before by these steps, in whatever order, no allowed resize is refused for space
 abbrev pub ServesResizesBy : (Held → HeapCall → Held → Type 0) → Paging → (Objects → Type 0) → Type 0
 ServesResizesBy step p allowed = (calls : List HeapCall) (m : Held) (h n : ℕ) → RunCallsBy step allowed empty calls m → ¬ ResizeLacks p allowed m h n
 
--- of any program
+-- whatever a program called before, no allowed malloc is refused for space
 abbrev pub ServesMallocs : Paging → (Objects → Type 0) → Type 0
 ServesMallocs p allowed = ServesMallocsBy (Does p) p allowed
 
+-- whatever a program called before, no allowed resize is refused for space
 abbrev pub ServesResizes : Paging → (Objects → Type 0) → Type 0
 ServesResizes p allowed = ServesResizesBy (Does p) p allowed
 
--- of a program that never resizes an object to another length of its class
+-- no allowed malloc is refused for space to a program that never resizes an object to another length of its class
 abbrev pub ServesMallocsAcross : Paging → (Objects → Type 0) → Type 0
 ServesMallocsAcross p allowed = ServesMallocsBy (DoesAcross p) p allowed
 
+-- no allowed resize is refused for space to a program that never resizes an object to another length of its class
 abbrev pub ServesResizesAcross : Paging → (Objects → Type 0) → Type 0
 ServesResizesAcross p allowed = ServesResizesBy (DoesAcross p) p allowed
 

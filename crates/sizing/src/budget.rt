@@ -1,4 +1,4 @@
-//! Laws of a program with a budget, as a cache: how many pages are enough, and how many are needed. `p` holds
+//! Laws of a program with a budget, such as a cache: how many pages are enough, and how many are needed. `p` holds
 //! the pages and the classes. An object of n bytes costs `cost n`, and `price c` is at most what an object of
 //! class `c` costs.
 ghost use Rattle.std.specs.Prelude.{ℕ, ◌≡◌, ◌<◌, ◌≤◌, sum_by};
@@ -10,10 +10,10 @@ ghost use Rattle.sizing.specs.Checks.{with_pages};
 ghost use Rattle.sizing.specs.Demands.{Affords, ArePrices, KeepsBudget};
 ghost use Rattle.sizing.specs.Runs.{CanBeRefused, ServesMallocs, ServesResizes};
 
-/// Each class `i` has a level `t` (`AreBudgetLevels`). The objects of a full page cost at least `t`, whatever its
-/// class. The budget, with `t - price c` for each page of another class `c` that can be partly full, is less than
-/// `t` for each page and `price i` for the new object. Then, whatever the bounds, no malloc is refused for space
-/// (`mallocs`). With one page more no resize is either (`resizes`).
+/// Whatever the bounds, no malloc of a program with the budget is refused for space (`mallocs`) if each class `i` has a
+/// level `t` (`AreBudgetLevels`): at the prices a full page of any class costs at least `t`; and the budget, plus
+/// `t - price c` (0 if negative) for each page of another class `c` that can be partly full, is less than `t` times
+/// the pages, plus `price i`. With one page more no resize is either (`resizes`).
 pub fn pages_for_a_budget_serve()
     ensures mallocs { (p : Paging) (cost price levels : ℕ → ℕ) (budget : ℕ) → IsPaging p → ArePrices p cost price
         → AreBudgetLevels p price budget levels → ServesMallocs p (KeepsBudget cost budget) }
@@ -21,8 +21,8 @@ pub fn pages_for_a_budget_serve()
         → AreBudgetLevels (with_pages pages p) price budget levels → pages < p.pages → ServesResizes p (KeepsBudget cost budget) }
 {}
 
-/// If every bound is 1, the least number of pages of a program with a budget is the greatest number that
-/// the budget affords, over all numbers of pages by class. With this number no malloc is refused for space
+/// If every bound is 1, and there are at least the most pages that the budget affords (`Affords`), however
+/// they are divided among the classes, no malloc of a program with this budget is refused for space
 /// (`mallocs`). With one page more no resize is either (`resizes`).
 pub fn pages_that_a_budget_affords_serve()
     ensures mallocs { (p : Paging) (cost price : ℕ → ℕ) (budget : ℕ) → IsPaging p → EveryBoundIsOne p → ArePrices p cost price
@@ -33,9 +33,9 @@ pub fn pages_that_a_budget_affords_serve()
         → ServesResizes p (KeepsBudget cost budget) }
 {}
 
-/// Whatever the bounds, with fewer pages than the budget affords some run within it, begun without
-/// objects, has a malloc that is refused for space. In each class `c` with one of these pages there is an
-/// object, of `lengths c` bytes, that costs no more than the price.
+/// Whatever the bounds, with fewer pages than the budget affords (`Affords`) some run within the budget, begun
+/// without objects, has a malloc that is refused for space. This holds if each class `c` with one of the
+/// afforded pages has an object, of `lengths c` bytes, that costs no more than the price.
 pub fn fewer_pages_than_a_budget_affords_refuse()
     ensures { (p : Paging) (cost price lengths pages : ℕ → ℕ) (budget : ℕ) → IsPaging p
         → ((c : ℕ) → c < classes p → 0 < pages c → (class_for p (lengths c) ≡ c) × (cost (lengths c) ≤ price c))

@@ -1,5 +1,5 @@
-//! The tests whether pages are enough, and the least, for a program with a budget, by numbers that an
-//! unproved planner found.
+//! The tests whether pages are enough, and the least, for a program with a budget, by numbers of each
+//! class that an unproved planner found: levels and opened pages.
 ghost use Rattle.std.specs.Prelude.{ℕ, ◌≡◌, ◌*◌, ◌/◌, ◌<◌, ◌≤◌, ◌↔◌, IsTrue, None, length, slice_index, sum_by};
 ghost use Rattle.std.specs.List.{range_with_len};
 ghost use Rattle.std.specs.FinMap.{empty};
@@ -19,10 +19,10 @@ use cf_base::{Layout, Settings};
 use quota_model::{CLASSES, fill_sizes, pages_for};
 
 /// Whether the levels show that `pages` pages of `page_bytes` bytes are enough for a budget, if an object of each
-/// class costs at least its price and these are the bounds (`exact`). There must be a price, a level and a bound,
-/// at least 1, for each class, else the result is false. If it is true, a heap with these pages and no greater
-/// bounds refuses no malloc of a program within the budget for space (`mallocs`), with one page more no resize
-/// (`resizes`).
+/// class costs at least its price and these are the bounds (`exact`). The settings must be in range, and there
+/// must be a price, a level and a bound, at least 1, for each class, else the result is false. If it is true, a
+/// heap with these pages and no greater bounds refuses no malloc of a program within the budget for space
+/// (`mallocs`), with one page more no resize (`resizes`).
 pub fn are_budget_levels(
     pages: u32,
     page_bytes: u32,
@@ -66,9 +66,10 @@ pub fn are_budget_levels(
 
 /// Whether the levels and the pages `opened` of each class are a certificate that `pages` pages of `page_bytes`
 /// bytes are the least for a budget, if every bound is 1 and an object of each class costs at least its price
-/// (`exact`). There must be a price, a level and a number for each class, else the result is false. If it is true, no malloc of a program within the budget is refused for space (`mallocs`), with one page more no
-/// resize (`resizes`); and if each class that has opened pages has an object at its price, with fewer pages
-/// some malloc is refused (`least`).
+/// (`exact`). The settings must be in range, and there must be a price, a level and a number of opened pages for
+/// each class, else the result is false. If it is true, no malloc of a program within the budget is refused for
+/// space (`mallocs`), with one page more no resize (`resizes`). With fewer pages some malloc is refused, if each
+/// class that has opened pages has an object at its price (`least`).
 pub fn is_budget_certificate(
     pages: u32,
     page_bytes: u32,
@@ -112,7 +113,7 @@ pub fn is_budget_certificate(
     are_least(s.pages, &heap, prices, budget, levels, opened)
 }
 
-/// Whether the budget's certificate is one for a heap of `pages` pages.
+/// Whether the levels and the opened pages are a certificate that `pages` pages are the least for the budget.
 fn are_least(
     pages: u32,
     heap: &HeapClasses,
@@ -135,7 +136,7 @@ fn are_least(
     affords(heap, prices, budget, opened)
 }
 
-/// Whether the levels show that `pages` pages are enough.
+/// Whether the levels show that `pages` pages are enough for the budget, class by class.
 fn are_enough(pages: u32, heap: &HeapClasses, prices: &[u32], budget: u32, levels: &[u32]) -> bool
     requires heap { IsPaging (paging_with pages heap.now) }
     requires prices { length prices.now ≡ classes (paging_with pages heap.now) }
@@ -150,7 +151,7 @@ fn are_enough(pages: u32, heap: &HeapClasses, prices: &[u32], budget: u32, level
     true
 }
 
-/// Whether the level shows that `pages` pages are enough for a new object of class i.
+/// Whether the level shows that, within the budget, `pages` pages are enough for a new object of class i.
 fn is_enough(
     pages: u32,
     heap: &HeapClasses,
@@ -171,7 +172,7 @@ fn is_enough(
     gaps_fit(heap, prices, budget, i, level, most - budget as u64 - 1)
 }
 
-/// Whether the objects of a full page cost at least `level`, whatever its class.
+/// Whether the objects of a full page, at these prices, cost at least `level`, whatever its class.
 fn is_level(heap: &HeapClasses, prices: &[u32], level: u32) -> bool
     requires heap { IsPaging (paging_with 0 heap.now) }
     requires prices { length prices.now ≡ classes (paging_with 0 heap.now) }
@@ -186,7 +187,7 @@ fn is_level(heap: &HeapClasses, prices: &[u32], level: u32) -> bool
     true
 }
 
-/// Whether the budget's gaps beside class i are at most `most` in all.
+/// Whether the gaps of all classes (`gap_beside`) sum to at most `most`, for a new object of class i.
 fn gaps_fit(
     heap: &HeapClasses,
     prices: &[u32],
@@ -210,7 +211,8 @@ fn gaps_fit(
     true
 }
 
-/// What the pages of class c that can be partly full cost less than `level`; nothing of class i.
+/// For a new object of class i: by how much the price of class c is below `level`, times the pages of class c that can
+/// be partly full within the budget and the bound. 0 if c is i, or its price is 0.
 fn gap_beside(
     heap: &HeapClasses,
     prices: &[u32],
@@ -231,7 +233,7 @@ fn gap_beside(
     filled.min(heap.bounds[c] as u64) * level.saturating_sub(prices[c]) as u64
 }
 
-/// For a budget, the sum of the numbers.
+/// For a budget, the sum of at most 67 numbers of pages.
 fn sum_of(numbers: &[u32]) -> u64
     requires few { length numbers.now ≤ 67 }
     ensures { result ≡ sum_by (slice_index numbers.now) (range_with_len 0 (length numbers.now)) }
@@ -243,7 +245,7 @@ fn sum_of(numbers: &[u32]) -> u64
     sum
 }
 
-/// Whether the budget pays for the objects that open these pages.
+/// Whether the budget pays for the objects that open the pages `opened` of each class, each at its class's price.
 fn affords(heap: &HeapClasses, prices: &[u32], budget: u32, opened: &[u32]) -> bool
     requires heap { IsPaging (paging_with 0 heap.now) }
     requires prices { length prices.now ≡ classes (paging_with 0 heap.now) }
@@ -263,7 +265,8 @@ fn affords(heap: &HeapClasses, prices: &[u32], budget: u32, opened: &[u32]) -> b
     true
 }
 
-/// For a budget, how many objects open `pages` pages with `slots` slots each.
+/// For a budget, how many objects open `pages` pages with `slots` slots each: all pages but one are full, and one has
+/// one object. 0 if `pages` is 0.
 fn objects_to_open(pages: u32, slots: u32) -> u64
     requires pages { pages ≤ 4096 }
     requires slots { slots ≤ 16384 }

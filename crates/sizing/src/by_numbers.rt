@@ -1,4 +1,4 @@
-//! `least_pages` by plain numbers, for a caller without settings, as one in C.
+//! `pages_needed`: what `least_pages` computes, for a caller with plain numbers instead of `Settings`, as in C.
 ghost use Rattle.std.specs.Prelude.{◌≡◌, ◌/◌, ◌<◌, ◌≤◌, IfErr, IfOk, None, length};
 ghost use Rattle.std.specs.FinMap.{empty};
 ghost use Rattle.cf_base.specs.Classes.{sizes};
@@ -8,14 +8,14 @@ ghost use Rattle.page_model.specs.Paging.{IsPaging, Paging};
 ghost use Rattle.quota_model.specs.Admission.{CanBeAsked, declared_in_all};
 ghost use Rattle.sizing.specs.Demands.{KeepsTo};
 ghost use Rattle.sizing.specs.Heaps.{IsFresh, ServesHeapMallocs, ServesHeapResizes};
-ghost use Rattle.sizing.specs.Needs.{HasFault};
+ghost use Rattle.sizing.specs.Needs.{HasFault, HasNoFault};
 ghost use Rattle.sizing.specs.Runs.{CanBeRefused};
 
 use crate::least::least_pages;
 use cf_base::{Layout, SettingFault, Settings};
 use quota_model::{Need, count_in_all, first_large};
 
-/// Why there is no number.
+/// Why `pages_needed` returns no number of pages.
 #[derive(Clone, Copy, Debug, PartialEq, Eq)]
 pub enum NeedsFault {
     /// There are more than 64 entries.
@@ -31,8 +31,8 @@ pub enum NeedsFault {
 /// The least number of pages of `page_bytes` bytes with which no call of a program is refused for space
 /// while it keeps to its `needs`. A manager with pages and slots of this layout that was opened with so
 /// many pages, and has any bounds, serves each malloc (`mallocs`) and resize (`resizes`). With fewer
-/// pages some malloc is refused (`least`). `k` is only tested: it may be the bound of a heap (`setting`). A
-/// heap may have a proxy for each declared object (`proxies`).
+/// pages some malloc is refused (`least`). `k` is only tested: a heap may have it as its bound. Fails for the first
+/// cause of `NeedsFault` that holds (`fault`), and only then (`none`).
 pub fn pages_needed(
     page_bytes: u32,
     k: u32,
@@ -46,8 +46,7 @@ pub fn pages_needed(
     ensures least { IfOk result (λ pages. (p : Paging) → IsPaging p
         → p.page_words ≡ page_bytes / 8 → p.sizes ≡ sizes (page_bytes / 8) layout
         → p.pages < pages → CanBeRefused p (KeepsTo needs.now) empty) }
-    ensures proxies { IfOk result (λ pages. declared_in_all needs.now ≤ 65536) }
-    ensures setting { IfOk result (λ pages. setting_fault 1 page_bytes k 65536 ≡ None) }
+    ensures none { IfOk result (λ pages. HasNoFault page_bytes k needs.now) }
     ensures fault { IfErr result (λ e. HasFault page_bytes k needs.now e) }
 {
     let s = settings_for(page_bytes, k, needs)?;
@@ -58,13 +57,13 @@ pub fn pages_needed(
     }
 }
 
-/// For `least_pages`, settings of a heap with the most proxies, 65,536, if its pages can hold each declared object.
+/// For `least_pages`, settings of a heap with one page of `page_bytes` bytes, bound `k` and the most proxies, 65,536.
+/// Fails for the first cause of `NeedsFault` that holds (`fault`), and only then (`none`).
 fn settings_for(page_bytes: u32, k: u32, needs: &[Need]) -> Result<Settings, NeedsFault>
-    ensures few { IfOk result (λ s. length needs.now ≤ 64) }
     ensures page { IfOk result (λ s. s.page_words ≡ page_bytes / 8) }
     ensures asked { IfOk result (λ s. CanBeAsked (profile_of s) needs.now) }
     ensures proxies { IfOk result (λ s. s.proxies ≡ 65536) }
-    ensures setting { IfOk result (λ s. setting_fault 1 page_bytes k 65536 ≡ None) }
+    ensures none { IfOk result (λ s. HasNoFault page_bytes k needs.now) }
     ensures fault { IfErr result (λ e. HasFault page_bytes k needs.now e) }
 {
     if needs.len() > 64 {

@@ -11,7 +11,7 @@ use crate::points::{HeapClasses, are_points};
 use cf_base::{Layout, Settings};
 use quota_model::{CLASSES, Need, count_in_all, fill_sizes};
 
-/// How many entries a mode has.
+/// How many entries the needs of a mode have.
 pub const ENTRIES: usize = 64;
 
 /// For one mode of a program: the most live objects of each length. An entry that is not used has count 0.
@@ -21,7 +21,7 @@ pub struct ModeNeeds {
     pub needs: [Need; ENTRIES],
 }
 
-/// A point of a certificate: a mode, by its number from 0 on, and pages by class.
+/// A point of a certificate, one of its lists: its mode, by number from 0 on, and its pages of each class.
 #[repr(C)]
 #[derive(Clone, Copy, Debug, PartialEq, Eq)]
 pub struct PointPages {
@@ -32,8 +32,8 @@ pub struct PointPages {
 /// Whether the points are a certificate for a heap of `pages` pages of `page_bytes` bytes, slots of this layout and
 /// these bounds by class, and a program with these modes; and, if the program `resizes`, also for its resizes
 /// (`exact`). There must be settings with these numbers and 65,536 proxies, a bound, at least 1, for each class, and
-/// at most 65,536 objects in each mode, else the result is false (`bounds`). If it is true, no malloc is refused for
-/// space of a program that never resizes an object to another length of its class (`mallocs`), and with one page
+/// at most 65,536 objects in each mode, else the result is false (`bounds`). If it is true, and the program never
+/// resizes an object to another length of its class, no malloc is refused for space (`mallocs`), and with one page
 /// more no resize (`spare`). If the program `resizes`, no malloc and no resize is refused (`resizes`).
 pub fn is_certified(
     pages: u32,
@@ -78,7 +78,7 @@ pub fn is_certified(
     are_certificate(s.pages, &heap, modes, points, resizes)
 }
 
-/// For a certificate, whether the bounds are one for each size, and at least 1.
+/// For a certificate, whether there is one bound for each slot size, and each bound is at least 1.
 pub(crate) fn has_bounds(sizes: &[u32], bounds: &[u32]) -> bool
     ensures { IsTrue result ↔ (length bounds.now ≡ length sizes.now)
         × ((c : ℕ) → c < length bounds.now → 1 ≤ slice_index bounds.now c) }
@@ -93,7 +93,8 @@ fn have_few(modes: &[ModeNeeds]) -> bool
     modes.iter().all(|mode| count_in_all(&mode.needs) <= 65536)
 }
 
-/// Whether the points are a certificate for a heap of `pages` pages and the modes, with resizes or without.
+/// Whether the points are a certificate for a heap of `pages` pages and the modes and, if the program `resizes`, also
+/// for its resizes.
 fn are_certificate(
     pages: u32,
     heap: &HeapClasses,

@@ -24,7 +24,7 @@ pub(crate) fn pages_of_needs(page_words: u32, layout: Layout, needs: &[Need]) ->
     }
 }
 
-/// For declared objects, counts the pages with slots of the sizes from `first` up to `page`, each 9/8 of the one
+/// How many pages all declared objects need, with slots of the sizes from `first` up to `page`, each 9/8 of the one
 /// before, rounded up. Sizes are counted in units of `unit` words.
 fn sum_over_sizes(unit: u32, first: u32, page: u32, needs: &[Need]) -> u64
     requires some { 1 ≤ first }
@@ -47,8 +47,8 @@ fn sum_over_sizes(unit: u32, first: u32, page: u32, needs: &[Need]) -> u64
     pages + pages_of_size(unit * page, below, unit * page, needs)
 }
 
-/// How many pages the declared objects need that need more than `below` words and at most `slot`,
-/// with slots of `slot` words.
+/// How many pages, with slots of `slot` words, hold the declared objects that need more than `below`
+/// words and at most `slot`.
 fn pages_of_size(page_words: u32, below: u32, slot: u32, needs: &[Need]) -> u64
     requires some { 1 ≤ slot }
     requires within { slot ≤ page_words }

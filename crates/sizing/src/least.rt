@@ -1,4 +1,5 @@
-//! The least number of pages with which no malloc of a program is refused for space.
+//! The least number of pages with which no malloc of a program is refused for space: with one mode or, if every bound
+//! is 1, with several.
 ghost use Rattle.std.specs.Prelude.{ℕ, ◌≡◌, ◌∷◌, ◌<◌, ◌≤◌, ◌↔◌, IfSome, IsSome, List, length};
 ghost use Rattle.std.specs.FinMap.{empty};
 ghost use Rattle.cf_base.specs.Classes.{sizes};
@@ -6,8 +7,8 @@ ghost use Rattle.cf_base.specs.Settings.{profile_of};
 ghost use Rattle.cf_base.specs.declared.kind.Layout.TheVariants.{Words};
 ghost use Rattle.page_model.specs.Paging.{IsPaging, Paging};
 ghost use Rattle.quota_model.specs.Admission.{CanBeAsked, IsAdmission, IsEnough, in_order, pages_needed_by};
-ghost use Rattle.quota_model.specs.declared.answers.Admission.TheVariants.{Yes};
-ghost use Rattle.quota_model.specs.declared.answers.Need.{Need};
+ghost use Rattle.quota_model.specs.declared.results.Admission.TheVariants.{Yes};
+ghost use Rattle.quota_model.specs.declared.results.Need.{Need};
 ghost use Rattle.sizing.specs.Demands.{KeepsTo, pages_of_modes};
 ghost use Rattle.sizing.specs.Runs.{CanBeRefused, IsServed};
 
@@ -23,9 +24,9 @@ use quota_model::{Need, count_in_all, first_large};
 ///
 /// `value`: for each class the objects over the slots of a page, rounded up, summed. `enough`: with
 /// this number none is refused, whatever the calls were and in whatever order. `least`: with fewer
-/// pages some run within the needs has a malloc that is refused for space. `quota`: for a task it is
-/// the least quota for which `admit` returns `Yes`. `some`: the result is None if and only if an
-/// object is larger than a page, or the counts sum to more than the proxies.
+/// pages some run within the needs has a malloc that is refused for space. `quota`: with layout
+/// `Words` it is, for a task, the least quota for which `admit` returns `Yes`. `some`: the result is
+/// None if and only if an object is larger than a page, or the counts sum to more than the proxies.
 pub fn least_pages(s: &Settings, layout: Layout, needs: &[Need]) -> Option<u32>
     requires few { length needs.now ≤ 64 }
     ensures value { IfSome result (λ pages. (p : Paging)
@@ -49,9 +50,10 @@ pub fn least_pages(s: &Settings, layout: Layout, needs: &[Need]) -> Option<u32>
 }
 
 /// The pages that the modes of a program need, with one mode more, in which it keeps to `needs`:
-/// `pages` are those of the modes so far, 0 before the first. If every bound is 1, this number is
-/// enough, and with fewer some malloc is refused for space (`pages_for_modes_serve_at_bound_one`,
-/// `fewer_pages_for_modes_refuse`). None as for `least_pages`.
+/// `pages` are those of the modes so far, 0 before the first. If every bound is 1, no malloc is refused
+/// for space with this number, and with fewer some malloc is (`pages_for_modes_serve_at_bound_one`,
+/// `fewer_pages_for_modes_refuse`). None if an object is larger than a page, or the counts sum to more
+/// than the proxies (`some`).
 pub fn pages_with_mode(s: &Settings, layout: Layout, pages: u32, needs: &[Need]) -> Option<u32>
     requires few { length needs.now ≤ 64 }
     ensures modes { IfSome result (λ more. (p : Paging) (modes : List (List Need))

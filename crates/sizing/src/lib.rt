@@ -9,13 +9,13 @@ mod budget;
 mod budget_certificate;
 mod by_numbers;
 mod certificate;
-mod copies;
 mod count;
 mod heaps;
 mod laws;
 mod least;
 mod modes;
 mod points;
+mod resizes;
 mod shared;
 
 pub use budget::{

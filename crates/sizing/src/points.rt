@@ -1,4 +1,6 @@
-//! The conditions that each point of a certificate meets, tested one after the other.
+//! The test of each point of a certificate, and the classes of the heap for it (`HeapClasses`). A point is one list of
+//! the certificate: a mode of the program, and a number of pages for each class. The point x leads to the point y if y
+//! has, in each class, the pages on which the objects that stay can still be.
 ghost use Rattle.std.specs.Prelude.{ℕ, ◌≡◌, ◌+◌, ◌↔◌, ◌<◌, ◌≤◌, All, IsTrue, length, slice_index, sum_by};
 ghost use Rattle.std.specs.List.{range_with_len};
 ghost use Rattle.page_model.specs.Counts.{ceil_div, most_pages};
@@ -8,11 +10,11 @@ ghost use Rattle.sizing.specs.Checks.{HasFew, IsRow, LeadsIntoMode, paging_with}
 ghost use Rattle.sizing.specs.Demands.{count_in};
 
 use crate::certificate::{ModeNeeds, PointPages};
-use crate::copies::allows_resizes;
+use crate::resizes::allows_resizes;
 use crate::shared::{class_counts, two_modes};
 use quota_model::{CLASSES, pages_for};
 
-/// The words of a page, and by class the words of a slot and the bound.
+/// The words of a page, and by class the words of a slot (`sizes`) and the bound (`bounds`).
 #[derive(Drop)]
 pub(crate) struct HeapClasses<'a> {
     pub(crate) page_words: u32,
@@ -20,7 +22,8 @@ pub(crate) struct HeapClasses<'a> {
     pub(crate) bounds: &'a [u32],
 }
 
-/// Whether each point meets its conditions on a heap of `pages` pages, with resizes or without.
+/// Whether each point meets a point's conditions (`is_point`) on a heap of `pages` pages, those for resizes too if the
+/// program `resizes`.
 pub(crate) fn are_points(
     pages: u32,
     heap: &HeapClasses,
@@ -37,8 +40,8 @@ pub(crate) fn are_points(
         .all(|x| is_point(pages, heap, modes, points, resizes, x))
 }
 
-/// Whether the point x meets its conditions: there is its mode, its pages hold the mode's objects and
-/// are within those of the heap, and each mode may follow.
+/// Whether the point x meets its conditions: its mode exists, its pages hold the mode's objects and are within those of
+/// the heap, it leads to a point of each mode and, if the program `resizes`, allows for resizes into each.
 fn is_point(
     pages: u32,
     heap: &HeapClasses,
@@ -69,7 +72,7 @@ fn is_point(
     true
 }
 
-/// Whether the pages of the point x are at least those that the objects of its mode need.
+/// Whether the pages of the point x are, in each class, at least those that the objects of its mode need.
 fn has_tops(heap: &HeapClasses, mode: &ModeNeeds, x: &PointPages) -> bool
     requires heap { IsPaging (paging_with 0 heap.now) }
     requires few { HasFew mode.now }
@@ -86,7 +89,7 @@ fn has_tops(heap: &HeapClasses, mode: &ModeNeeds, x: &PointPages) -> bool
     true
 }
 
-/// The pages of point x in all classes.
+/// The sum of the pages of point x over all `classes` classes.
 fn pages_of(x: &PointPages, classes: usize) -> u64
     requires few { classes ≤ 67 }
     ensures { result ≡ sum_by (slice_index x.now.pages) (range_with_len 0 classes) }
@@ -99,7 +102,7 @@ fn pages_of(x: &PointPages, classes: usize) -> u64
     sum
 }
 
-/// Whether the point x leads to a point of mode j, also by a resize if the program `resizes`.
+/// Whether the point x leads to a point of mode j and, if the program `resizes`, allows for resizes into this mode.
 fn follows(
     pages: u32,
     heap: &HeapClasses,
@@ -141,7 +144,8 @@ pub(crate) fn leads_into(
         .any(|y| y.mode as usize == j && leads(heap, kept, x, y))
 }
 
-/// Whether the point y has at least the pages of x, as far as the objects that stay can be on them.
+/// Whether the point y has, in each class, at least the pages of x, or at least the most pages that the `kept` objects
+/// that stay can be on.
 fn leads(heap: &HeapClasses, kept: &[u32; CLASSES], x: &PointPages, y: &PointPages) -> bool
     requires heap { IsPaging (paging_with 0 heap.now) }
     ensures { IsTrue result ↔ LeadsToPoint (paging_with 0 heap.now) (slice_index kept.now) x.now y.now }
@@ -155,7 +159,7 @@ fn leads(heap: &HeapClasses, kept: &[u32; CLASSES], x: &PointPages, y: &PointPag
     true
 }
 
-/// For a certificate, the slots of a page of class c.
+/// For a certificate, how many slots a page of class c has.
 pub(crate) fn slots_in(heap: &HeapClasses, c: usize) -> u32
     requires heap { IsPaging (paging_with 0 heap.now) }
     requires class { c < classes (paging_with 0 heap.now) }

@@ -1,4 +1,4 @@
-//! What two modes of a program declare, counted by class: how many objects each has at most, and how many stay
+//! What two modes of a program declare, counted by class: how many objects each has at most, and how many can stay
 //! when the program goes from the one to the other.
 ghost use Rattle.std.specs.Prelude.{ℕ, ◌≡◌, ◌<◌, ◌≤◌, length, slice_index};
 ghost use Rattle.page_model.specs.Paging.{IsPaging, classes};
@@ -12,7 +12,8 @@ use crate::count::count_between;
 use crate::points::HeapClasses;
 use quota_model::{CLASSES, Need};
 
-/// By class: the most objects of one mode, those of the mode after it, and those that stay.
+/// By class: the most live objects of one mode (`before`), those of the mode after it (`after`), and how many can stay
+/// when the program goes from the one to the other (`kept`).
 #[derive(Drop)]
 pub(crate) struct TwoModes {
     pub(crate) before: [u32; CLASSES],
@@ -20,7 +21,8 @@ pub(crate) struct TwoModes {
     pub(crate) kept: [u32; CLASSES],
 }
 
-/// Counts what two modes declare.
+/// Counts by class the objects that `before` declares, those that `after` declares, and those that both declare: of
+/// each length the smaller number.
 pub(crate) fn two_modes(heap: &HeapClasses, before: &ModeNeeds, after: &ModeNeeds) -> TwoModes
     requires heap { IsPaging (paging_with 0 heap.now) }
     requires before { HasFew before.now }
@@ -64,7 +66,8 @@ fn needs_in_both(needs: &[Need; ENTRIES], others: &[Need; ENTRIES]) -> [Need; EN
     both
 }
 
-/// Entry i with its count, but at most what the others declare of its length beyond the entries after it.
+/// Entry i of `needs_in_both`: entry i of the needs, with at most the count that the others declare of this length,
+/// less what the later entries of the needs declare of it.
 fn entry_in_both(needs: &[Need; ENTRIES], others: &[Need; ENTRIES], i: usize) -> Need
     requires { i < 64 }
     ensures { result ≡ common_entry needs.now others.now i }

@@ -6,7 +6,7 @@ use Rattle.std.specs.Prelude.{Ok, Err}
 use Rattle.std.proofs.lemmas.List.{length-take, get_or-take, get_or-drop}
 use Rattle.std.proofs.lemmas.Grind.{same_number_lists}
 use Rattle.std.specs.FinMap.{get, insert, remove}
-use Rattle.cf_base.specs.declared.answers.Handle.{Handle}
+use Rattle.cf_base.specs.declared.results.Handle.{Handle}
 use Rattle.cf_base.proofs.MapValues.{map_values-insert, map_values-remove}
 use Rattle.cf_base.proofs.Maps.{some_inserted, some_removed}
 use Rattle.page_model.specs.Arrangement.{class_at}
@@ -17,7 +17,7 @@ use Rattle.slice_model.specs.State.{Plan, IsPlan, JobSlot, Sliced, IsKept, job_s
 use Rattle.slice_model.specs.Steps.{BeginsMove, EndsJob, IsSlice, SliceOf, LeavesJob}
 use Rattle.slice_model.specs.Runs.{Event, FreesWithWords, Happens, HappensOnMap, IsConsistent, MallocsWithWords, Position, Runs, RunsOnMap, Slices, TaskCall, HeapWithWords, WritesWithWords, Malloc}
 use Rattle.slice_model.specs.Runs.{Free, Step, Write, Read}
-use Rattle.slice_model.specs.declared.answers.SliceFault.TheVariants as fault
+use Rattle.slice_model.specs.declared.refusals.SliceFault.TheVariants as fault
 use Rattle.slice_model.specs.Words.{HasWords}
 use Rattle.slice_model.proofs.KeptSteps.{kept_begun, kept_malloc, kept_slice, kept_write}
 use Rattle.slice_model.proofs.CallWords.{byte_there, words_begun, words_given, words_sliced, words_written}

@@ -3,9 +3,9 @@
 use Rattle.std.proofs.Common.{◌≡◌, ℕ, ◌+◌, ◌/◌, ◌%◌, ◌≤◌, List, ◌∷◌, Option, Some, None, length, take, drop, arith, refl, sym, ◌∙◌, ap, subst, inl, inr}
 use Rattle.std.specs.Prelude.{Result, Ok, Err}
 use Rattle.std.specs.FinMap.{get, insert, remove}
-use Rattle.cf_base.specs.declared.answers.AccessFault.{AccessFault}
-use Rattle.cf_base.specs.declared.answers.AccessFault.TheVariants as access
-use Rattle.cf_base.specs.declared.answers.Handle.{Handle}
+use Rattle.cf_base.specs.declared.results.AccessFault.{AccessFault}
+use Rattle.cf_base.specs.declared.results.AccessFault.TheVariants as access
+use Rattle.cf_base.specs.declared.results.Handle.{Handle}
 use Rattle.cf_base.proofs.Maps.{found_once, get_insert_other}
 use Rattle.page_model.specs.Arrangement.{IsSound, class_at}
 use Rattle.page_model.specs.Bytes.{written}
@@ -21,8 +21,8 @@ use Rattle.slice_model.specs.Runs.{Event, Happens, HappensOnMap, IsConsistent, I
 use Rattle.slice_model.specs.Words.{RewritesObject}
 use Rattle.slice_model.specs.Ordered.{CarriesNext, EndFollows, FreesInOrder, HappensInOrder, MallocsInOrder, MovesNext, SliceFollows}
 use Rattle.slice_model.specs.Ordered.{SlicesInOrder}
-use Rattle.slice_model.specs.declared.answers.SliceFault.{SliceFault}
-use Rattle.slice_model.specs.declared.answers.SliceRefusal.{SliceRefusal}
+use Rattle.slice_model.specs.declared.refusals.SliceFault.{SliceFault}
+use Rattle.slice_model.specs.declared.refusals.SliceRefusal.{SliceRefusal}
 use Rattle.slice_model.proofs.KeptSteps.{kept_begun, other_than}
 use Rattle.slice_model.proofs.Occupied.{no_placeholder}
 use Rattle.slice_model.proofs.OneMap.{call_on_map}

@@ -21,7 +21,7 @@ use Rattle.slice_model.specs.State.{Plan, IsPlan, IsPlaceFor, JobSlot, Job, Slic
 use Rattle.slice_model.specs.Steps.{EndsJob, AddsSlicedObject, IsSlicedRefusedBy, IsSlice, RemovesSlicedObject, SliceOf, LeavesJob, done_after, fresh_slot}
 use Rattle.slice_model.specs.Runs.{Event, Position, HeapWithWords, WritesWithWords, Malloc, Free, Step, Write, Read}
 use Rattle.slice_model.specs.Ordered.{EndFollows, FreesInOrder, HappensInOrder, IsOrderBeside, MallocsInOrder, MovesNext, SliceFollows, numbers_beside}
-use Rattle.slice_model.specs.declared.answers.SliceRefusal.{SliceRefusal}
+use Rattle.slice_model.specs.declared.refusals.SliceRefusal.{SliceRefusal}
 use Rattle.slice_model.proofs.KeptSteps.{changed_places, kept_begun, moved_away, must_is_two, other_than, same_elsewhere, slot_stays, two_is_must}
 use Rattle.slice_model.proofs.Occupied.{free_is_place, get_beside, inserted_beside, job_class, lacking_is_no_place, no_placeholder, placeholder_class, some_beside}
 use Rattle.slice_model.proofs.OrderOnce.{removed_once, slice_once}

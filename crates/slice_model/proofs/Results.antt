@@ -12,8 +12,8 @@ use Rattle.page_model.specs.Steps.{Moves}
 use Rattle.page_model.proofs.CallerLemmas.{mover_is_other, on_page}
 use Rattle.slice_model.specs.State.{Plan, IsPlan, JobSlot, Job, Sliced, IsKept, advanced, job_slot, placeholder, with_slot, Idle, Clear, Move}
 use Rattle.slice_model.specs.Steps.{EndsJob, IsFaultOf, IsSlice, RemovesSlicedObject, SliceOf, LeavesJob, done_after, fresh_slot}
-use Rattle.slice_model.specs.declared.answers.SliceFault.{SliceFault}
-use Rattle.slice_model.specs.declared.answers.SliceFault.TheVariants as fault
+use Rattle.slice_model.specs.declared.refusals.SliceFault.{SliceFault}
+use Rattle.slice_model.specs.declared.refusals.SliceFault.TheVariants as fault
 use Rattle.slice_model.proofs.KeptSteps.{kept_begun, one_more, same_elsewhere, two_is_last}
 use Rattle.slice_model.proofs.Occupied.{job_class, no_placeholder}
 use Rattle.cf_base.proofs.Searches.{there_or_not}

@@ -16,8 +16,8 @@ use Rattle.page_model.proofs.CallerLemmas.{bytes_missing, ceil_mono, class_fits,
 use Rattle.slice_model.specs.State.{Plan, IsPlan, JobSlot, Sliced, IsKept, IsSlicedFreePage, IsPlaceFor, IsUsable, NoPlace}
 use Rattle.slice_model.specs.State.{job_slot, occupied, placeholder, with_slot, Idle}
 use Rattle.slice_model.specs.Steps.{AddsSlicedObject, IsSlicedRefusedBy}
-use Rattle.slice_model.specs.declared.answers.SliceRefusal.{SliceRefusal}
-use Rattle.slice_model.specs.declared.answers.SliceRefusal.TheVariants as refusal
+use Rattle.slice_model.specs.declared.refusals.SliceRefusal.{SliceRefusal}
+use Rattle.slice_model.specs.declared.refusals.SliceRefusal.TheVariants as refusal
 use Rattle.slice_model.proofs.Occupied.{lacking_is_no_place, no_place_is_lacking, no_placeholder, place_or_none}
 use Rattle.cf_base.proofs.Searches.{fresh_key, few_keys}
 

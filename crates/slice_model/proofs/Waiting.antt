@@ -7,8 +7,8 @@ use Rattle.page_model.specs.Held.{objects}
 use Rattle.page_model.proofs.CallerLemmas.{len-objects}
 use Rattle.slice_model.specs.State.{Plan, IsPlan, Sliced, IsKept, Idle}
 use Rattle.slice_model.specs.Steps.{AreSlices, AddsSlicedObject, IsSlicedRefusedBy, LacksUsableSlot}
-use Rattle.slice_model.specs.declared.answers.SliceRefusal.{SliceRefusal}
-use Rattle.slice_model.specs.declared.answers.SliceRefusal.TheVariants as refusal
+use Rattle.slice_model.specs.declared.refusals.SliceRefusal.{SliceRefusal}
+use Rattle.slice_model.specs.declared.refusals.SliceRefusal.TheVariants as refusal
 use Rattle.slice_model.proofs.KeptSteps.{kept_slice}
 use Rattle.slice_model.proofs.OneMap.{objects_sliced}
 use Rattle.slice_model.proofs.RoomBeside.{answered, idle_is_over}

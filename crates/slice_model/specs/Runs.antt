@@ -3,9 +3,9 @@
 use Rattle.std.specs.Prelude.{◌≡◌, ℕ, ◌+◌, ◌-◌, ◌/◌, ◌%◌, ◌<◌, ◌≤◌, List, [], ◌∷◌, Option, Some, None, Result}
 use Rattle.std.specs.Prelude.{Ok, Err, if◌then◌else◌, length, nat_eq, slice_index, take, drop, replicate, min}
 use Rattle.std.specs.FinMap.{get, insert, remove}
-use Rattle.cf_base.specs.declared.answers.AccessFault.{AccessFault}
-use Rattle.cf_base.specs.declared.answers.AccessFault.TheVariants as access
-use Rattle.cf_base.specs.declared.answers.Handle.{Handle}
+use Rattle.cf_base.specs.declared.results.AccessFault.{AccessFault}
+use Rattle.cf_base.specs.declared.results.AccessFault.TheVariants as access
+use Rattle.cf_base.specs.declared.results.Handle.{Handle}
 use Rattle.page_model.specs.Held.{Placed, Objects, objects}
 use Rattle.page_model.specs.Paging.{class_for, slot_words}
 use Rattle.page_model.specs.Image.{Rewrites, header_word}
@@ -14,9 +14,9 @@ use Rattle.page_model.specs.Steps.{Request}
 use Rattle.slice_model.specs.State.{Plan, JobSlot, Sliced, IsKept, job_slot}
 use Rattle.slice_model.specs.Steps.{AddsSlicedObject, IsSlicedRefusedBy, RemovesSlicedObject, IsFaultOf, IsSlice}
 use Rattle.slice_model.specs.Words.{HasWords, DoesWords, RewritesObject, byte_read}
-use Rattle.slice_model.specs.declared.answers.SliceRefusal.{SliceRefusal}
-use Rattle.slice_model.specs.declared.answers.SliceFault.{SliceFault}
-use Rattle.slice_model.specs.declared.answers.SliceFault.TheVariants as fault
+use Rattle.slice_model.specs.declared.refusals.SliceRefusal.{SliceRefusal}
+use Rattle.slice_model.specs.declared.refusals.SliceFault.{SliceFault}
+use Rattle.slice_model.specs.declared.refusals.SliceFault.TheVariants as fault
 
 -- where a read or a write begins: the object's number, and the first byte that is read or written, counted from 0
 pub record Position : Type 0 where

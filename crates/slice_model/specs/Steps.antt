@@ -8,10 +8,10 @@ use Rattle.page_model.specs.Paging.{Paging, slot_words, slots_of, page_of, class
 use Rattle.page_model.specs.Arrangement.{class_at, objects_on, not_full_pages, pages_needed_with}
 use Rattle.page_model.specs.Steps.{Request, Moves, zeros_at}
 use Rattle.slice_model.specs.State.{Plan, JobSlot, Job, Sliced, NoPlace, IsPlaceFor, job_slot, advanced, Idle, Clear, Move}
-use Rattle.slice_model.specs.declared.answers.SliceRefusal.{SliceRefusal}
-use Rattle.slice_model.specs.declared.answers.SliceRefusal.TheVariants as refusal
-use Rattle.slice_model.specs.declared.answers.SliceFault.{SliceFault}
-use Rattle.slice_model.specs.declared.answers.SliceFault.TheVariants as fault
+use Rattle.slice_model.specs.declared.refusals.SliceRefusal.{SliceRefusal}
+use Rattle.slice_model.specs.declared.refusals.SliceRefusal.TheVariants as refusal
+use Rattle.slice_model.specs.declared.refusals.SliceFault.{SliceFault}
+use Rattle.slice_model.specs.declared.refusals.SliceFault.TheVariants as fault
 
 -- A malloc is done: the object `asked` fits a page, a proxy is free, and the object is added, all zeros, in a slot that it may use, under a number that
 -- wasn't in use. The job is unchanged.

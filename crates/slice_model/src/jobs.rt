@@ -10,9 +10,9 @@ ghost use Rattle.slice_model.specs.Runs.{Free, Happens, IsConsistent, Runs, Step
 ghost use Rattle.slice_model.specs.State.{Idle, IsKept, IsPlan, JobSlot, Plan, Sliced, advanced, job_slot};
 ghost use Rattle.slice_model.specs.Steps.{AreSlices, AddsSlicedObject, IsOver, LacksUsableSlot};
 
-/// A job does a quantum of words in each slice, and no other call changes it. Suppose the calls
-/// `turns` contain n slices, and the job has more than n quanta of words left. Then it is still
-/// pending after these calls, and n quanta more of its words are done.
+/// Each slice of a job but the last does a quantum of its words, and no other call changes the job.
+/// Suppose the calls `turns` contain n slices, and the job has more than n quanta of words left. Then
+/// the job is still pending after these calls, and n quanta more of its words are done.
 pub fn a_job_advances_by_its_slices()
     ensures { (plan : Plan) (turns : List TaskCall) (old new : HeapWithWords) (k : JobSlot) → job_slot old.state.job ≡ Some k
         → k.done + steps_in turns * plan.quantum < slot_words plan.paging k.class → Runs plan old turns new
@@ -38,10 +38,10 @@ pub fn slices_alone_end_every_job()
         → new.job ≡ Idle }
 {}
 
-/// A slot of the freed object's class takes s slices: its words divided by the quantum, rounded up.
 /// After a successful free of object h, if no other free succeeds, no job is pending after s slices,
-/// and s more for each successful malloc of this class since the free. The free itself does the
-/// first slice. `turns` are the calls after it.
+/// and s more for each successful malloc of h's class since the free. Here s is the words of a slot of
+/// this class divided by the quantum, rounded up. The free itself does the first slice. `turns` are the
+/// calls after it.
 pub fn each_malloc_between_prolongs_a_job_once()
     ensures { (plan : Plan) (old freed new : HeapWithWords) (h : ℕ) (x : Placed) (turns : List TaskCall) → IsPlan plan → IsConsistent plan old
         → get old.state.held h ≡ Some x → Happens plan old (Free h None) freed → Runs plan freed turns new → frees_in turns ≡ 0

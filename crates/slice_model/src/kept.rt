@@ -1,6 +1,6 @@
-//! Laws on the rules of a sliced heap's state (`IsKept`), by which its objects, with a placeholder in the job's
-//! slot, are a sound arrangement: each call keeps them; what they mean for pages. `plan` has the heap's
-//! settings.
+//! Laws on the rules of a sliced heap's state (`IsKept`): each call keeps the rules, and what they mean
+//! for pages. By the rules, the objects with a placeholder in the job's slot are a sound arrangement.
+//! `plan` has the heap's settings.
 ghost use Rattle.std.specs.Prelude.{ℕ, ◌≡◌, ◌≢◌, List, Some, length};
 ghost use Rattle.std.specs.FinMap.{empty, get, insert};
 ghost use Rattle.page_model.specs.Arrangement.{IsSlotAt, IsSound, class_at};
@@ -43,11 +43,11 @@ pub fn a_write_keeps_the_rules()
         → IsKept plan (record old { held = insert old.held h (record { place = x.place; bytes = bytes }) }) }
 {}
 
-/// What the rules (`IsKept`) mean for the objects without the placeholder. Each has a slot of its
-/// class, no two have the same address, and all on one page are of one class. If no job is pending,
-/// their arrangement is sound. If one is, no object is in the job's slot, and all objects on that slot's
-/// page have its class. Each other class has at most one partly full page. The job's class has at
-/// most two; if it has two, only the job's slot is free on its page.
+/// What the rules (`IsKept`) mean for the objects without the placeholder in the job's slot. Each has
+/// a slot of its class, no two have the same address, and all on one page are of one class. If no job
+/// is pending, their arrangement is sound. If a job is pending, no object is in the job's slot, and all
+/// objects on that slot's page have its class. Each other class has at most one partly full page. The
+/// job's class has at most two; if it has two, only the job's slot is free on its page.
 pub fn what_the_rules_say_of_pages()
     ensures slots { (plan : Plan) (s : Sliced) (h : ℕ) (x : Placed) → IsPlan plan → IsKept plan s
         → get s.held h ≡ Some x → IsSlotAt plan.paging (class_at plan.paging x) x.place }

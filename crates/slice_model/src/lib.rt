@@ -1,19 +1,18 @@
-//! The model of the sliced heap: its state, its calls, the words of its region while a job is
-//! pending, and lists of calls of several tasks. The public functions do nothing: their contracts
-//! are laws of these definitions.
+//! The model of the sliced heap: its state, its calls and the order that they may follow, the words
+//! of its region while a job is pending, and lists of calls of several tasks. The public functions
+//! do nothing: their contracts are laws of these definitions.
 #![tactic(auto)]
 
-mod answers;
 mod job_slot;
 mod jobs;
 mod kept;
 mod order;
 mod places;
+mod refusals;
 mod room;
 mod runs;
 mod words;
 
-pub use answers::{SliceFault, SliceRefusal};
 pub use job_slot::JobSlot;
 pub use jobs::{
     a_busy_malloc_succeeds_after_the_slices, a_job_advances_by_its_slices,
@@ -30,10 +29,11 @@ pub use order::{
     rising_numbers_are_an_order,
 };
 pub use places::places_are_those_beside_the_job;
+pub use refusals::{SliceFault, SliceRefusal};
 pub use room::{
     a_free_has_one_answer, a_malloc_has_one_answer, a_malloc_is_busy_only_with_a_job,
-    a_place_is_within_the_sum, a_slice_can_always_be_done, no_malloc_is_busy_with_a_spare_page,
-    when_a_malloc_is_busy,
+    a_malloc_with_a_slot_left_is_not_refused_space, a_slice_can_always_be_done,
+    no_malloc_is_busy_with_a_spare_page, when_no_slot_is_left,
 };
 pub use runs::{an_empty_heap_is_consistent, calls_of_all_tasks_are_those_of_one_map};
 pub use words::{

@@ -2,8 +2,8 @@
 //! job: it determines what each call does, and each call can follow it. `plan` has the heap's settings.
 ghost use Rattle.std.specs.Prelude.{ℕ, ◌≡◌, ◌∷◌, List, Option, Some, Result, length};
 ghost use Rattle.std.specs.FinMap.{empty, get};
-ghost use Rattle.cf_base.specs.declared.answers.AccessFault.{AccessFault};
-ghost use Rattle.cf_base.specs.declared.answers.Handle.{Handle};
+ghost use Rattle.cf_base.specs.declared.results.AccessFault.{AccessFault};
+ghost use Rattle.cf_base.specs.declared.results.Handle.{Handle};
 ghost use Rattle.page_model.specs.Arrangement.{class_at};
 ghost use Rattle.page_model.specs.Held.{Placed};
 ghost use Rattle.page_model.specs.Order.{MallocFollows, Order, first_order};
@@ -11,10 +11,10 @@ ghost use Rattle.slice_model.specs.Ordered.{HappensInOrder, IsOrderBeside, Moves
 ghost use Rattle.slice_model.specs.Runs.{Event, Free, IsConsistent, Malloc, Position, Read, Step, HeapWithWords, Write};
 ghost use Rattle.slice_model.specs.State.{Idle, IsKept, IsPlan, Plan, Sliced, job_slot, occupied};
 ghost use Rattle.slice_model.specs.Steps.{AddsSlicedObject, IsSlice, IsSlicedRefusedBy, RemovesSlicedObject};
-ghost use Rattle.slice_model.specs.declared.answers.SliceFault.{SliceFault};
-ghost use Rattle.slice_model.specs.declared.answers.SliceRefusal.{SliceRefusal};
+ghost use Rattle.slice_model.specs.declared.refusals.SliceFault.{SliceFault};
+ghost use Rattle.slice_model.specs.declared.refusals.SliceRefusal.{SliceRefusal};
 
-/// The order determines what a call does. Suppose the same call is made twice on the heap `old`,
+/// The order determines what a call does. Suppose the same call is made twice on the consistent heap `old`,
 /// follows the order `was` both times, and leaves regions of the same length. Then both calls have
 /// the same result, and leave the same objects, job, words and order, also while a job has done only
 /// some of its words.
@@ -41,8 +41,8 @@ pub fn an_order_leaves_no_choice_beside_a_job()
         → (a ≡ b) × (new ≡ other) × (now ≡ next) }
 {}
 
-/// In an order of a sliced heap's state s the job's slot counts as used. A malloc of `bytes` bytes for which no cause
-/// of refusal holds can follow such an order, and leaves an order of the new state.
+/// A malloc of `bytes` bytes for which no cause of refusal holds can follow an order of the state s, and leaves an order
+/// of the new state. In such an order the job's slot counts as used.
 pub fn a_malloc_can_follow_an_order_beside_a_job()
     ensures { (plan : Plan) (s : Sliced) (bytes : ℕ) (o : Order) → IsPlan plan → IsKept plan s → IsOrderBeside plan s o
         → ((e : SliceRefusal) → ¬ IsSlicedRefusedBy plan s bytes e)

@@ -9,8 +9,8 @@ ghost use Rattle.page_model.specs.Paging.{class_for};
 ghost use Rattle.page_model.specs.Steps.{Request};
 ghost use Rattle.slice_model.specs.State.{Idle, IsKept, IsPlan, IsSlicedFreePage, IsUsable, NoPlace, Plan, Sliced, occupied};
 ghost use Rattle.slice_model.specs.Steps.{AddsSlicedObject, IsFaultOf, IsSlicedRefusedBy, IsSlice, RemovesSlicedObject, LacksUsableSlot};
-ghost use Rattle.slice_model.specs.declared.answers.SliceFault.{SliceFault};
-ghost use Rattle.slice_model.specs.declared.answers.SliceRefusal.{SliceRefusal};
+ghost use Rattle.slice_model.specs.declared.refusals.SliceFault.{SliceFault};
+ghost use Rattle.slice_model.specs.declared.refusals.SliceRefusal.{SliceRefusal};
 
 /// A malloc is refused as `Busy` only if a job is pending.
 pub fn a_malloc_is_busy_only_with_a_job()
@@ -22,7 +22,7 @@ pub fn a_malloc_is_busy_only_with_a_job()
 /// are, summed over the classes, the objects divided by the slots of a page, rounded up. A slot is
 /// usable (`IsUsable`) if it is free, the job doesn't hold it, and its page is one of the class
 /// already.
-pub fn a_place_is_within_the_sum()
+pub fn a_malloc_with_a_slot_left_is_not_refused_space()
     ensures slot { (plan : Plan) (s : Sliced) (bytes a : ℕ) → IsPlan plan → IsKept plan s → need bytes ≤ plan.paging.page_words
         → IsUsable plan.paging s (class_for plan.paging bytes) a
         → pages_needed_with plan.paging (objects s.held) bytes ≤ plan.paging.pages }
@@ -31,9 +31,9 @@ pub fn a_place_is_within_the_sum()
         → pages_needed_with plan.paging (objects s.held) bytes ≤ plan.paging.pages }
 {}
 
-/// No slot is left for an object of `bytes` bytes if and only if the objects, the job's placeholder
-/// and the new object together need more pages than the heap has.
-pub fn when_a_malloc_is_busy()
+/// No slot is left for an object of `bytes` bytes, which fits a page, if and only if the objects, the
+/// placeholder in the job's slot and the new object together need more pages than the heap has.
+pub fn when_no_slot_is_left()
     ensures { (plan : Plan) (s : Sliced) (bytes : ℕ) → IsPlan plan → IsKept plan s → need bytes ≤ plan.paging.page_words
         → NoPlace plan.paging s (class_for plan.paging bytes)
         ↔ (plan.paging.pages < pages_needed_with plan.paging (objects (occupied plan s)) bytes) }

@@ -12,10 +12,11 @@ ghost use Rattle.slice_model.specs.State.{Idle, IsKept, IsPlan, JobSlot, Move, P
 ghost use Rattle.slice_model.specs.Steps.{AddsSlicedObject, IsSlice, RemovesSlicedObject};
 ghost use Rattle.slice_model.specs.Words.{DoesWords, HasWords, IsClosedWord, RewritesObject, byte_read};
 
-/// Compares the words of a heap with the image of its objects (`clean`). If no job is pending, the
-/// two are equal (clause `idle`). Else they differ at most in the words that the job has yet to clear
-/// or to move, in its slot and at the address of the object in motion (`closed`). Until it is moved,
-/// word i of that object is word i of the job's slot, k (`carried`).
+/// If no job is pending, the words of a heap are right (`HasWords`) if and only if they are the image
+/// of its objects (clause `idle`). While a job is pending, they differ from the image (`clean`) at most
+/// in the words that the job has yet to clear or to move: in its slot, and at the address of the object
+/// in motion (`closed`). Until word i of that object is moved, it is word i of the job's slot, k
+/// (`carried`).
 pub fn words_are_the_image_but_for_the_job()
     ensures idle { (p : Paging) (m : Held) (words : List ℕ)
         → HasWords p (record { held = m; job = Idle }) words ↔ IsSlotImage p m words }

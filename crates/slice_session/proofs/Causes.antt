@@ -8,10 +8,10 @@ use Rattle.page_model.specs.Order.{Order}
 use Rattle.slice_model.specs.Runs.{HeapWithWords, Malloc, Free}
 use Rattle.slice_model.specs.State.{Idle, Sliced, IsKept, IsPlan, Plan}
 use Rattle.slice_model.specs.Steps.{IsFaultOf, IsSlicedRefusedBy, LacksUsableSlot}
-use Rattle.slice_model.specs.declared.answers.SliceFault.{SliceFault}
-use Rattle.slice_model.specs.declared.answers.SliceFault.TheVariants as fault
-use Rattle.slice_model.specs.declared.answers.SliceRefusal.{SliceRefusal}
-use Rattle.slice_model.specs.declared.answers.SliceRefusal.TheVariants as refusal
+use Rattle.slice_model.specs.declared.refusals.SliceFault.{SliceFault}
+use Rattle.slice_model.specs.declared.refusals.SliceFault.TheVariants as fault
+use Rattle.slice_model.specs.declared.refusals.SliceRefusal.{SliceRefusal}
+use Rattle.slice_model.specs.declared.refusals.SliceRefusal.TheVariants as refusal
 use Rattle.slice_model.proofs.CallerLemmas.{given_or_refused, one_cause}
 use Rattle.sliced_heap.specs.Shown.{SlicedState, plan_in, working_in, StaysSlicedOpen}
 use Rattle.script_laws.proofs.CallerLemmas.{refused}

@@ -14,8 +14,8 @@ use Rattle.page_model.specs.Arrangement.{live, objects_on, pages_for, pages_need
 use Rattle.page_model.specs.Paging.{class_for}
 use Rattle.page_model.proofs.CallerLemmas.{class_fits, lacks_room_at_one, len-objects, length-written, objects_on-exchanged}
 use Rattle.run_model.specs.Replies.{peek_text}
-use Rattle.slice_model.specs.declared.answers.SliceFault.{SliceFault}
-use Rattle.slice_model.specs.declared.answers.SliceRefusal.{SliceRefusal}
+use Rattle.slice_model.specs.declared.refusals.SliceFault.{SliceFault}
+use Rattle.slice_model.specs.declared.refusals.SliceRefusal.{SliceRefusal}
 use Rattle.slice_model.specs.declared.job_slot.JobSlot.{JobSlot}
 use Rattle.slice_model.specs.Runs.{Event, Free, Malloc, Step, Write}
 use Rattle.slice_model.specs.State.{Clear, Idle, IsKept, Job, Move, Sliced, job_slot, left_of, with_slot}
@@ -39,8 +39,8 @@ use Rattle.run_model.specs.Plays.{IsAt, PlayRun}
 use Rattle.script_loop.specs.Semantics.{RunBy}
 use Rattle.slice_session.specs.Playing.{BeginsSliced, BeginsSlices, RunsSliced, SlicePlay, first_heap, run_of_play, slices}
 use Rattle.script_reader.specs.declared.command.Command.TheVariants as command
-use Rattle.slice_model.specs.declared.answers.SliceFault.TheVariants as fault
-use Rattle.slice_model.specs.declared.answers.SliceRefusal.TheVariants as refusal
+use Rattle.slice_model.specs.declared.refusals.SliceFault.TheVariants as fault
+use Rattle.slice_model.specs.declared.refusals.SliceRefusal.TheVariants as refusal
 
 -- For `the_sliced_headline`: in a run, each command's reply, and the heap that lines and replies show after it, are those that the claim allows (`AnswersSliced`).
 

@@ -13,8 +13,8 @@ use Rattle.cf_base.proofs.Searches.{there_or_not}
 use Rattle.page_model.specs.Order.{Order}
 use Rattle.page_model.specs.Paging.{class_for}
 use Rattle.slice_model.specs.Ordered.{HappensInOrder}
-use Rattle.slice_model.specs.declared.answers.SliceFault.{SliceFault}
-use Rattle.slice_model.specs.declared.answers.SliceRefusal.{SliceRefusal}
+use Rattle.slice_model.specs.declared.refusals.SliceFault.{SliceFault}
+use Rattle.slice_model.specs.declared.refusals.SliceRefusal.{SliceRefusal}
 use Rattle.sliced_heap.specs.Access.{access_fault}
 use Rattle.sliced_heap.specs.Shown.{KeepsSlicedRules, SlicedState, plan_in, working_in}
 use Rattle.slice_session.specs.SliceRun.{DoesEvent, IsReadySliced, OthersSliced, SliceRun, SliceStep, sliced_calls}
@@ -22,7 +22,7 @@ use Rattle.run_model.specs.Replies.{peek_text}
 use Rattle.script_laws.proofs.CallerLemmas.{HasCalls, can_go_on, CanGoOn}
 use Rattle.slice_session.specs.Playing.{BeginsSliced, BeginsSlices, IsQuantum, first_heap}
 use Rattle.slice_session.proofs.RunInvariant.{sliced_keeps, EmptyLaw, begins_going, first_rules}
-use Rattle.cf_base.specs.declared.answers.AccessFault.TheVariants as access
+use Rattle.cf_base.specs.declared.results.AccessFault.TheVariants as access
 use Rattle.script_reader.specs.declared.command.Command.TheVariants as command
 
 -- For `CallResults`: there are words of the region as a malloc, a slice and a write must leave them, since words of a range can be replaced, or moved to

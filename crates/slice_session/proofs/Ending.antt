@@ -8,13 +8,13 @@ use Rattle.page_model.specs.Arrangement.{live, pages_for, pages_needed_with}
 use Rattle.page_model.specs.Counts.{ceil_div}
 use Rattle.page_model.specs.Paging.{class_for}
 use Rattle.page_model.proofs.CallerLemmas.{ceil_mono, slots_some}
-use Rattle.slice_model.specs.declared.answers.SliceRefusal.{SliceRefusal}
+use Rattle.slice_model.specs.declared.refusals.SliceRefusal.{SliceRefusal}
 use Rattle.slice_model.proofs.CallerLemmas.{ceil_one_more, sum_one_more}
 use Rattle.slice_session.specs.SliceRun.{slice_free_text}
 use Rattle.slice_session.specs.ShownSlices.{ShownJob, ShownSlices, after_slice, are_full, job_sliced, job_takes, needed_beside, noted, paging_shown, words_left, words_of_job}
 use Rattle.slice_session.specs.SliceHeadline.{after, after_free, after_slices, job_begun, slice_line, slice_fault, slice_refusal, with_objects}
 use Rattle.slice_session.proofs.Claims.{refusal_by}
-use Rattle.slice_model.specs.declared.answers.SliceRefusal.TheVariants as refusal
+use Rattle.slice_model.specs.declared.refusals.SliceRefusal.TheVariants as refusal
 
 -- For `who_is_busy_and_how_long`: a free prints `busy` if and only if a job is pending, a malloc doesn't while a page is to spare, and each slice lowers the
 -- words left of a free's job by the quantum.

@@ -10,8 +10,8 @@ use Rattle.script_laws.proofs.CallerLemmas.{FreesOn, IsAccessFault, KeepsObjects
 use Rattle.script_laws.specs.IdBytes.{is_ok}
 use Rattle.slice_model.specs.Runs.{Event, HappensOnMap, IsConsistent, IsOutOfReach, Malloc, Free, Step, Write}
 use Rattle.slice_model.specs.State.{IsPlan, Plan, Idle, left_of}
-use Rattle.slice_model.specs.declared.answers.SliceFault.{SliceFault}
-use Rattle.slice_model.specs.declared.answers.SliceRefusal.{SliceRefusal}
+use Rattle.slice_model.specs.declared.refusals.SliceFault.{SliceFault}
+use Rattle.slice_model.specs.declared.refusals.SliceRefusal.{SliceRefusal}
 use Rattle.slice_model.specs.Ordered.{IsOrderBeside}
 use Rattle.slice_model.proofs.CallerLemmas.{call_on_map, order_kept}
 use Rattle.sliced_heap.specs.Access.{access_fault}
@@ -29,10 +29,10 @@ use Rattle.cf_io.specs.Lines.{line_capacity}
 use Rattle.cf_session.specs.declared.outcome.Outcome.{Outcome}
 use Rattle.script_laws.specs.ObjectRun.{MallocsId}
 use Rattle.run_model.specs.Steps.{Stays}
-use Rattle.cf_base.specs.declared.answers.AccessFault.TheVariants as access
+use Rattle.cf_base.specs.declared.results.AccessFault.TheVariants as access
 use Rattle.script_reader.specs.declared.command.Command.TheVariants as command
-use Rattle.slice_model.specs.declared.answers.SliceFault.TheVariants as fault
-use Rattle.slice_model.specs.declared.answers.SliceRefusal.TheVariants as refusal
+use Rattle.slice_model.specs.declared.refusals.SliceFault.TheVariants as fault
+use Rattle.slice_model.specs.declared.refusals.SliceRefusal.TheVariants as refusal
 
 -- For the law `plays_are_runs`: a run of the mode handler of mode `slice` is, with the same replies, a run of its session with the handler's quantum.
 

@@ -2,7 +2,7 @@
 use Rattle.std.proofs.Common.{◌≡◌, ◌≢◌, ℕ, true, false, cond, ◌+◌, ◌%◌, ◌<◌, ◌≤◌, Bool, Some, None, arith, sym, ◌∙◌, ap, refl, subst, inl, inr, ◌||◌, nat_eq, nat_le, Option, ◌&&◌, not}
 use Rattle.std.proofs.lemmas.Bool.{cases_eq, cases_lt, leb-true, leb-false, eqb-false}
 use Rattle.run_model.specs.Terms.{class_at, classes, get, Held, insert, IsSound, Moving, Objects, objects, page_of, Paging, Placed, Profile, remove, Request, slot_words, slots_of}
-use Rattle.cf_base.specs.declared.answers.Figures.{Figures}
+use Rattle.cf_base.specs.declared.results.Figures.{Figures}
 use Rattle.cf_base.proofs.MapValues.{map_values-insert}
 use Rattle.cf_base.proofs.Maps.{get_inserted, get_insert_other}
 use Rattle.cf_base.proofs.Ranges.{one, count_changed}

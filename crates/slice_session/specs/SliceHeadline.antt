@@ -6,10 +6,10 @@ use Rattle.page_model.specs.Arrangement.{pages_needed_with}
 use Rattle.page_model.specs.Paging.{class_for}
 use Rattle.run_model.specs.Plays.{PlayRun}
 use Rattle.run_model.specs.Replies.{peek_text}
-use Rattle.slice_model.specs.declared.answers.SliceFault.{SliceFault}
-use Rattle.slice_model.specs.declared.answers.SliceFault.TheVariants as fault
-use Rattle.slice_model.specs.declared.answers.SliceRefusal.{SliceRefusal}
-use Rattle.slice_model.specs.declared.answers.SliceRefusal.TheVariants as refusal
+use Rattle.slice_model.specs.declared.refusals.SliceFault.{SliceFault}
+use Rattle.slice_model.specs.declared.refusals.SliceFault.TheVariants as fault
+use Rattle.slice_model.specs.declared.refusals.SliceRefusal.{SliceRefusal}
+use Rattle.slice_model.specs.declared.refusals.SliceRefusal.TheVariants as refusal
 use Rattle.slice_session.specs.SliceRun.{slice_free_text, slice_malloc_text}
 use Rattle.script_laws.specs.IdBytes.{read_shown}
 use Rattle.script_laws.specs.RepliesById.{objects_after, ok_or, write_said}

@@ -1,7 +1,7 @@
 -- A session over a sliced heap: its state, the calls of its heap, and for each command the reply, the state after it, and the most steps.
 use Rattle.std.specs.Prelude.{◌≡◌, ℕ, ◌+◌, IsTrue, List, Option, Some, None, Result, Ok, Err, codes, length, slice_get}
 use Rattle.run_model.specs.Terms.{Command, Handle, Ids, objects, Reply, said, with_number}
-use Rattle.cf_base.specs.declared.answers.Refusal.TheVariants as shown
+use Rattle.cf_base.specs.declared.results.Refusal.TheVariants as shown
 use Rattle.cf_model.specs.Costs.{words_touched}
 use Rattle.script_laws.specs.ObjectRun.{Calls, IsGoingObjects, ObjectRun, ObjectStep, object_run}
 use Rattle.run_model.specs.Replies.{malloc_text, peek_text}
@@ -10,10 +10,10 @@ use Rattle.script_reader.specs.declared.command.Command.TheVariants as command
 use Rattle.slice_model.specs.Ordered.{HappensInOrder}
 use Rattle.slice_model.specs.Runs.{Event, Happens, Malloc, Free, Step, Write}
 use Rattle.slice_model.specs.State.{left_of}
-use Rattle.slice_model.specs.declared.answers.SliceFault.{SliceFault}
-use Rattle.slice_model.specs.declared.answers.SliceFault.TheVariants as fault
-use Rattle.slice_model.specs.declared.answers.SliceRefusal.{SliceRefusal}
-use Rattle.slice_model.specs.declared.answers.SliceRefusal.TheVariants as refusal
+use Rattle.slice_model.specs.declared.refusals.SliceFault.{SliceFault}
+use Rattle.slice_model.specs.declared.refusals.SliceFault.TheVariants as fault
+use Rattle.slice_model.specs.declared.refusals.SliceRefusal.{SliceRefusal}
+use Rattle.slice_model.specs.declared.refusals.SliceRefusal.TheVariants as refusal
 use Rattle.sliced_heap.specs.Access.{access_fault}
 use Rattle.sliced_heap.specs.Shown.{KeepsSlicedRules, SlicedState, StaysSlicedOpen, plan_in, working_in}
 

@@ -1,5 +1,6 @@
-//! The commands of a session over a sliced heap, where a script names objects by ids. `m`, `f` and `w` return
-//! their reply; `r`, `s` and `p` build their reply in `line`, and return how the command ended.
+//! The commands of a session over a sliced heap, in which a script names objects by ids. The
+//! functions of `m`, `f` and `w` return their reply; those of `r`, `s` and `p` build it in `line`,
+//! and return its outcome.
 ghost use Rattle.std.specs.Prelude.{◌≡◌, ◌+◌, ◌<◌, ◌≤◌, [], IsTrue, Err, Some, length, slice_get};
 ghost use Rattle.cf_io.specs.Lines.{line_capacity};
 ghost use Rattle.run_model.specs.Terms.{Free, Malloc, said, Slice, Write};
@@ -21,8 +22,9 @@ use slice_model::{SliceFault, SliceRefusal};
 use sliced_heap::SlicedHeap;
 use step_ledger::Steps;
 
-/// `m`: makes an object of `bytes` zero bytes in the sliced heap for an id that isn't live. The reply is `ok`; or
-/// `live` if the id is live, or names the heap's refusal, and then nothing changes.
+/// `m`: makes an object of `bytes` zero bytes in the sliced heap for an id that isn't live. The
+/// reply is `ok`; or `live` if the id is live, or `refused` and the cause, or `busy`, if the heap
+/// refuses the malloc, and then nothing changes.
 pub(crate) fn malloc(
     ids: &mut IdTable,
     heap: &mut SlicedHeap,
@@ -58,9 +60,9 @@ fn malloc_reply(refusal: SliceRefusal) -> Short
     }
 }
 
-/// `f`: frees the object of a live id, and does the first slice of the job that the free begins. The reply is
-/// `ok`; or `unknown` if the id isn't live, or `busy` if the heap refuses because a job is pending, and then
-/// nothing changes.
+/// `f`: frees the object of a live id, and the id, and does the first slice of the job that the
+/// free begins. The reply is `ok`; or `unknown` if the id isn't live, or `busy` if the heap refuses
+/// because a job is pending, and then nothing changes.
 pub(crate) fn free(ids: &mut IdTable, heap: &mut SlicedHeap, id: u16, steps: &mut Steps) -> Short
     requires { IsTrue heap.old.is_open }
     ensures step { SliceStep (slice_run ids.old heap.old) (Free id) (said (short_text result)) (slice_run ids.new heap.new) }
@@ -88,8 +90,9 @@ fn free_reply(fault: SliceFault) -> Short
     }
 }
 
-/// `w`: writes these bytes into the sliced heap's object of a live id, from byte `at` on. The reply is `ok`; or
-/// `unknown` if the id isn't live, or `range` if the bytes pass the object's end, and then nothing changes.
+/// `w`: writes `bytes` into the sliced heap's object of a live id, from byte `at` on. The reply is
+/// `ok`; or `unknown` if the id isn't live, or `range` if the bytes pass the object's end, and then
+/// nothing changes.
 pub(crate) fn write(
     ids: &IdTable,
     heap: &mut SlicedHeap,

@@ -1,6 +1,7 @@
-//! Laws of runs over a sliced heap: reads, causes of replies, runs that can go on and cut output; and what is
-//! claimed of every script in mode `slice`, by its lines and their replies alone (`MeetsSliced`). The functions
-//! do nothing: their clauses are the laws.
+//! Laws of runs over a sliced heap: what reads print, which causes replies show, that each run can
+//! be continued, and that output cut by a failed sink is a prefix. And what is claimed of every
+//! script in mode `slice`, by its lines and their replies alone (`MeetsSliced`). The functions do
+//! nothing: their clauses are the laws.
 ghost use Rattle.std.specs.Prelude.{◌≡◌, ◌≢◌, ℕ, ◌++◌, Bool, List, [], Option, Err, None, Some, codes, ◌+◌, ◌-◌, ◌*◌, ◌<◌, ◌≤◌, ◌↔◌, length, take, ◌∷◌};
 ghost use Rattle.std.specs.Option.{option_map};
 ghost use Rattle.run_model.specs.Terms.{AreInRange, Command, Free, get, IsPaging, Item, items, Malloc, Profile, Reply, said, Slice, slot_words, text_of};
@@ -11,24 +12,24 @@ ghost use Rattle.script_loop.specs.ScriptOutcome.{Effects, WroteInPart, items_wi
 ghost use Rattle.script_loop.specs.Semantics.{RunBy};
 ghost use Rattle.slice_model.specs.State.{Idle};
 ghost use Rattle.slice_model.specs.Steps.{IsFaultOf, IsSlicedRefusedBy};
-ghost use Rattle.slice_model.specs.declared.answers.SliceFault.{SliceFault};
-ghost use Rattle.slice_model.specs.declared.answers.SliceRefusal.{SliceRefusal};
+ghost use Rattle.slice_model.specs.declared.refusals.SliceFault.{SliceFault};
+ghost use Rattle.slice_model.specs.declared.refusals.SliceRefusal.{SliceRefusal};
 ghost use Rattle.sliced_heap.specs.Shown.{plan_in, working_in};
 ghost use Rattle.slice_session.specs.Playing.{BeginsSliced, IsQuantum, RunsSliced, SlicePlay, run_of_play, slices};
 ghost use Rattle.slice_session.specs.SliceRun.{IsGoingSliced, SliceRun, SliceStep, slice_free_text, slice_malloc_text};
 ghost use Rattle.page_model.specs.Arrangement.{pages_needed_with};
 ghost use Rattle.page_model.specs.Paging.{class_for};
-ghost use Rattle.slice_model.specs.declared.answers.SliceRefusal.TheVariants.{Busy};
+ghost use Rattle.slice_model.specs.declared.refusals.SliceRefusal.TheVariants.{Busy};
 ghost use Rattle.slice_session.specs.ShownSlices.{ShownJob, ShownSlices, paging_shown, words_left};
 ghost use Rattle.slice_session.specs.SliceHeadline.{AreNoPeeks, MeetsSliced, after, after_slices, slice_line, slice_refusal};
 ghost use Rattle.slice_session.specs.Small.{MeetsSmallSliced, small_sliced_replies};
 
 use slice_model::{a_malloc_is_busy_only_with_a_job, an_empty_heap_is_consistent};
 
-/// In every list of commands, with slices of the jobs anywhere between them, each read returns the bytes last
-/// written through its id, also those of an object in motion. These bytes follow from the lines and their
-/// replies alone: no address, handle or job changes them. Clause `run` is of a session's runs, `play` of those
-/// of its mode handler.
+/// In every run in mode `slice`, each read prints the bytes last written through its id, also while
+/// a job moves the object. These bytes follow from the lines and their replies alone: no address,
+/// handle or job changes them. Clause `run` is about runs of a session, `play` about runs of the
+/// script loop (`RunBy`).
 pub fn reads_give_what_was_written()
     ensures run { (quantum : ℕ) (items : List Item) (replies : List Reply) (new : Option SliceRun)
         → RunsSliced quantum None items replies new → AreReadsOf None items replies }
@@ -36,11 +37,13 @@ pub fn reads_give_what_was_written()
         → RunBy slices from None items replies new → AreReadsOf None items replies }
 {}
 
-/// In mode `slice`, the reply to a malloc names a cause of refusal if and only if this cause holds, and then nothing
-/// changes (clauses `malloc` and `refused`). So the reply is `refused space` if and only if the object fits a page, a
-/// proxy is free, and the objects with the new one need more pages than there are, whether a job is pending or not. If
-/// the reply to a free names a cause, this cause holds, and nothing changes (clause `free`). The reply to either is
-/// `busy` only if a job is pending (clauses `busy_malloc` and `busy_free`).
+/// In a run in progress in mode `slice`, the reply to a malloc for an id that isn't live names a
+/// cause of refusal if and only if this cause holds, and then nothing changes (clauses `malloc` and
+/// `refused`). So this reply is `refused space` if and only if the object fits a page, a proxy is
+/// free, and the objects with the new one need more pages than there are, whether a job is pending
+/// or not. If the reply to a free of a live id names a cause, this cause holds, and nothing changes
+/// (clause `free`). The reply to a malloc or a free is `busy` only if a job is pending (clauses
+/// `busy_malloc` and `busy_free`).
 pub fn replies_show_their_causes()
     ensures malloc { (old new : SliceRun) (id n : ℕ) (e : SliceRefusal) → get old.ids id ≡ None
         → SliceStep old (Malloc id n) (said (slice_malloc_text (Err e))) new
@@ -59,9 +62,9 @@ pub fn replies_show_their_causes()
     a_malloc_is_busy_only_with_a_job();
 }
 
-/// A sliced run can begin with any settings in their ranges and slices of any quantum, and is then in progress
-/// (`IsGoingSliced`). In each state of a run in progress every command that a script can contain has a reply, and the
-/// run is in progress after it.
+/// A run in mode `slice` can begin with any settings and quantum in their ranges, and is then in
+/// progress (`IsGoingSliced`). In each state of a run in progress every command that a script can
+/// contain has a reply, and the run is in progress after it.
 pub fn each_command_has_its_turn()
     ensures begins { (quantum : ℕ) (p : Profile) → IsQuantum quantum → AreInRange p
         → (new : SliceRun) × BeginsSliced quantum p new }
@@ -74,8 +77,8 @@ pub fn each_command_has_its_turn()
     an_empty_heap_is_consistent();
 }
 
-/// In mode `slice`, there is a run over the items of any bytes, and each run over a prefix of them can be continued to
-/// the end.
+/// In mode `slice` with a quantum in its range, there is a run over the items of any bytes, and
+/// each run over a prefix of them can be continued to the end.
 pub fn a_sliced_run_can_always_go_on()
     ensures there { (quantum : ℕ) (given : List ℕ) (ended : Bool) → IsQuantum quantum
         → (replies : List Reply) × (new : Option SliceRun) × RunsSliced quantum None (items given ended) replies new }
@@ -95,7 +98,8 @@ pub fn plays_are_runs()
         → RunsSliced from.quantum None items replies (option_map run_of_play new) }
 {}
 
-/// In mode `slice`, the output before the sink failed is a prefix of the output of a run over the whole script.
+/// In mode `slice` with a quantum in its range, the output before the sink failed is a prefix of
+/// the output of a run over the whole script.
 pub fn what_was_cut_is_a_prefix()
     ensures { (from to : SlicePlay) (call : Effects) (all : List ℕ) → IsQuantum from.quantum
         → (w : WroteInPart slices from (items_within all) call to)
@@ -104,8 +108,10 @@ pub fn what_was_cut_is_a_prefix()
     an_empty_heap_is_consistent();
 }
 
-/// The replies of every run in mode `slice` meet the claim (`MeetsSliced`) for its quantum, the most words of
-/// a slice. `run` is about a run of a session, `play` about a run of the script loop (`RunBy`).
+/// The replies of every run in mode `slice` meet the claim `MeetsSliced` for the quantum of the
+/// run: each reply, but for the word that `p` prints, is a function of its line and the lines
+/// before it. Clause `run` is about runs of a session, `play` about runs of the script loop
+/// (`RunBy`).
 pub fn the_sliced_headline()
     ensures run { (quantum : ℕ) (items : List Item) (replies : List Reply) (end : Option SliceRun)
         → RunsSliced quantum None items replies end → MeetsSliced quantum items replies }
@@ -113,8 +119,8 @@ pub fn the_sliced_headline()
         → RunBy slices from None items replies end → MeetsSliced from.quantum items replies }
 {}
 
-/// If a script has no `p`, exactly one list of replies meets the claim for a quantum: at most one (`one`) and
-/// at least one (`some`).
+/// In mode `slice`, if a script has no `p`, exactly one list of replies meets the claim
+/// (`MeetsSliced`) for a quantum: at most one (clause `one`) and at least one (`some`).
 pub fn one_sliced_transcript()
     ensures one { (quantum : ℕ) (items : List Item) (replies others : List Reply) → AreNoPeeks items
         → MeetsSliced quantum items replies → MeetsSliced quantum items others → others ≡ replies }
@@ -122,9 +128,10 @@ pub fn one_sliced_transcript()
         → (replies : List Reply) × MeetsSliced quantum items replies }
 {}
 
-/// One script has one output in mode `slice`: two runs over the same items with the same quantum have the
-/// same replies, also to `p` while a job is pending. They end with the same ids and the same heap, with its
-/// words and its order. `run` is about runs of a session, `play` about runs of the script loop (`RunBy`).
+/// One script has one output in mode `slice`: two runs over the same items with the same quantum
+/// have the same replies, also to `p` while a job is pending. They end with the same ids and the
+/// same heap, including its words and its order. Clause `run` is about runs of a session, `play`
+/// about runs of the script loop (`RunBy`).
 pub fn one_sliced_output()
     ensures run { (quantum : ℕ) (items : List Item) (replies others : List Reply) (last end : Option SliceRun)
         → RunsSliced quantum None items replies last → RunsSliced quantum None items others end
@@ -135,13 +142,15 @@ pub fn one_sliced_output()
         → (others ≡ replies) × (option_map run_of_play end ≡ option_map run_of_play last) }
 {}
 
-/// Which calls wait for a job, and how long. `t` is the heap before the call, as the lines and replies show it.
-/// `free`: a free of a live id prints `busy` if and only if a job is pending. `malloc`: a malloc doesn't print
-/// `busy` if the objects with the new one need fewer pages than there are. `none_left`: `s` prints `left 0` if
-/// and only if no job is pending after it. `left`: after a free, if only slices follow, each `s` lowers the
-/// words that are left by the quantum, down to 0. `ended`: suppose a malloc prints `busy`, `a` slices are enough
-/// for the words left of the job, and `b` slices for a whole slot. Then the malloc isn't refused after `a + b`
-/// slices without another command: at most one more job follows.
+/// In mode `slice`, which calls are refused because of a job, and for how long. `t` is the heap
+/// before the call, as the lines and replies show it, with sound settings; a pending job has words
+/// left. `free`: a free of a live id prints `busy` if and only if a job is pending. `malloc`: a
+/// malloc doesn't print `busy` if the objects with the new one need fewer pages than there are.
+/// `none_left`: `s` prints `left 0` if and only if no job is pending after it. `left`: after a
+/// free, if only slices follow, each `s` lowers the words that are left by the quantum, down to 0.
+/// `ended`: suppose a malloc prints `busy`, `a` slices are enough for the words left of the job,
+/// and `b` slices for a whole slot. Then the malloc isn't refused after `a + b` slices without
+/// another command: at most one more job follows.
 pub fn who_is_busy_and_how_long()
     ensures free { (t : ShownSlices) (id : ℕ) (v : List ℕ) → get t.heap.objects id ≡ Some v
         → (slice_line t (Free id) ≡ codes "busy") ↔ (t.job ≢ None) }
@@ -160,14 +169,16 @@ pub fn who_is_busy_and_how_long()
         → slice_refusal t n ≡ Some Busy → slice_refusal (after_slices (a + b) t) n ≡ None }
 {}
 
-/// In mode `slice`, wrong replies violate the claim, so it isn't empty. The script, on two pages of 64 words with
-/// slices of 8 words: mallocs of objects 1 and 2, of 23 words each; `f 2`, which leaves a job; a slice; `f 1`; a malloc
-/// of a whole page; and a malloc of object 4, of 23 words. The claim holds for `ok` to the first malloc, `left 7` to
-/// the slice, `busy` to `f 1`, `ok` to the whole page and `busy` to object 4 (`right`). It fails for `refused size` to
-/// a malloc that fits (`size`), for no replies at all (`silent`), for a reply too few (`missing`) or too many (`over`),
-/// for `left 0` (`at_once`), for the words that are done instead of those left (`done`), for `ok` to a free while the
-/// job is pending (`beside`), for `busy` to a page while one is free (`page`), and for `ok` to object 4 while the job
-/// has the only slot (`slot`).
+/// In mode `slice`, the claim `MeetsSliced` excludes wrong replies: nine wrong ones violate it. The
+/// script, on two pages of 64 words with slices of 8 words: mallocs of objects 1 and 2, of 176 bytes
+/// each; `f 2`, which begins a job; a slice; `f 1`; a malloc of a whole page; and a malloc of
+/// object 4, of 176 bytes. The claim holds for `ok` to the first malloc, `left 7` to the slice,
+/// `busy` to `f 1`, `ok` to the whole page and `busy` to object 4 (`right`). It fails for
+/// `refused size` to a malloc that fits (`size`), for no replies at all (`silent`), for a reply too
+/// few (`missing`) or too many (`over`), for `left 0` (`at_once`), for the words that are done
+/// instead of those left (`done`), for `ok` to a free while the job is pending (`beside`), for
+/// `busy` to a page while one is free (`page`), and for `ok` to object 4 while the job has the only
+/// slot (`slot`).
 pub fn wrong_sliced_replies_fall_short()
     ensures right { MeetsSmallSliced (small_sliced_replies (codes "ok") (codes "left 7") (codes "busy") (codes "ok") (codes "busy")) }
     ensures size { ¬ MeetsSmallSliced (small_sliced_replies (codes "refused size") (codes "left 7") (codes "busy") (codes "ok") (codes "busy")) }

@@ -1,5 +1,5 @@
-//! Mode `slice`: a session does a script's commands on a sliced heap and maps its ids to handles. `f` leaves a
-//! job and does its first slice, each `s` does one more.
+//! Mode `slice`: a session does a script's commands on a sliced heap, and maps the script's ids to
+//! handles. The command `f` begins a job and does its first slice; each `s` does one more slice.
 #![tactic(auto)]
 
 mod commands;

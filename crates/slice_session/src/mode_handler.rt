@@ -1,4 +1,4 @@
-//! The mode handler of mode `slice`: a session over a sliced heap, with the quantum with which the `heap` line
+//! The mode handler of mode `slice`: a session over a sliced heap, and the quantum with which it
 //! opens the heap.
 ghost use Rattle.std.specs.Prelude.{◌≡◌, ℕ, IfOk};
 ghost use Rattle.std.specs.FinMap as map;
@@ -50,20 +50,22 @@ impl ModeHandler<SlicedHeap> for SliceHandler {
 
     ghost semantics = { slices };
 
-    /// Opens the sliced heap with the settings of the `heap` line and the quantum, and writes the reply `ok`.
+    /// Opens the sliced heap with the handler's quantum and the settings of the `heap` line, but
+    /// always with the bound 1, and writes the reply `ok`. Fails with `OutOfMemory` if an
+    /// allocation fails, and with `Failed` if the sink fails.
     fn open<K: Sink>(
         &mut self,
         heap: &mut SlicedHeap,
         settings: &Settings,
         sink: &mut K,
     ) -> Result<(), OpenFault> {
-        // Every class has the bound 1, whatever bound the line has.
         heap.open_heap(settings, self.quantum)?;
         put_all(sink, b"ok\n")?;
         Ok(())
     }
 
-    /// Does the command on the sliced heap and writes its reply.
+    /// Does the command on the sliced heap, with its steps counted from 0, and writes its reply.
+    /// Fails if the sink fails: the command has taken effect.
     fn answer<K: Sink>(
         &mut self,
         heap: &mut SlicedHeap,

@@ -23,7 +23,8 @@ use std::alloc::Global;
 use std::marker::Model;
 use step_ledger::{Meter, Steps};
 
-/// The ids of a script with the handles that they name in one sliced heap, and the buffers for replies.
+/// The live ids of a script with the handles that they name in one sliced heap, and the buffers for
+/// replies.
 #[derive(Drop)]
 pub struct SliceSession {
     ids: IdTable,
@@ -56,9 +57,9 @@ impl SliceSession {
         })
     }
 
-    /// Resets the ledger to 0, does the command c on the sliced heap, and writes its reply to the sink `out`.
-    /// Returns how the command ended, by its reply. If the sink fails, the result is `Failed`: the command
-    /// has taken effect, and a prefix of its reply was written.
+    /// Resets the ledger of `meter` to 0, does the command c on the open sliced heap, and writes
+    /// its reply to the sink `out`. Returns the reply's outcome. If the sink fails, the result is
+    /// `Failed`: the command has taken effect, and a prefix of its reply was written.
     pub fn apply<K: Sink>(
         &mut self,
         heap: &mut SlicedHeap,
@@ -72,7 +73,6 @@ impl SliceSession {
         ensures step { Applies sliced (snapshot (slice_run self.old heap.old) (K.state out.old).written) c.now result
             (snapshot (slice_run self.new heap.new) (K.state out.new).written) }
         ensures going { IsGoingSliced (slice_run self.new heap.new) }
-        // The ledger counts from 0 in each command.
         ensures steps { meter.new ≤ most_steps heap.old.quantum c.now }
         ensures sink { SinkFailsIf (is_err result) (K.state out.old) (K.state out.new) }
     {
@@ -80,8 +80,9 @@ impl SliceSession {
         self.apply_ref(heap, c.as_ref(), out, meter.steps())
     }
 
-    /// `SliceSession::apply` for a command whose bytes are borrowed, and on a ledger that the caller keeps: the call
-    /// doesn't reset it, and raises it by at most `most_steps` of the command.
+    /// Does the command c, whose bytes are borrowed, and writes its reply, as `SliceSession::apply`
+    /// does. But it doesn't reset the ledger `steps`: it adds to it, at most `most_steps` of the
+    /// command.
     pub fn apply_ref<K: Sink>(
         &mut self,
         heap: &mut SlicedHeap,
@@ -106,9 +107,9 @@ impl SliceSession {
     }
 }
 
-/// Does the command c on the sliced heap and builds the text of its reply in `line`, but writes it to no sink.
-/// `buffer` gets the bytes of a read. Returns how the command ended, by its reply. The reply to a command of
-/// another mode is `none`.
+/// Does the command c on the sliced heap and builds the text of its reply in `line`, but writes it
+/// to no sink. `buffer` gets the bytes of a read. Returns the reply's outcome. The reply to a
+/// command that mode `slice` doesn't have is `none`.
 fn build_reply(
     ids: &mut IdTable,
     heap: &mut SlicedHeap,

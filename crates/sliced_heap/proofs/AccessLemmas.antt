@@ -4,7 +4,7 @@ use Rattle.std.proofs.Common.{◌≡◌, ℕ, ◌+◌, ◌/◌, ◌%◌, ◌^◌
 use Rattle.std.specs.Prelude.{option_map}
 use Rattle.std.proofs.lemmas.Bool.{cases_eq}
 use Rattle.std.specs.FinMap.{get, insert}
-use Rattle.cf_base.specs.declared.answers.AccessFault.TheVariants as access
+use Rattle.cf_base.specs.declared.results.AccessFault.TheVariants as access
 use Rattle.cf_base.proofs.Maps.{some_inserted}
 use Rattle.cf_base.proofs.MapValues.{get-map_values, map_values-insert}
 use Rattle.cf_base.proofs.Tests.{eq_no, eq_yes}

@@ -1,4 +1,4 @@
--- For `fill` and `move_to`: if the class has two partly full pages, the object that the order lists next gets the address of the slot to be cleared, and moving
+-- For `fill` and `start_move`: if the class has two partly full pages, the object that the order lists next gets the address of the slot to be cleared, and moving
 -- it there is the job; the heap stays valid.
 use Rattle.std.proofs.Common.{◌≡◌, ◌≢◌, ℕ, ◌+◌, ◌-◌, ◌*◌, ◌/◌, ◌%◌, ◌^◌, ◌<◌, [], length, get_or, replicate, Option, Some, None, arith, refl, sym, ◌∙◌, ap}
 use Rattle.std.proofs.Common.{subst, inl, inr}

@@ -7,7 +7,7 @@ use Rattle.std.proofs.lemmas.Bool.{cases_lt, false≢true}
 use Rattle.std.proofs.lemmas.List.{get_or-set_same, get_or-set_other, length-replicate, length-set, nil_from_length}
 use Rattle.std.specs.FinMap.{get, insert, len}
 use Rattle.cf_base.specs.Classes.{class_of, need, slots}
-use Rattle.cf_base.specs.declared.answers.Handle.{Handle}
+use Rattle.cf_base.specs.declared.results.Handle.{Handle}
 use Rattle.cf_base.proofs.Maps.{some_inserted}
 use Rattle.cf_base.proofs.MapValues.{get-map_values}
 use Rattle.cf_base.proofs.Ranges.{one}
@@ -34,8 +34,8 @@ use Rattle.proxy_table.specs.Proxies.{AreBelowLimit, with_place}
 use Rattle.size_classes.specs.Table.{ClassTable}
 use Rattle.slice_model.specs.State.{IsPlaceFor, Sliced, job_slot, occupied}
 use Rattle.slice_model.specs.Steps.{AddsSlicedObject, IsSlicedRefusedBy, LacksSlicedProxy, LacksSlicedSpace, LacksUsableSlot}
-use Rattle.slice_model.specs.declared.answers.SliceRefusal.{SliceRefusal}
-use Rattle.slice_model.specs.declared.answers.SliceRefusal.TheVariants as refusal
+use Rattle.slice_model.specs.declared.refusals.SliceRefusal.{SliceRefusal}
+use Rattle.slice_model.specs.declared.refusals.SliceRefusal.TheVariants as refusal
 use Rattle.slice_model.specs.Ordered.{MallocsInOrder}
 use Rattle.slice_model.proofs.CallerLemmas.{free_is_place, get_beside, inserted_beside, kept_malloc, lacking_is_no_place, no_place_is_lacking, words_given}
 use Rattle.step_ledger.specs.Counting.{RoseBy}

@@ -3,7 +3,7 @@ use Rattle.std.proofs.Common.{◌≡◌, ℕ, ◌+◌, ◌-◌, ◌<◌, ◌≤�
 use Rattle.std.specs.Prelude.{if◌then◌else◌, nat_eq, slice_get}
 use Rattle.std.proofs.lemmas.Bool.{cases_eq, cases_lt}
 use Rattle.std.specs.FinMap.{get}
-use Rattle.cf_base.specs.declared.answers.Handle.{Handle}
+use Rattle.cf_base.specs.declared.results.Handle.{Handle}
 use Rattle.cf_base.proofs.Tests.{and_false, eq_no, eq_yes, le_no, le_yes, lt_no, lt_yes}
 use Rattle.page_model.specs.Arrangement.{class_at, not_full_pages, objects_on}
 use Rattle.page_model.specs.Held.{Held, Placed}
@@ -11,9 +11,9 @@ use Rattle.page_model.specs.Order.{Order, drop_steps, fill_steps, not_full_in, s
 use Rattle.page_model.specs.Paging.{Paging, bound_of, class_for, page_of, slot_words, slots_of}
 use Rattle.page_model.specs.Steps.{MustMove}
 use Rattle.page_model.proofs.CallerLemmas.{drop_few, fill_few, take_few}
-use Rattle.slice_model.specs.declared.answers.SliceFault.{SliceFault}
-use Rattle.slice_model.specs.declared.answers.SliceRefusal.{SliceRefusal}
-use Rattle.slice_model.specs.declared.answers.SliceRefusal.TheVariants as refusal
+use Rattle.slice_model.specs.declared.refusals.SliceFault.{SliceFault}
+use Rattle.slice_model.specs.declared.refusals.SliceRefusal.{SliceRefusal}
+use Rattle.slice_model.specs.declared.refusals.SliceRefusal.TheVariants as refusal
 use Rattle.slice_model.specs.declared.job_slot.JobSlot.{JobSlot}
 use Rattle.slice_model.specs.State.{Job, Plan, Sliced, Idle, Clear, Move, occupied, placeholder, with_slot}
 use Rattle.step_ledger.specs.Counting.{RoseAtMost, RoseBy}

@@ -1,9 +1,9 @@
--- For `read`, `write` and `length` of a sliced heap: their results as the model has them, and what `find` returns: the two halves in which the words of an
--- object in motion are, or a fault.
+-- For `read`, `write`, `place` and `length` of a sliced heap: their results as the model has them, and what `find` returns: the two halves in which the words
+-- of an object in motion are, or a fault.
 use Rattle.std.specs.Prelude.{◌≡◌, ℕ, ◌+◌, ◌≤◌, List, length, Option, Some, None, Result, Ok, Err, option_map}
 use Rattle.std.specs.FinMap.{get}
-use Rattle.cf_base.specs.declared.answers.AccessFault.{AccessFault}
-use Rattle.cf_base.specs.declared.answers.AccessFault.TheVariants as access
+use Rattle.cf_base.specs.declared.results.AccessFault.{AccessFault}
+use Rattle.cf_base.specs.declared.results.AccessFault.TheVariants as access
 use Rattle.page_model.specs.Held.{Held, Placed, objects}
 use Rattle.slice_model.specs.Runs.{Position, IsOutOfReach}
 use Rattle.sliced_heap.specs.Halves.{halves_of}

@@ -1,10 +1,10 @@
--- The exact steps of each call of a sliced heap, computed from its settings (`plan`), the state s before the call, the order o of that state, and the result. Each
--- comment lists what the steps pay for.
+-- The exact steps of malloc, free, `step`, read, write and `length` of a sliced heap, computed from its settings (`plan`), the state s before the call, the
+-- order o of that state, and the result. Each comment lists what the steps pay for.
 use Rattle.std.specs.Prelude.{ℕ, ◌+◌, ◌-◌, Bool, ◌&&◌, Option, Some, None, Result, Ok, Err, nat_eq, nat_le, nat_lt, if◌then◌else◌}
 use Rattle.std.specs.FinMap.{get}
-use Rattle.cf_base.specs.declared.answers.AccessFault.{AccessFault}
-use Rattle.cf_base.specs.declared.answers.AccessFault.TheVariants as access
-use Rattle.cf_base.specs.declared.answers.Handle.{Handle}
+use Rattle.cf_base.specs.declared.results.AccessFault.{AccessFault}
+use Rattle.cf_base.specs.declared.results.AccessFault.TheVariants as access
+use Rattle.cf_base.specs.declared.results.Handle.{Handle}
 use Rattle.cf_model.specs.Costs.{words_touched}
 use Rattle.page_model.specs.Arrangement.{class_at, not_full_pages, objects_on}
 use Rattle.page_model.specs.Held.{Held, Placed}
@@ -12,9 +12,9 @@ use Rattle.page_model.specs.Order.{Order, steps_to_drop, steps_to_fill, steps_to
 use Rattle.page_model.specs.Paging.{Paging, bound_of, class_for, page_of, slot_words, slots_of}
 use Rattle.slice_model.specs.declared.job_slot.JobSlot.{JobSlot}
 use Rattle.slice_model.specs.State.{Job, Plan, Sliced, Idle, Clear, Move, occupied, placeholder, with_slot}
-use Rattle.slice_model.specs.declared.answers.SliceFault.{SliceFault}
-use Rattle.slice_model.specs.declared.answers.SliceRefusal.{SliceRefusal}
-use Rattle.slice_model.specs.declared.answers.SliceRefusal.TheVariants as refusal
+use Rattle.slice_model.specs.declared.refusals.SliceFault.{SliceFault}
+use Rattle.slice_model.specs.declared.refusals.SliceRefusal.{SliceRefusal}
+use Rattle.slice_model.specs.declared.refusals.SliceRefusal.TheVariants as refusal
 
 -- A malloc of `bytes` bytes: finding the class, taking its next slot, binding a proxy (2), and writing the header. A refused malloc only finds the class, and
 -- for `Busy` also looks for a slot (2).

@@ -2,8 +2,8 @@
 -- counts as used and its words as taken, so that its page is one of its class; but the slot is no live object, and no bytes are asked for it.
 use Rattle.std.specs.Prelude.{ℕ, Option, Some, None, if◌then◌else◌, nat_lt, option_map}
 use Rattle.std.specs.FinMap.{get, len}
-use Rattle.cf_base.specs.declared.answers.Figures.{Figures}
-use Rattle.cf_base.specs.declared.answers.Totals.{Totals}
+use Rattle.cf_base.specs.declared.results.Figures.{Figures}
+use Rattle.cf_base.specs.declared.results.Totals.{Totals}
 use Rattle.page_model.specs.Arrangement.{class_at, live}
 use Rattle.page_model.specs.Figures.{asked_bytes, figures_of, totals_of}
 use Rattle.page_model.specs.Held.{Held, Placed, objects}
@@ -22,7 +22,7 @@ sliced_figures_in plan s c = if nat_lt c (classes plan.paging) then Some (class_
 abbrev pub sliced_totals_in : Plan → Sliced → Totals
 sliced_totals_in plan s = record (totals_of plan.paging (occupied plan s)) { live = len s.held; asked = asked_bytes (objects s.held) }
 
--- the words of the slot of object n of the objects m, which a free of n clears; none if n is not live
+-- the number of words of the slot of object n of the objects m; none if n is not live
 abbrev pub slot_words_in : Plan → Held → ℕ → Option ℕ
 slot_words_in plan m n = option_map (λ (x : Placed). slot_words plan.paging (class_at plan.paging x)) (get m n)
 

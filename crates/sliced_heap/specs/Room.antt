@@ -2,7 +2,7 @@
 use Rattle.std.specs.Prelude.{ℕ, Option, Some, None, Result, Ok, Err}
 use Rattle.slice_model.specs.State.{Job, Plan, Sliced, Idle, Clear, Move}
 use Rattle.slice_model.specs.Steps.{IsSlicedRefusedBy}
-use Rattle.slice_model.specs.declared.answers.SliceRefusal.{SliceRefusal}
+use Rattle.slice_model.specs.declared.refusals.SliceRefusal.{SliceRefusal}
 
 -- what `has_room` returns in the state s: `Ok` if a malloc of `bytes` bytes has no cause to be refused, else `Err` with its cause
 abbrev pub IsRoomAnswer : {T : Type 0} → Plan → Sliced → ℕ → Result T SliceRefusal → Type 0

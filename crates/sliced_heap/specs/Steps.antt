@@ -1,4 +1,4 @@
--- What the parts of a free and of a slice do: `start_clearing`, `fill`, `move_to` and `end`. Of this module, public clauses cite `fault_in` alone.
+-- What the parts of a free and of a slice do: `start_clearing`, `fill` and `start_move`. Of this module, public clauses cite `fault_in` alone.
 use Rattle.std.specs.Prelude.{◌≡◌, ℕ, ◌∷◌, ◌+◌, ◌%◌, ◌^◌, Bool, true, false, Option, Some, None, Result, Ok, Err, slice_index}
 use Rattle.std.specs.FinMap.{get, remove}
 use Rattle.page_model.specs.Arrangement.{class_at, objects_on}
@@ -11,7 +11,7 @@ use Rattle.proxy_table.specs.Proxies.{AreBelowLimit, with_place}
 use Rattle.slice_model.specs.declared.job_slot.JobSlot.{JobSlot}
 use Rattle.slice_model.specs.State.{occupied, placeholder, Clear, Move}
 use Rattle.slice_model.specs.Steps.{BeginsMove, IsBeside, fresh_slot}
-use Rattle.slice_model.specs.declared.answers.SliceFault.{SliceFault}
+use Rattle.slice_model.specs.declared.refusals.SliceFault.{SliceFault}
 use Rattle.sliced_heap.specs.Heap.{Heap}
 use Rattle.sliced_heap.specs.Layout.{plan_of, sliced_order_in, sliced_paging, sliced_state_of}
 
@@ -60,7 +60,7 @@ abbrev pub FillsSlot : Heap → JobSlot → Bool → Heap → Type 0
 FillsSlot old k true new = IsFilled old k new
 FillsSlot old k false new = StaysVacant old k new
 
--- What `move_to` does: the filler is the object that fills slot k. The lower half of the word at its address `from` is its number. Its proxy gets the address
+-- What `start_move` does: the filler is the object that fills slot k. The lower half of the word at its address `from` is its number. Its proxy gets the address
 -- of slot k, and the new job moves it there.
 pub record StartsMove (old : Heap) (k : JobSlot) (new : Heap) : Type 0 where
   pub from : ℕ

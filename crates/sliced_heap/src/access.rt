@@ -16,8 +16,8 @@ use region::Header;
 use step_ledger::Steps;
 
 impl OpenHeap {
-    /// In a sliced heap, returns the word of an open sliced heap's region with the number `word`, or `None` past the
-    /// region's end.
+    /// In a sliced heap, returns word number `word` of the region, or `None` past the region's end.
+    /// Costs one step; none past the end.
     pub fn peek(&self, word: u32, steps: &mut Steps) -> Option<u64>
         ensures value { result ≡ slice_get self.now.region word }
         ensures steps { RoseBy steps.old steps.new (if is_some result then 1 else 0) }
@@ -29,8 +29,8 @@ impl OpenHeap {
         }
     }
 
-    /// In a sliced heap, the address of object `h`, to which a job that moves the object moves it, or `None` if the
-    /// handle is not live.
+    /// In a sliced heap, the address of object `h`, or `None` if the handle is not live. While a
+    /// job moves the object, this is the address to which the job moves it. Costs one step.
     pub fn place(&self, h: Handle, steps: &mut Steps) -> Option<u32>
         requires { IsValid (sliced_seen self.now) }
         ensures value { result ≡ place_in (sliced_state_of (sliced_seen self.now)).held h.0 }
@@ -40,6 +40,7 @@ impl OpenHeap {
     }
 
     /// In a sliced heap, the length of object `h` in bytes, or `None` if the handle is not live.
+    /// Costs two steps; one if not live.
     pub fn length(&self, h: Handle, steps: &mut Steps) -> Option<u32>
         requires { IsValid (sliced_seen self.now) }
         ensures value { result ≡ sliced_length_in (sliced_state_of (sliced_seen self.now)).held h.0 }
@@ -52,8 +53,10 @@ impl OpenHeap {
         Some(Header::unpack(header).length)
     }
 
-    /// In a sliced heap, fills `out` with the bytes of object `h` from byte `at` on. Fails, with `out` unchanged, if
-    /// the handle is not live or the bytes pass the object's end.
+    /// In a sliced heap, fills `out` with the bytes of object `h` from byte `at` on. Fails, with
+    /// `out` unchanged, with `Unknown` if the handle is not live, else with `Range` if the bytes
+    /// pass the object's end. Costs two steps, and one for each word that holds one of the bytes;
+    /// if it fails, one (`Unknown`) or two.
     pub fn read(
         &self,
         h: Handle,
@@ -73,8 +76,9 @@ impl OpenHeap {
         Ok(())
     }
 
-    /// In a sliced heap, writes `bytes` into object `h` from byte `at` on. Fails, with nothing changed, if the handle
-    /// is not live or the bytes pass the object's end.
+    /// In a sliced heap, writes `bytes` into object `h` from byte `at` on. Fails, with nothing
+    /// changed, with `Unknown` if the handle is not live, else with `Range` if the bytes pass the
+    /// object's end. Costs as many steps as a read of as many bytes from there.
     pub fn write(
         &mut self,
         h: Handle,
@@ -96,9 +100,10 @@ impl OpenHeap {
         Ok(())
     }
 
-    /// Returns the two halves of a sliced heap in which the words of object `h` lie: the words that the job has
-    /// already moved to the object's address, and the others. Fails with `Unknown` if the handle is not live, and with
-    /// `Range` if the object has fewer than `count` bytes from byte `at` on.
+    /// In a sliced heap, returns the two halves in which the words of object `h` lie: those that
+    /// the job has already moved to the object's address, and the others. Fails with `Unknown` if
+    /// the handle is not live, else with `Range` if the object has fewer than `count` bytes from
+    /// byte `at` on. Costs two steps; one at `Unknown`.
     fn find(
         &self,
         h: Handle,
@@ -121,8 +126,8 @@ impl OpenHeap {
         Ok(halves)
     }
 
-    /// The two halves in which the words of a sliced heap's object `h` with address `place` lie. Unless the pending job
-    /// moves `h`, all words are at that address.
+    /// In a sliced heap, the two halves in which the words of object `h` with address `place` lie.
+    /// Unless the pending job moves `h`, all its words are at that address.
     fn halves(&self, h: Handle, place: u32) -> Halves
         ensures { result ≡ halves_of (job_of self.now.job) h.0 place }
     {

@@ -15,9 +15,10 @@ use slice_model::JobSlot;
 use step_ledger::Steps;
 
 impl OpenHeap {
-    /// Ends the job with slot `k`, whose words are now all zero. The caller has made it a `Clear` job with
-    /// `done` 0, also if it moved an object. If the slot must be filled (`fill`), the next job moves an object
-    /// into it; else the slot becomes free, and no job is pending.
+    /// In a sliced heap, ends the job of slot `k`, whose words are all zero. The caller has already
+    /// set the job to `Clear(k)` with `done` 0, even if it moved an object. If `fill` must fill the
+    /// slot, the next job moves an object into it; else the slot becomes free, and no job is
+    /// pending.
     pub(crate) fn end(&mut self, k: JobSlot, steps: &mut Steps)
         requires kept { IsValid (sliced_seen self.old) }
         requires job { job_of self.old.job ≡ Clear k }

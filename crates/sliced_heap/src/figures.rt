@@ -17,7 +17,9 @@ use class_lists::Which;
 use step_ledger::Steps;
 
 impl OpenHeap {
-    /// The figures of class c of a sliced heap; none if there is no such class.
+    /// In a sliced heap, the figures of class c: its slot size, slots of a page, live objects,
+    /// pages and partly full pages. None if there is no such class. A pending job's slot counts as
+    /// used, but not as live.
     pub fn figures(&self, c: u32) -> Option<Figures>
         requires { IsValid (sliced_seen self.now) }
         ensures { result ≡ sliced_figures_in (plan_of (sliced_seen self.now)) (sliced_state_of (sliced_seen self.now)) c }
@@ -29,7 +31,8 @@ impl OpenHeap {
         }
     }
 
-    /// The figures of class c, which must be one of the sliced heap's classes.
+    /// In a sliced heap, the figures of class c, as `figures` returns them. The heap must have this
+    /// class.
     fn figures_of(&self, c: u32) -> Figures
         requires kept { IsValid (sliced_seen self.now) }
         requires class { c < classes (sliced_paging (sliced_seen self.now)) }
@@ -45,7 +48,10 @@ impl OpenHeap {
         }
     }
 
-    /// The figures of the whole open sliced heap.
+    /// The figures of the whole open sliced heap: live objects, their bytes and those of their
+    /// slots, the used pages and their bytes, the free pages, and the words of a page if one is
+    /// free, else 0. A pending job's slot counts as used and its bytes as taken, but neither as
+    /// live nor as asked for.
     pub fn totals(&self) -> Totals
         requires { IsValid (sliced_seen self.now) }
         ensures { result ≡ sliced_totals_in (plan_of (sliced_seen self.now)) (sliced_state_of (sliced_seen self.now)) }
@@ -64,7 +70,8 @@ impl OpenHeap {
         }
     }
 
-    /// In a sliced heap, the bytes of the slots that the objects and the pending job have.
+    /// In a sliced heap, the bytes of the objects' slots, and of the pending job's slot if there is
+    /// a job.
     fn taken_with_job(&self) -> u64
         requires { IsValid (sliced_seen self.now) }
         ensures { result ≡ taken_bytes (sliced_paging (sliced_seen self.now)) (objects (occupied (plan_of (sliced_seen self.now)) (sliced_state_of (sliced_seen self.now)))) }
@@ -85,7 +92,8 @@ impl OpenHeap {
         self.taken + 8 * u64::from(self.tables.classes.slot_words(c))
     }
 
-    /// In a sliced heap, the words of an object's slot, also while a job moves it; none if the handle is not live.
+    /// In a sliced heap, the number of words of an object's slot, also while a job moves the
+    /// object; none if the handle is not live. Costs three steps; one if not live.
     pub fn slot_words(&self, h: Handle, steps: &mut Steps) -> Option<u32>
         requires { IsValid (sliced_seen self.now) }
         ensures value { result ≡ slot_words_in (plan_of (sliced_seen self.now)) (sliced_state_of (sliced_seen self.now)).held h.0 }
@@ -100,7 +108,8 @@ impl OpenHeap {
         Some(self.tables.classes.slot_words(c))
     }
 
-    /// An open sliced heap's class of an object of `bytes` bytes; none if it needs more than a page. Costs one step.
+    /// In a sliced heap, the class of an object of `bytes` bytes; none if it needs more than a
+    /// page. Costs one step.
     pub fn class_of(&self, bytes: u32, steps: &mut Steps) -> Option<u32>
         requires { IsValid (sliced_seen self.now) }
         ensures value { result ≡ class_of (sliced_paging (sliced_seen self.now)).sizes bytes }

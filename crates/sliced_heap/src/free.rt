@@ -42,8 +42,9 @@ impl OpenHeap {
         Ok(())
     }
 
-    /// Frees the live object `h`, whose address is `place`, while no job is pending. Starts the job that
-    /// clears its slot, or one that moves another object into it, and does the job's first slice.
+    /// In a sliced heap, frees the live object `h`, whose address is `place`, while no job is
+    /// pending. Starts the job that clears its slot, or one that moves another object into it, and
+    /// does the job's first slice.
     fn free_live(&mut self, h: Handle, place: u32, steps: &mut Steps)
         requires kept { IsValid (sliced_seen self.old) }
         requires idle { job_of self.old.job ≡ Idle }
@@ -61,9 +62,9 @@ impl OpenHeap {
         self.slice(steps);
     }
 
-    /// Removes the live object `h`, whose address is `place`: releases its proxy, takes it out of the counts
-    /// of live objects and needed pages, and starts the job that clears its slot. Returns that slot. No word
-    /// of the region changes yet.
+    /// In a sliced heap, removes the live object `h`, whose address is `place`: releases its proxy,
+    /// takes it out of the counts of objects, pages and bytes, and makes clearing its slot the
+    /// pending job. Returns that slot. No word of the region changes yet. Costs four steps.
     fn start_clearing(&mut self, h: Handle, place: u32, steps: &mut Steps) -> JobSlot
         requires kept { IsValid (sliced_seen self.old) }
         requires idle { job_of self.old.job ≡ Idle }

@@ -6,7 +6,7 @@ ghost use Rattle.step_ledger.specs.Counting.{RoseBy};
 ghost use Rattle.sliced_heap.specs.Halves.{HalvesAreApart, byte_in_halves, first_bytes, place_of_word};
 ghost use Rattle.sliced_heap.specs.Writes.{WritesByPlaces};
 
-use crate::parts::{read_half, write_half};
+use crate::half::{read_half, write_half};
 use region::Region;
 use step_ledger::Steps;
 
@@ -21,7 +21,7 @@ pub struct Halves {
     pub to: u32,
     /// The first word of the slot that the object leaves.
     pub from: u32,
-    /// The number of its words that were moved, the header among them.
+    /// The number of the object's words that were moved, the header among them.
     pub done: u32,
 }
 
@@ -37,8 +37,8 @@ pub fn read_word(region: &Region, s: Halves, i: u32, steps: &mut Steps) -> u64
     region.read(start + i, steps)
 }
 
-/// The number of bytes, of the object's `count` bytes from byte `at` on, that are in its first half: the words
-/// that were moved.
+/// Of the `count` bytes from byte `at` on of the object whose halves are `s`, the number of those
+/// that are in its first half: in the words that were moved.
 fn first_bytes(s: Halves, at: u32, count: usize) -> usize
     ensures { result ≡ first_bytes s at count }
 {

@@ -1,6 +1,5 @@
-//! `SlicedHeap`, the sliced heap, closed or open, with its public calls: malloc, `has_room`, free, `step`, `left`,
-//! `has_job`, `moving`, read, write, `place`, `length`, `slot_words`, `class_of`, `figures`, `totals` and `peek`.
-//! `OpenHeap` does all the work.
+//! `SlicedHeap`, the sliced heap, closed or open, with its public calls. `OpenHeap` does all the
+//! work.
 ghost use Rattle.std.specs.Prelude.{◌≡◌, ◌+◌, ◌^◌, ◌<◌, ◌≤◌, if◌then◌else◌, is_some, length, option_map, slice_get, IsErr, IsTrue, OnErr, OnOk};
 ghost use Rattle.cf_model.specs.Costs.{words_touched};
 ghost use Rattle.slice_model.specs.Ordered.{HappensInOrder};
@@ -10,7 +9,7 @@ ghost use Rattle.step_ledger.specs.Counting.{RoseAtMost, RoseBy};
 ghost use Rattle.sliced_heap.specs.Access.{access_fault, bytes_or_fault, place_in, sliced_length_in};
 ghost use Rattle.cf_base.specs.Classes.{class_of};
 ghost use Rattle.cf_base.specs.Settings.{profile_of};
-ghost use Rattle.cf_base.specs.declared.answers.Handle.{Handle};
+ghost use Rattle.cf_base.specs.declared.results.Handle.{Handle};
 ghost use Rattle.sliced_heap.specs.Needed.{sliced_bytes};
 ghost use Rattle.sliced_heap.specs.Costs.{slice_cost, sliced_access_steps, sliced_free_cost, sliced_length_steps, sliced_malloc_cost};
 ghost use Rattle.sliced_heap.specs.Figures.{sliced_figures_in, sliced_totals_in, sliced_words_steps, slot_words_in};
@@ -25,10 +24,11 @@ use std::alloc::Global;
 use std::marker::Model;
 use step_ledger::Steps;
 
-/// A moving heap for several tasks. A free leaves its long work as a job: to clear the freed slot, or to
-/// move another object into it. The free and each `step` do a slice of the job, at most a quantum of words.
-/// Every class has at most one partly full page; while a job is pending, its class may have two.
-/// `inner` is none while the heap is closed, and `alloc` is where open heaps allocate.
+/// A moving heap whose frees are done in slices. A free leaves its long work as a job: to clear the
+/// freed slot, or to move another object into it. The free and each `step` do a slice of the job,
+/// at most a quantum of words. Every class has at most one partly full page; while a job is
+/// pending, its class may have two. `inner` is none while the heap is closed, and `alloc` is where
+/// open heaps allocate.
 #[derive(Drop)]
 pub struct SlicedHeap {
     alloc: Global,
@@ -74,9 +74,10 @@ impl SlicedHeap {
         self.inner.is_some()
     }
 
-    /// `SlicedHeap`: opens the sliced heap without objects, with the settings `s` and slices of at most `quantum`
-    /// words; an open heap is closed first. Each class has bound 1, whatever bound `s` has. All memory is allocated
-    /// here. If this fails with `OutOfMemory`, the heap is closed, and may be opened again.
+    /// `SlicedHeap`: opens the sliced heap without objects, with the settings `s` and slices of at
+    /// most `quantum` words (1 to 16,384); an open heap is closed first. Each class has bound 1,
+    /// whatever bound `s` has. All memory is allocated here. If this fails with `OutOfMemory`, the
+    /// heap is closed, and may be opened again.
     pub fn open_heap(&mut self, s: &Settings, quantum: u32) -> Result<(), OutOfMemory>
         requires least { 1 ≤ quantum }
         requires most { quantum ≤ 16384 }
@@ -89,12 +90,13 @@ impl SlicedHeap {
         Ok(())
     }
 
-    /// Makes an object of `bytes` bytes, all zero, in the `SlicedHeap`, under a handle that wasn't live. Fails with
-    /// `Size` if it needs more than a page, else with `Proxy` if every proxy is in use, else with `Space` if the
-    /// objects with it would need more pages than the heap has, else with `Busy` if there is no slot for it while a job
-    /// is pending. A refusal changes nothing. The object gets the next spare number of the order. It gets the lowest
-    /// free slot of its class's first partly full page; if the class has no such page, slot 0 of the first free page.
-    /// The slot of a pending job counts as used.
+    /// Makes an object of `bytes` bytes, all zero, in the `SlicedHeap`, under a handle that wasn't
+    /// live. Fails with `Size` if it needs more than a page, else with `Proxy` if every proxy is in
+    /// use, else with `Space` if the objects with it would need more pages than the heap has, else
+    /// with `Busy` if there is no slot for it while a job is pending. A refusal changes nothing.
+    /// The object gets the next spare number of the order. It gets the lowest free slot of its
+    /// class's first partly full page; if the class has no such page, slot 0 of the first free
+    /// page. The slot of a pending job counts as used. Costs at most 17 steps.
     pub fn malloc(&mut self, bytes: u32, steps: &mut Steps) -> Result<Handle, SliceRefusal>
         requires open { IsTrue self.old.is_open }
         ensures step { Happens (plan_in self.old) (working_in self.old) (Malloc bytes result) (working_in self.new) }
@@ -110,8 +112,8 @@ impl SlicedHeap {
         }
     }
 
-    /// Returns what a `SlicedHeap`'s malloc of `bytes` bytes would return now, without the handle: `Ok`, or its
-    /// refusal. Changes nothing.
+    /// Returns what a `SlicedHeap`'s malloc of `bytes` bytes would return now, without the handle:
+    /// `Ok`, or its refusal. Changes nothing, and costs one step.
     pub fn has_room(&self, bytes: u32, steps: &mut Steps) -> Result<(), SliceRefusal>
         requires open { IsTrue self.now.is_open }
         ensures value { IsRoomAnswer (plan_in self.now) (working_in self.now).state bytes result }
@@ -123,11 +125,12 @@ impl SlicedHeap {
         }
     }
 
-    /// `SlicedHeap`: frees the object of handle `h`, and does the first slice of the job that this leaves. Fails with
-    /// `Unknown` if the handle isn't live, else with `Busy` if a job is pending. A refusal changes nothing. If the
-    /// class would have two partly full pages, another object moves into the freed slot: the one at the lowest used
-    /// slot of the class's first partly full page. The slot that it leaves, or the freed slot if no object moves, stays
-    /// used until the job ends.
+    /// `SlicedHeap`: frees the object of handle `h`, and does the first slice of the job that this
+    /// leaves. Fails with `Unknown` if the handle isn't live, else with `Busy` if a job is pending.
+    /// A refusal changes nothing. If the class would have two partly full pages, another object
+    /// moves into the freed slot: the one at the lowest used slot of the class's first partly full
+    /// page. The slot that it leaves, or the freed slot if no object moves, stays used until the
+    /// job ends. Costs at most 23 steps plus the quantum.
     pub fn free(&mut self, h: Handle, steps: &mut Steps) -> Result<(), SliceFault>
         requires open { IsTrue self.old.is_open }
         ensures step { Happens (plan_in self.old) (working_in self.old) (Free h.0 (fault_in result)) (working_in self.new) }
@@ -143,9 +146,11 @@ impl SlicedHeap {
         }
     }
 
-    /// `SlicedHeap`: does one slice of the pending job; changes nothing if none is pending. When the job's last word is
-    /// done, its slot becomes free, unless its class would then have two partly full pages. In that case the next job
-    /// moves an object into the slot: the one at the lowest used slot of the class's first partly full page.
+    /// `SlicedHeap`: does one slice of the pending job; changes nothing if none is pending. When
+    /// the job's last word is done, its slot becomes free, unless its class would then have two
+    /// partly full pages. In that case the next job moves an object into the slot: the one at the
+    /// lowest used slot of the class's first partly full page. Costs at most 15 steps plus the
+    /// quantum.
     pub fn step(&mut self, steps: &mut Steps)
         requires open { IsTrue self.old.is_open }
         ensures step { Happens (plan_in self.old) (working_in self.old) Step (working_in self.new) }
@@ -194,8 +199,9 @@ impl SlicedHeap {
         }
     }
 
-    /// `SlicedHeap`: the address of object `h`, in words from the start of the region; `None` if the handle is not
-    /// live. A job that moves the object moves it to this address.
+    /// `SlicedHeap`: the address of object `h`, in words from the start of the region; `None` if
+    /// the handle is not live. A job that moves the object moves it to this address. Costs one
+    /// step.
     pub fn place(&self, h: Handle, steps: &mut Steps) -> Option<u32>
         requires open { IsTrue self.now.is_open }
         ensures value { result ≡ place_in self.now.held h.0 }
@@ -207,7 +213,8 @@ impl SlicedHeap {
         }
     }
 
-    /// `SlicedHeap`: the length of object `h` in bytes, also while a job moves it; `None` if the handle is not live.
+    /// `SlicedHeap`: the length of object `h` in bytes, also while a job moves it; `None` if the
+    /// handle is not live. Costs two steps; one if not live.
     pub fn length(&self, h: Handle, steps: &mut Steps) -> Option<u32>
         requires open { IsTrue self.now.is_open }
         ensures value { result ≡ sliced_length_in self.now.held h.0 }
@@ -219,8 +226,8 @@ impl SlicedHeap {
         }
     }
 
-    /// `SlicedHeap`: the words of the slot of object `h`, which a free of it clears, also while a job moves the object;
-    /// `None` if the handle is not live.
+    /// `SlicedHeap`: the number of words of the slot of object `h`, also while a job moves the
+    /// object; `None` if the handle is not live. Costs three steps; one if not live.
     pub fn slot_words(&self, h: Handle, steps: &mut Steps) -> Option<u32>
         requires open { IsTrue self.now.is_open }
         ensures value { result ≡ slot_words_in (plan_in self.now) self.now.held h.0 }
@@ -232,7 +239,8 @@ impl SlicedHeap {
         }
     }
 
-    /// The class that an object of `bytes` bytes has in a `SlicedHeap`, from 0; `None` if it needs more than a page.
+    /// The number, from 0, of the class of an object of `bytes` bytes in a `SlicedHeap`; `None` if
+    /// the object needs more than a page. Costs one step.
     pub fn class_of(&self, bytes: u32, steps: &mut Steps) -> Option<u32>
         requires open { IsTrue self.now.is_open }
         ensures value { result ≡ class_of (plan_in self.now).paging.sizes bytes }
@@ -244,8 +252,9 @@ impl SlicedHeap {
         }
     }
 
-    /// The figures of size class `c` of a `SlicedHeap`; `None` if there is no such class. The slot of a pending job
-    /// counts as used, but not as live.
+    /// The figures of size class `c` of a `SlicedHeap`: its slot size, slots of a page, live
+    /// objects, pages and partly full pages. `None` if there is no such class. The slot of a
+    /// pending job counts as used, but not as live.
     pub fn figures(&self, c: u32) -> Option<Figures>
         requires open { IsTrue self.now.is_open }
         ensures { result ≡ sliced_figures_in (plan_in self.now) (working_in self.now).state c }
@@ -256,8 +265,10 @@ impl SlicedHeap {
         }
     }
 
-    /// The figures of the whole `SlicedHeap`. The slot of a pending job counts as used, and its bytes as taken, but
-    /// neither as live nor as asked for.
+    /// The figures of the whole `SlicedHeap`: live objects, their bytes and those of their slots,
+    /// the used pages and their bytes, the free pages, and the words of a page if one is free, else
+    /// 0. The slot of a pending job counts as used, and its bytes as taken, but neither as live nor
+    /// as asked for.
     pub fn totals(&self) -> Totals
         requires open { IsTrue self.now.is_open }
         ensures { result ≡ sliced_totals_in (plan_in self.now) (working_in self.now).state }
@@ -268,9 +279,10 @@ impl SlicedHeap {
         }
     }
 
-    /// `SlicedHeap`: fills `out` with the bytes of object `h` from byte `at` on, also while a job moves the object.
-    /// Fails, with `out` unchanged, with `Unknown` if the handle is not live, and with `Range` if the
-    /// bytes pass the object's end.
+    /// `SlicedHeap`: fills `out` with the bytes of object `h` from byte `at` on, also while a job
+    /// moves the object. Fails, with `out` unchanged, with `Unknown` if the handle is not live,
+    /// else with `Range` if the bytes pass the object's end. Costs at most two steps, and one for
+    /// each word that holds one of the bytes.
     pub fn read(
         &self,
         h: Handle,
@@ -291,9 +303,10 @@ impl SlicedHeap {
         }
     }
 
-    /// `SlicedHeap`: writes `bytes` into object `h` from byte `at` on, also while a job moves the object, and changes
-    /// nothing else. Fails, with nothing changed, with `Unknown` if the handle is not live, and with `Range` if the
-    /// bytes pass the object's end.
+    /// `SlicedHeap`: writes `bytes` into object `h` from byte `at` on, also while a job moves the
+    /// object, and changes nothing else. Fails, with nothing changed, with `Unknown` if the handle
+    /// is not live, else with `Range` if the bytes pass the object's end. Costs at most two steps,
+    /// and one for each word that holds one of the bytes.
     pub fn write(
         &mut self,
         h: Handle,
@@ -317,7 +330,8 @@ impl SlicedHeap {
         }
     }
 
-    /// `SlicedHeap`: returns the word of its region with the number `word`, or `None` past the region's end.
+    /// `SlicedHeap`: returns the word of its region with the number `word`, or `None` past the
+    /// region's end. Costs one step; none past the end.
     pub fn peek(&self, word: u32, steps: &mut Steps) -> Option<u64>
         requires open { IsTrue self.now.is_open }
         ensures value { result ≡ slice_get self.now.words word }

@@ -8,12 +8,12 @@ mod end;
 mod figures;
 mod fill;
 mod free;
+mod half;
 mod halves;
 mod heap;
 mod malloc;
 mod next_words;
 mod open_heap;
-mod parts;
 mod slice;
 
 pub use heap::SlicedHeap;

@@ -1,5 +1,6 @@
-//! The call `malloc` of an open sliced heap, and its counts of objects by class and of the pages that they
-//! need, by which it is refused for space; and `has_room`, which returns beforehand whether a malloc would be refused.
+//! The call `malloc` of an open sliced heap, and what it counts: the objects of each class, their
+//! bytes, and the pages that they need; and `has_room`, which returns beforehand whether a malloc
+//! would be refused.
 ghost use Rattle.std.specs.Prelude.{◌≡◌, ◌≢◌, ◌+◌, ◌*◌, ◌<◌, ◌≤◌, ◌↔◌, ◌∷◌, IsFalse, IsTrue, None, length, slice_index, slice_set};
 ghost use Rattle.std.specs.FinMap as map;
 ghost use Rattle.cf_base.specs.Classes.{slots};
@@ -23,10 +24,11 @@ use slice_model::SliceRefusal;
 use step_ledger::Steps;
 
 impl OpenHeap {
-    /// In a sliced heap, makes an object of `bytes` bytes, all zero, and returns its handle. Refused, with
-    /// nothing changed, in this order: `Size` if it is larger than a page, `Proxy` if all proxies are in use, `Space`
-    /// if the objects with it need more pages than the heap has, `Busy` if there is no slot for it while a job is
-    /// pending.
+    /// In a sliced heap, makes an object of `bytes` bytes, all zero, and returns its handle.
+    /// Refused, with nothing changed, in this order: `Size` if it needs more than a page, `Proxy`
+    /// if all proxies are in use, `Space` if the objects with it need more pages than the heap has,
+    /// `Busy` if there is no slot for it while a job is pending. Costs one step if refused, three
+    /// at `Busy`; else four and those of taking the slot.
     pub fn malloc(&mut self, bytes: u32, steps: &mut Steps) -> Result<Handle, SliceRefusal>
         requires { IsValid (sliced_seen self.old) }
         ensures step { Happens (plan_of (sliced_seen self.old)) (working_of (sliced_seen self.old)) (Malloc bytes result) (working_of (sliced_seen self.new)) }
@@ -53,8 +55,8 @@ impl OpenHeap {
         Ok(handle)
     }
 
-    /// Returns what an open sliced heap's malloc of `bytes` bytes would return now, without the handle: `Ok`, or its
-    /// refusal. Changes nothing.
+    /// In a sliced heap, returns what a malloc of `bytes` bytes would return now, without the
+    /// handle: `Ok`, or its refusal. Changes nothing, and costs one step.
     pub fn has_room(&self, bytes: u32, steps: &mut Steps) -> Result<(), SliceRefusal>
         requires { IsValid (sliced_seen self.now) }
         ensures value { IsRoomAnswer (plan_of (sliced_seen self.now)) (sliced_state_of (sliced_seen self.now)) bytes result }
@@ -76,8 +78,8 @@ impl OpenHeap {
         }
     }
 
-    /// Returns whether class c has a slot that neither an object nor the job holds: whether it has a partly full page, or
-    /// a page is free.
+    /// In a sliced heap, returns whether class c has a slot that neither an object nor the job
+    /// holds: whether it has a partly full page, or a page is free.
     fn has_slot(&self, c: u32) -> bool
         requires { c < self.now.lists.classes }
         ensures some { IsTrue result → 1 ≤ length (pages_in self.now.lists c NotFull) + length self.now.tables.pool.free }
@@ -113,8 +115,8 @@ impl OpenHeap {
         self.needed + self.opens_page(c) > self.settings.pages
     }
 
-    /// In a sliced heap, binds the next free proxy to the address `place`, writes there the header of an object of
-    /// `bytes` bytes, and returns the proxy's number.
+    /// In a sliced heap, binds the next free proxy to the address `place`, writes there the header
+    /// of an object of `bytes` bytes, and returns the proxy's number. Costs three steps.
     fn bind(&mut self, place: u32, bytes: u32, steps: &mut Steps) -> Handle
         requires some { map.len self.old.proxies.places ≢ self.old.proxies.limit }
         requires within { place < length self.old.region }

@@ -1,5 +1,5 @@
-//! Clears or moves the next words of a pending job's slot; `words_of_slice` is how many: the quantum, or all
-//! that are left.
+//! Clears or moves the next words of a pending job's slot, and counts these words: the quantum, or
+//! all words left if they are fewer.
 ghost use Rattle.std.specs.Prelude.{◌≡◌, ◌+◌, ◌-◌, ◌^◌, ◌<◌, ◌≤◌, length, min};
 ghost use Rattle.page_model.specs.Image.{Clears, IsDisjoint, MovesWords};
 ghost use Rattle.step_ledger.specs.Counting.{RoseBy};
@@ -29,8 +29,9 @@ pub fn clear_next(region: &mut Region, k: JobSlot, n: u32, steps: &mut Steps)
     region.clear(k.address + k.done, n, steps);
 }
 
-/// Moves the next `n` words of the job's slot `k`, after the `k.done` words that were moved before, to the same
-/// places in the slot at `to`, and leaves zeros in slot `k`. Costs a step for each.
+/// Moves the next `n` words of the job's slot `k`, after the `k.done` words that were moved before,
+/// to the same places in the slot at `to`, and leaves zeros in their place in slot `k`. Costs a
+/// step for each.
 pub fn move_next(region: &mut Region, k: JobSlot, to: u32, n: u32, steps: &mut Steps)
     requires small { length region.old < 2 ^ 32 }
     requires source { k.address + k.done + n ≤ length region.old }

@@ -18,7 +18,7 @@ use region::Region;
 use slice_model::JobSlot;
 use std::alloc::Global;
 
-/// The pending job.
+/// The pending job of a sliced heap, or `Idle`.
 #[derive(Clone, Copy, Debug, PartialEq, Eq)]
 pub enum Pending {
     /// No job is pending.
@@ -30,7 +30,7 @@ pub enum Pending {
     Move(Handle, JobSlot),
 }
 
-/// An open heap.
+/// An open sliced heap.
 #[derive(Drop)]
 pub struct OpenHeap {
     pub(crate) settings: Settings,
@@ -41,15 +41,16 @@ pub struct OpenHeap {
     /// The fewest pages that hold the live objects. For each class the number of its objects is divided by
     /// the slots of a page and rounded up; these are summed.
     pub(crate) needed: u32,
-    /// The bytes of all live objects, and those of their slots.
+    /// The bytes of all live objects (`asked`), and those of their slots (`taken`).
     pub(crate) asked: u64,
     pub(crate) taken: u64,
-    /// Public, so that a holder of the heap's fields can lend its words.
+    /// The words of the heap. Public, so that other crates can lend them.
     pub region: Region,
     /// The size classes, the used slots of each page, and the free pages.
     pub(crate) tables: PageTables,
     /// The full and the partly full pages of each class.
     pub(crate) lists: ClassLists,
+    /// The addresses of the objects by number.
     pub(crate) proxies: ProxyTable,
     pub(crate) job: Pending,
 }

@@ -1,5 +1,5 @@
 //! The call `step` of an open sliced heap, which does a slice of the pending job: it clears or moves at most a quantum
-//! of words; and `left`, `has_job` and `moving`, which say what is pending.
+//! of words; and `left`, `has_job` and `moving`, which return what is pending.
 ghost use Rattle.std.specs.Prelude.{◌≡◌, ◌+◌, ◌-◌, ◌<◌, ◌≤◌, is_some, length, min, option_map, slice_index};
 ghost use Rattle.step_ledger.specs.Counting.{RoseBy};
 ghost use Rattle.slice_model.specs.Ordered.{HappensInOrder, SlicesInOrder};
@@ -9,7 +9,7 @@ ghost use Rattle.sliced_heap.specs.Costs.{job_cost, part_cost, slice_cost};
 ghost use Rattle.sliced_heap.specs.Heap.{job_of, sliced_seen};
 ghost use Rattle.sliced_heap.specs.Layout.{IsValid, plan_of, sliced_order_in, sliced_state_of, working_of};
 ghost use Rattle.sliced_heap.specs.Room.{mover};
-ghost use Rattle.cf_base.specs.declared.answers.Handle.{Handle};
+ghost use Rattle.cf_base.specs.declared.results.Handle.{Handle};
 
 use crate::next_words::{clear_next, move_next, words_of_slice};
 use crate::open_heap::{OpenHeap, Pending};
@@ -18,8 +18,8 @@ use slice_model::JobSlot;
 use step_ledger::Steps;
 
 impl OpenHeap {
-    /// In a sliced heap, does one slice of the job, if one is pending. Calls `slice` and does no more, but its
-    /// contract states the clauses of the public call `step`. `free` calls `slice` directly.
+    /// In a sliced heap, does one slice of the pending job; changes nothing if none is pending.
+    /// Only calls `slice`, but its contract has the clauses of the public call `step`.
     pub fn step(&mut self, steps: &mut Steps)
         requires { IsValid (sliced_seen self.old) }
         ensures step { Happens (plan_of (sliced_seen self.old)) (working_of (sliced_seen self.old)) Step (working_of (sliced_seen self.new)) }
@@ -64,8 +64,8 @@ impl OpenHeap {
         }
     }
 
-    /// Does one slice of the pending job, whether it clears a slot or moves an object; changes nothing if
-    /// none is pending.
+    /// In a sliced heap, does one slice of the pending job, whether it clears a slot or moves an
+    /// object; changes nothing if none is pending.
     pub(crate) fn slice(&mut self, steps: &mut Steps)
         requires { IsValid (sliced_seen self.old) }
         ensures step { Slices (plan_of (sliced_seen self.old)) (working_of (sliced_seen self.old)) (working_of (sliced_seen self.new)) }
@@ -82,8 +82,8 @@ impl OpenHeap {
         }
     }
 
-    /// The number of words that the next slice does of a job with slot `k`: the quantum, or all words
-    /// left if they are fewer.
+    /// In a sliced heap, the number of words that the next slice of a job with slot `k` clears or
+    /// moves: the quantum, or all words left if they are fewer.
     fn words_of(&self, k: JobSlot) -> u32
         requires class { k.class < length self.now.tables.classes.sizes }
         requires done { k.done ≤ slice_index self.now.tables.classes.sizes k.class }
@@ -96,7 +96,8 @@ impl OpenHeap {
         )
     }
 
-    /// Does a slice of the job that clears slot `k`, and ends the job if its last word is cleared.
+    /// Does a slice of the job that clears slot `k`. If its last word is cleared, the job ends: the
+    /// slot becomes free, or the next job moves an object into it.
     fn clear_slice(&mut self, k: JobSlot, steps: &mut Steps)
         requires kept { IsValid (sliced_seen self.old) }
         requires job { job_of self.old.job ≡ Clear k }
@@ -119,8 +120,9 @@ impl OpenHeap {
         self.end(vacant, steps);
     }
 
-    /// Does a slice of the job that moves object `h` out of slot `k`, and ends the job if the last word
-    /// is moved. Each word that it moves becomes 0 in slot `k`.
+    /// Does a slice of the job that moves object `h` out of slot `k`. Each word that it moves
+    /// becomes 0 in slot `k`. If the last word is moved, the job ends: slot `k` becomes free, or
+    /// the next job moves an object into it.
     fn move_slice(&mut self, h: Handle, k: JobSlot, steps: &mut Steps)
         requires kept { IsValid (sliced_seen self.old) }
         requires job { job_of self.old.job ≡ Move h.0 k }

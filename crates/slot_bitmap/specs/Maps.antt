@@ -1,4 +1,4 @@
--- What contracts see of `SlotMaps` (`SlotTable`): the used slots of each page.
+-- What contracts see of `SlotMaps` (`SlotTable`): the used and free slots of each page, and how many a page may have.
 use Rattle.std.specs.Prelude.{ℕ, Bool, List, [], slice_index_or, slice_set}
 
 -- for each page a truth value for each slot, true if it is used; and how many slots a page may have

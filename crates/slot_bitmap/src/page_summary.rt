@@ -12,7 +12,7 @@ pub(crate) struct PageSummary {
     pub(crate) with_used: WordCell,
     /// How many slots the page has.
     pub(crate) slots: u32,
-    /// How many of them are used.
+    /// How many of its slots are used.
     pub(crate) used: u32,
 }
 

@@ -15,11 +15,12 @@ use step_ledger::{Cells, Steps, WordCell, with_bit};
 /// The maps of the used slots of all pages. Contracts see a list of truth values for each page, and
 /// the most slots that a page may have.
 ///
-/// The calls of `SlotMap` are here too, on one page, for the same steps. Each page has only the
-/// words that the most slots need: with w words and the summary, 8 w + 24 bytes a page.
+/// Each call on a `SlotMap` is here too, for one page and at the same steps. Each page has only the
+/// words that the most slots of a page need: with w words it takes 8 w + 24 bytes, its summary
+/// included.
 #[derive(Drop)]
 pub struct SlotMaps {
-    /// Bit b of word `width` p + j is set if slot 64 j + b of page p is used.
+    /// Bit b of word `width * p + j` is set if slot 64 j + b of page p is used.
     words: Cells<u64>,
     pages: Vec<PageSummary>,
     /// How many words each page has.
@@ -40,9 +41,9 @@ impl Model for SlotMaps {
 
 #[tactic(auto, using(crate::proofs::Pages::page_rules))]
 impl SlotMaps {
-    /// Makes the maps of `pages` pages that may have up to `most` slots each. Each has one free
-    /// slot, since no class uses the page yet. Only this call allocates. It fails with `OutOfMemory`
-    /// if an allocation fails.
+    /// Makes the maps of `pages` pages that may have up to `most` slots each. Until `renew`, each
+    /// map has one free slot, since no class uses the page yet. Only this call allocates. It fails
+    /// with `OutOfMemory` if an allocation fails.
     pub fn new(alloc: Global, pages: u32, most: u32) -> Result<SlotMaps, OutOfMemory>
         requires some { 1 ≤ most }
         requires few { most ≤ 4096 }
@@ -65,8 +66,8 @@ impl SlotMaps {
         summaries.and(BytesNeeded::block(8 * (u64::from(pages) * u64::from(most.div_ceil(64)))))
     }
 
-    /// Turns the map of a page, none of whose slots may be used, into one of `slots` slots, all
-    /// free. A page that another class begins to use has another number of slots. Costs two steps.
+    /// Turns the map of a page, which must have no used slot, into one of `slots` slots, all free.
+    /// For a page that a class begins to use. Costs two steps.
     pub fn renew(&mut self, page: u32, slots: u32, steps: &mut Steps)
         requires page { page < length self.old.pages }
         requires some { 1 ≤ slots }
@@ -162,8 +163,7 @@ impl SlotMaps {
     }
 
     /// Marks the lowest free slot of a page in the maps as used and returns it; none if all are used. Costs three
-    /// steps, or one if it returns none: it touches the summary of the free slots, one word, and the summary of the
-    /// used slots once each.
+    /// steps, or one if it returns none.
     pub fn take_first(&mut self, page: u32, steps: &mut Steps) -> Option<u32>
         requires { page < length self.old.pages }
         ensures found { result ≡ position (λ used. not used) (on_page self.old page) }
@@ -203,7 +203,8 @@ impl SlotMaps {
     }
 }
 
-/// Makes the maps' table with `width` words for each of `pages` pages, with one free slot each.
+/// Makes the maps' table of `pages` pages, each with `width` words and one free slot. Fails if an
+/// allocation fails.
 fn free_table(alloc: Global, pages: u32, width: u32) -> Result<SlotMaps, AllocError>
     requires some { 1 ≤ width }
     requires few { width ≤ 64 }

@@ -72,8 +72,8 @@ impl<const N: usize> CellArray<u64, N> {
     }
 }
 
-/// For counted cells, returns the word with its bit `bit` set if `on`, else cleared. It touches no cell, so it costs no
-/// step.
+/// Returns `word` with its bit `bit` set if `on`, else cleared, for a counted cell that the caller
+/// then writes. It touches no cell itself, so it costs no step.
 pub fn with_bit(word: u64, bit: u32, on: bool) -> u64
     requires { bit < 64 }
     ensures written { WritesBit 64 word result bit on }

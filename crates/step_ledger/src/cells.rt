@@ -1,5 +1,5 @@
-//! `Cells`, a list of counted cells in allocated memory. Each access to a cell adds a step to the
-//! ledger.
+//! `Cells`, a list of counted cells in allocated memory. Each access to a cell, or exchange of two,
+//! adds a step to the ledger.
 ghost use Rattle.std.specs.Prelude.{ℕ, ◌≡◌, ◌+◌, ◌^◌, ◌<◌, ◌≤◌, ◌⊎◌, true, length, drop, take, slice_index, slice_index_or, slice_set};
 ghost use Rattle.std.specs.Int.{bit_at};
 ghost use Rattle.step_ledger.specs.Counting.{RoseBy};
@@ -10,8 +10,8 @@ use crate::Steps;
 use crate::array::with_bit;
 use std::marker::Model;
 
-/// A list of cells in allocated memory. Each access to a cell adds its step to the ledger. Reading
-/// the length costs none.
+/// A list of cells in allocated memory. Each access to a cell, or exchange of two, adds a step to the
+/// ledger. Reading the length costs none.
 #[derive(Drop)]
 pub struct Cells<T> {
     items: Vec<T>,
@@ -173,7 +173,7 @@ impl Cells<u32> {
 }
 
 /// Exchanges the `n` items from index `a` on with the `n` items from index `b` on, pair by pair.
-/// The two ranges must not overlap.
+/// The two ranges must not overlap. Counts no step: `exchange` does.
 fn exchange_runs(items: &mut [u32], a: usize, b: usize, n: usize)
     requires a_in_range { a + n ≤ length items.old }
     requires b_in_range { b + n ≤ length items.old }

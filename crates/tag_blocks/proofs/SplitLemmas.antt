@@ -12,7 +12,7 @@ use Rattle.tag_blocks.specs.Tags.{size_in, before_in, block_header_word, with_be
 use Rattle.tag_blocks.specs.Layout.{Fields, used_block, IsValid}
 use Rattle.tag_blocks.specs.Stages.{Detached, IsSplittable, ReplacesBlock, cut_detached}
 use Rattle.tag_blocks.proofs.CarveLemmas.{detached_size}
-use Rattle.tag_blocks.proofs.ClaimLemmas.{now as free_now, free_before, parts, claim_counts, claim_kept, claim_lists, claim_size, claim_turns, claim_within}
+use Rattle.tag_blocks.proofs.ClaimLemmas.{now as free_now, free_words_before, parts, claim_counts, claim_kept, claim_lists, claim_size, claim_turns, claim_within}
 use Rattle.tag_blocks.proofs.CutLemmas.{now as used_now, IsCuttable, cutting_linked, cutting_kept, cutting_lists, cutting_steps, cutting_turns}
 use Rattle.tag_blocks.proofs.HeaderAfter.{one_before}
 use Rattle.tag_blocks.proofs.ViewLemmas.{seen}
@@ -48,7 +48,7 @@ module _ (rule : FreeLists) (count : ℕ) (p : Fields) (v : Tagged) (kept : IsVa
     mid_before =
         one_before rule mid mid_kept.lists x.before x.behind (used_block at x.size (owner_of tag))
         (used_now rule count mid (seen mid) mid_kept refl at need some used cuttable)
-        ∙ sym (is_before ∙ free_before rule p kept.lists x.before x.behind at x.size (free_now rule count p v kept view at x h.between))
+        ∙ sym (is_before ∙ free_words_before rule p kept.lists x.before x.behind at x.size (free_now rule count p v kept view at x h.between))
 
     -- the words after the block's header and tag are written, with its final size at once
     abbrev prefix : List ℕ

@@ -1,8 +1,8 @@
 -- What the definitions that depend on the kind of a heap are for TLSF and Half-Fit: there is no block table, the free lists are those of the kind's rule, and
 -- a malloc follows their order.
 use Rattle.std.proofs.Common.{◌≡◌, ℕ, Result, refl, subst}
-use Rattle.cf_base.specs.declared.answers.Handle.{Handle}
-use Rattle.cf_base.specs.declared.answers.Refusal.{Refusal}
+use Rattle.cf_base.specs.declared.results.Handle.{Handle}
+use Rattle.cf_base.specs.declared.results.Refusal.{Refusal}
 use Rattle.cf_base.specs.declared.kind.Kind.{Kind}
 use Rattle.cf_base.specs.declared.kind.Kind.TheVariants.{Moving, NonMoving, Tlsf, HalfFit}
 use Rattle.page_model.specs.Held.{Placed}

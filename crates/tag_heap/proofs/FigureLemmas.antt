@@ -5,7 +5,7 @@ use Rattle.std.specs.Prelude.{option_map}
 use Rattle.std.specs.FinMap.{get, len}
 use Rattle.cf_base.proofs.MapValues.{get-map_values}
 use Rattle.cf_base.proofs.Values.{sum_at_most}
-use Rattle.cf_base.specs.declared.answers.Totals.{Totals}
+use Rattle.cf_base.specs.declared.results.Totals.{Totals}
 use Rattle.cf_base.specs.declared.kind.Kind.{Kind}
 use Rattle.page_model.specs.Held.{Placed, objects}
 use Rattle.page_model.specs.Bytes.{bytes_at}

@@ -7,8 +7,8 @@ use Rattle.std.specs.Prelude.{option_map}
 use Rattle.cf_base.proofs.Maps.{get_inserted, get_insert_other, some_inserted}
 use Rattle.cf_base.proofs.MapValues.{get-map_values}
 use Rattle.cf_base.specs.Classes.{need}
-use Rattle.cf_base.specs.declared.answers.Refusal.{Refusal}
-use Rattle.cf_base.specs.declared.answers.Refusal.TheVariants as refusal
+use Rattle.cf_base.specs.declared.results.Refusal.{Refusal}
+use Rattle.cf_base.specs.declared.results.Refusal.TheVariants as refusal
 use Rattle.cf_base.specs.declared.kind.Kind.{Kind}
 use Rattle.page_model.specs.Held.{Held, Placed, objects}
 use Rattle.page_model.specs.Bytes.{AreBytes}

@@ -1,10 +1,10 @@
--- The choices of a malloc and a free of a heap with blocks: a malloc uses the number and the block that the order lists next; a free puts the number and the
--- block that it frees first. No public clause cites this module.
+-- The choices of a malloc and a free of a heap with blocks: a malloc uses the number and the block that the order lists next; after a free the number and
+-- the block that it frees are first in the order. No public clause cites this module.
 use Rattle.std.specs.Prelude.{◌≡◌, ℕ, ◌∷◌, IfOk, IfSome, Result}
-use Rattle.cf_base.specs.declared.answers.Freed.{Freed}
-use Rattle.cf_base.specs.declared.answers.Handle.{Handle}
-use Rattle.cf_base.specs.declared.answers.NotLive.{NotLive}
-use Rattle.cf_base.specs.declared.answers.Refusal.{Refusal}
+use Rattle.cf_base.specs.declared.results.Freed.{Freed}
+use Rattle.cf_base.specs.declared.results.Handle.{Handle}
+use Rattle.cf_base.specs.declared.results.NotLive.{NotLive}
+use Rattle.cf_base.specs.declared.results.Refusal.{Refusal}
 use Rattle.cf_base.specs.declared.kind.Kind.{Kind}
 use Rattle.block_model.specs.FreeOrder.{lists_released}
 use Rattle.cf_model.specs.Answers.{place_of}

@@ -1,10 +1,11 @@
--- How many steps the calls of a heap with blocks take: exactly for `has_room`, the figures, reads and writes; at most for a malloc.
+-- How many steps the calls of a heap with blocks take: at most for each (`block_bounds`), exactly for `has_room`, the figures, reads, writes and
+-- `block_words`.
 use Rattle.std.specs.Prelude.{ℕ, ◌+◌, ◌*◌, Option, Some, None, Result, Ok, Err}
-use Rattle.cf_base.specs.declared.answers.AccessFault.{AccessFault}
-use Rattle.cf_base.specs.declared.answers.AccessFault.TheVariants as access
-use Rattle.cf_base.specs.declared.answers.Handle.{Handle}
-use Rattle.cf_base.specs.declared.answers.Refusal.{Refusal}
-use Rattle.cf_base.specs.declared.answers.Refusal.TheVariants as refusal
+use Rattle.cf_base.specs.declared.results.AccessFault.{AccessFault}
+use Rattle.cf_base.specs.declared.results.AccessFault.TheVariants as access
+use Rattle.cf_base.specs.declared.results.Handle.{Handle}
+use Rattle.cf_base.specs.declared.results.Refusal.{Refusal}
+use Rattle.cf_base.specs.declared.results.Refusal.TheVariants as refusal
 use Rattle.page_model.specs.Order.{Order}
 use Rattle.block_model.specs.Costs.{find_steps, largest_steps}
 use Rattle.block_model.specs.FreeOrder.{next_block}

@@ -63,7 +63,7 @@ pub record IsValid (kind : Kind) (h : Heap) : Type 0 where
   pub owned : AreOwned (tag_held_in h) h.tagged.blocks
   -- each used block holds its object, and each free one zeros from word 2 on
   pub contents : AreTilingWords (content_word (tag_held_in h)) h.tagged.blocks h.tagged.words
-  -- the numbers of the objects are below the number of proxies
+  -- there are as many numbers as the settings have proxies, and each is live or free
   pub numbers : h.proxies.limit ≡ h.settings.proxies
   pub handles : AreBelowLimit h.proxies
   -- the counts are those of the objects and of the used blocks

@@ -1,6 +1,6 @@
-//! The calls of an open heap with blocks that look an object up by its handle: its address, its length, the words of
-//! its block, reads and writes of its bytes, and why a resize is refused; and `peek`, which reads any word of the
-//! region.
+//! The calls of an open heap with blocks that look an object up by its handle: its address, its
+//! length, how many words its block has, reads and writes of its bytes, and why a resize is
+//! refused; and `peek`, which reads any word of the region.
 ghost use Rattle.std.specs.Prelude.{◌≡◌, ℕ, length, option_map, slice_get};
 ghost use Rattle.std.specs.FinMap as map;
 ghost use Rattle.step_ledger.specs.Counting.{RoseBy};
@@ -20,8 +20,8 @@ use region::Header;
 use step_ledger::Steps;
 
 impl<B: FitPolicy> OpenHeap<B> {
-    /// With blocks, the address of the object, the first word of its block; none if the handle isn't live. Costs one
-    /// step.
+    /// With blocks, the address of the object, that of the first word of its block; none if the
+    /// handle isn't live. Costs one step.
     pub(crate) fn place(&self, h: Handle, steps: &mut Steps) -> Option<u32>
         ensures value { result ≡ place_of (tag_state_of B.kind self.now) h.0 }
         ensures steps { RoseBy steps.old steps.new 1 }
@@ -29,7 +29,8 @@ impl<B: FitPolicy> OpenHeap<B> {
         self.proxies.lookup(h, steps)
     }
 
-    /// With blocks, the word of the region at the index `word`, which costs one step; none past its end.
+    /// With blocks, the word of the region at the index `word`, for one step; none past the
+    /// region's end, for no step.
     pub(crate) fn peek(&self, word: u32, steps: &mut Steps) -> Option<u64>
         ensures value { result ≡ slice_get (tag_state_of B.kind self.now).words word }
         ensures rules { KeepsRules (tag_state_of B.kind self.now) }
@@ -42,8 +43,9 @@ impl<B: FitPolicy> OpenHeap<B> {
         }
     }
 
-    /// Fills `out` with the bytes of an object in a block, from byte `at` on. Fails with `Unknown` if the handle isn't
-    /// live, else with `Range` if the object is shorter, and then leaves `out` unchanged.
+    /// With blocks, fills `out` with the bytes of an object from byte `at` on. Fails with `Unknown`
+    /// if the handle isn't live, else with `Range` if the bytes pass the object's end; `out` is
+    /// unchanged then. Costs at most two steps and one for each word that holds one of the bytes.
     pub(crate) fn read(
         &self,
         h: Handle,
@@ -66,7 +68,8 @@ impl<B: FitPolicy> OpenHeap<B> {
         Ok(())
     }
 
-    /// With blocks, writes bytes into an object from byte `at` on. Fails as `read` does, and then changes nothing.
+    /// With blocks, writes bytes into an object from byte `at` on. Fails as `read` does, and then
+    /// changes nothing. Costs at most two steps and one for each word that holds one of the bytes.
     pub(crate) fn write(
         &mut self,
         h: Handle,
@@ -87,8 +90,9 @@ impl<B: FitPolicy> OpenHeap<B> {
         Ok(())
     }
 
-    /// With blocks, the address of the object, if it has `count` bytes from byte `at` on. Fails with `Unknown` if the
-    /// handle isn't live, else with `Range` if the object is shorter. Costs two steps, or one if the handle isn't live.
+    /// With blocks, the address of the object, if it has `count` bytes from byte `at` on. Fails
+    /// with `Unknown` if the handle isn't live, else with `Range` if these bytes pass the object's
+    /// end. Costs two steps, or one if the handle isn't live.
     fn find(&self, h: Handle, at: u32, count: usize, steps: &mut Steps) -> Result<u32, AccessFault>
         ensures found { IsTagFound B.kind self.now (record { number = h.0; from = at }) count result }
         ensures steps { RoseBy steps.old steps.new (found_steps result) }
@@ -103,7 +107,8 @@ impl<B: FitPolicy> OpenHeap<B> {
         Ok(place)
     }
 
-    /// The number of bytes of an object in a block; none if the handle isn't live. Costs two steps, one if it isn't.
+    /// With blocks, the number of bytes of an object; none if the handle isn't live. Costs two
+    /// steps, or one if the handle isn't live.
     pub(crate) fn length(&self, h: Handle, steps: &mut Steps) -> Option<u32>
         ensures value { result ≡ length_of (tag_state_of B.kind self.now) h.0 }
         ensures steps { RoseBy steps.old steps.new (length_steps B.kind result) }
@@ -114,8 +119,8 @@ impl<B: FitPolicy> OpenHeap<B> {
         }
     }
 
-    /// With blocks, the words of an object's block; none if the handle isn't live. Costs two steps, one
-    /// if it isn't.
+    /// With blocks, how many words an object's block has; none if the handle isn't live. Costs two
+    /// steps, or one if the handle isn't live.
     pub(crate) fn block_words(&self, h: Handle, steps: &mut Steps) -> Option<u32>
         ensures value { result ≡ option_map (slot_in B.kind (tag_state_of B.kind self.now)) (map.get (tag_state_of B.kind self.now).held h.0) }
         ensures steps { RoseBy steps.old steps.new (block_words_steps result) }

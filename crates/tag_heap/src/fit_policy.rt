@@ -13,7 +13,7 @@ pub trait FitPolicy: Buckets + Drop {
     /// The kind of manager that has this fit policy.
     ghost kind: { Kind };
 
-    /// Returns this `FitPolicy`'s kind.
+    /// Returns the kind of manager that has this fit policy.
     fn kind() -> Kind
         ensures { result ≡ kind };
 

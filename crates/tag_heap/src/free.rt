@@ -1,5 +1,5 @@
 //! `free` of an open heap with blocks: the object's proxy and its block become free, and the block
-//! is merged with its free neighbours.
+//! is coalesced with its free neighbours.
 ghost use Rattle.std.specs.Prelude.{◌≡◌, ◌+◌, ◌^◌, ◌≤◌};
 ghost use Rattle.step_ledger.specs.Counting.{RoseAtMost, RoseBy};
 ghost use Rattle.cf_model.specs.Costs.{block_free_bound};
@@ -17,9 +17,11 @@ use region::Header;
 use step_ledger::Steps;
 
 impl<B: FitPolicy> OpenHeap<B> {
-    /// Removes an object, and releases its block of `TagBlocks`, which is merged with free neighbours. The free block
-    /// that results becomes the first of its list, and the object's number the first free one. Fails if the handle
-    /// isn't live, and then changes only `cost`. Sets `cost` to the steps of this call.
+    /// With blocks, removes an object, and makes its block free, coalesced with its free
+    /// neighbours. The free block that results becomes the first of its list, and the object's
+    /// number the next that a malloc uses. Fails if the handle isn't live, and then changes only
+    /// `cost`. Sets `cost` to the steps of this call: at most 41 and one for each word of the
+    /// block, or 1 if it fails.
     pub(crate) fn free(&mut self, h: Handle, steps: &mut Steps) -> Result<Freed, NotLive>
         requires { steps.old ≤ 2 ^ 63 }
         ensures step { IsFreeStep (tag_state_of B.kind self.old) h.0 result (tag_state_of B.kind self.new) }

@@ -1,5 +1,5 @@
-//! The body of the two managers with blocks: each object has a block of its own, with boundary
-//! tags. A `FitPolicy` chooses the free lists of TLSF (2004) or those of Half-Fit (1995).
+//! The body of the two managers with blocks: each object has a block of its own. A `FitPolicy`
+//! chooses the free lists of TLSF (2004) or those of Half-Fit (1995).
 #![tactic(auto)]
 
 mod access;

@@ -18,10 +18,10 @@ use region::Header;
 use step_ledger::Steps;
 
 impl<B: FitPolicy> OpenHeap<B> {
-    /// Adds an object of `bytes` bytes, all zero, under the first free number and in the block that
-    /// the order lists next. Refused, in this order: `Size` if it needs more than a page, `Proxy`
-    /// if no number is free, `Space` if no free list that is searched has a block; then only `cost`
-    /// changes. Sets `cost` to the steps of this call.
+    /// With blocks, adds an object of `bytes` bytes, all zero. It gets the number and the block
+    /// that the heap's order lists next. Refused, in this order: `Size` if it needs more than a
+    /// page, `Proxy` if no number is free, `Space` if no free list that is searched has a block;
+    /// then only `cost` changes. Sets `cost` to the steps of this call, at most 25.
     pub(crate) fn malloc(&mut self, bytes: u32, steps: &mut Steps) -> Result<Handle, Refusal>
         requires { steps.old ≤ 2 ^ 63 }
         ensures step { IsMallocStep (tag_state_of B.kind self.old) bytes result (tag_state_of B.kind self.new) }
@@ -36,8 +36,9 @@ impl<B: FitPolicy> OpenHeap<B> {
         result
     }
 
-    /// Adds an object in a block as `malloc` does, or refuses it for the same causes. Leaves `cost` unchanged. The
-    /// block is carved once the object has a number, since the block's tag holds it.
+    /// Adds an object in a block as `malloc` does, or refuses it for the same causes. Leaves `cost`
+    /// unchanged. The object gets its number before the block is carved, since the block's tag
+    /// holds the number.
     fn malloc_inner(&mut self, bytes: u32, steps: &mut Steps) -> Result<Handle, Refusal>
         ensures step { IsMallocStep (tag_state_of B.kind self.old) bytes result (tag_state_of B.kind self.new) }
         ensures rules { KeepsRules (tag_state_of B.kind self.new) }
@@ -60,7 +61,7 @@ impl<B: FitPolicy> OpenHeap<B> {
     }
 
     /// With blocks, returns the address of the free block that a malloc of `bytes` bytes would take now, or fails with
-    /// the refusal that it would return. Changes nothing.
+    /// the refusal that it would return. Changes nothing. Costs at most four steps.
     pub(crate) fn room(&self, bytes: u32, steps: &mut Steps) -> Result<u32, Refusal>
         ensures room { IsBlockFor B.rule B.kind self.now bytes result }
         ensures answer { IsHasRoomAnswer (tag_state_of B.kind self.now) bytes (done_by result) }

@@ -20,8 +20,9 @@ use std::alloc::Global;
 use std::marker::Model;
 use step_ledger::Steps;
 
-/// The manager with blocks, whose free lists a `FitPolicy` chooses: `alloc` is the allocator with
-/// which it opens, and `inner` the heap while it is open. It promises an order, open or closed.
+/// The manager with blocks, whose free lists a `FitPolicy` chooses. `alloc` is the allocator that
+/// an opening uses, and `inner` the open heap, none while the manager is closed. The manager
+/// promises an order, open or closed.
 #[derive(Drop)]
 pub struct TagHeap<B: FitPolicy> {
     alloc: Global,
@@ -51,8 +52,8 @@ impl<B: FitPolicy> TagHeap<B> {
         TagHeap { alloc, inner: None }
     }
 
-    /// The memory that opening a manager with blocks asks for. The bytes of the manager itself, which its owner keeps,
-    /// aren't counted.
+    /// The memory that opening a manager with blocks asks for with the settings `s`. The bytes of
+    /// the manager itself, which its owner keeps, aren't counted.
     pub fn bytes_needed(s: &Settings) -> BytesNeeded
         ensures needed { result ≡ tag_bytes B.kind (profile_of s.now) }
         ensures few { result.total < 2 ^ 45 }
@@ -60,7 +61,8 @@ impl<B: FitPolicy> TagHeap<B> {
         OpenHeap::<B>::bytes_needed(s)
     }
 
-    /// `TagHeap`: the words of an object's block, which a free of it returns; none if the handle isn't live.
+    /// `TagHeap`: how many words an object's block has; none if the handle isn't live. The manager
+    /// must be open. Costs two steps, or one if it returns none.
     pub fn block_words(&self, h: Handle, steps: &mut Steps) -> Option<u32>
         requires { IsTrue self.now.is_open }
         ensures value { result ≡ option_map (slot_in B.kind self.now) (map.get self.now.held h.0) }
@@ -81,13 +83,13 @@ impl<B: FitPolicy> TagHeap<B> {
     }
 }
 
-// The exact steps of the kinds with blocks.
+// The most steps of each call of the kinds with blocks; of some calls the exact ones.
 impl<B: FitPolicy> StepBounds for TagHeap<B> {
     ghost most = { Some block_bounds };
 }
 
-// Most calls are passed on to the open heap. Their contracts require an open heap, so it is never
-// closed then. There are neither size classes nor a block table.
+// Most calls are passed on to the open heap. Their contracts require that the manager is open, so
+// `None` never occurs. There are neither size classes nor a block table.
 impl<B: FitPolicy> Manager for TagHeap<B> {
     ghost state = { λ h. h };
 
@@ -103,7 +105,8 @@ impl<B: FitPolicy> Manager for TagHeap<B> {
         self.inner.is_some()
     }
 
-    // Opens an empty heap, which is one free block.
+    // Opens an empty heap, which is one free block, in place of the one before, if any. After
+    // `OutOfMemory` the manager is closed.
     fn open_heap(&mut self, s: &Settings) -> Result<(), OutOfMemory> {
         self.inner = None;
         self.inner = Some(OpenHeap::new(self.alloc, s)?);
@@ -127,7 +130,8 @@ impl<B: FitPolicy> Manager for TagHeap<B> {
         }
     }
 
-    // Writes bytes into an object, as the trait says. Costs exactly `tag_access_steps` steps.
+    // Writes bytes into an object, as the trait says. Costs at most two steps and one for each word
+    // that holds one of the bytes.
     fn write(
         &mut self,
         h: Handle,
@@ -141,7 +145,8 @@ impl<B: FitPolicy> Manager for TagHeap<B> {
         }
     }
 
-    // Reads bytes of an object, as the trait says. Costs exactly `tag_access_steps` steps.
+    // Reads bytes of an object, as the trait says. Costs at most two steps and one for each word
+    // that holds one of the bytes.
     fn read(
         &self,
         h: Handle,

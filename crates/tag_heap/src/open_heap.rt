@@ -17,9 +17,9 @@ use std::alloc::Global;
 use std::marker::Model;
 use tag_blocks::TagBlocks;
 
-/// An open heap. `blocks` has the region, its used and free blocks, and the free lists; `proxies`
-/// has the objects' addresses by number. `asked` is the bytes of all objects, `used_words` the
-/// words of all used blocks, and `cost` the steps of the last malloc or free.
+/// An open heap with blocks. `blocks` has the region, its used and free blocks, and the free lists;
+/// `proxies` has the objects' addresses by number. `asked` counts the bytes of all objects,
+/// `used_words` the words of all used blocks, and `cost` the steps of the last malloc or free.
 #[derive(Drop)]
 pub(crate) struct OpenHeap<B: FitPolicy> {
     pub(crate) settings: Settings,
@@ -62,7 +62,7 @@ impl<B: FitPolicy> OpenHeap<B> {
         Ok(OpenHeap::empty(s, blocks, proxies))
     }
 
-    /// The memory that `OpenHeap::new` with blocks asks for.
+    /// The memory that `OpenHeap::new` asks for, with blocks and the settings `s`.
     pub(crate) fn bytes_needed(s: &Settings) -> BytesNeeded
         ensures needed { result ≡ tag_bytes B.kind (profile_of s.now) }
         ensures few { result.total < 2 ^ 45 }
@@ -71,7 +71,7 @@ impl<B: FitPolicy> OpenHeap<B> {
         blocks.and(ProxyTable::bytes_needed(s.proxies))
     }
 
-    /// Makes an open heap with blocks of these parts, each without objects.
+    /// Makes an open heap with blocks from these parts, which hold no object.
     fn empty(s: &Settings, blocks: TagBlocks<B>, proxies: ProxyTable) -> OpenHeap<B>
         requires blocks { blocks.blocks ≡ one_free_block (s.now.pages * s.now.page_words) }
         requires words { length blocks.words ≡ s.now.pages * s.now.page_words }

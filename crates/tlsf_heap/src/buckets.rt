@@ -12,16 +12,19 @@ use tag_blocks::Buckets;
 pub struct TlsfBuckets;
 
 impl Buckets for TlsfBuckets {
+    /// How many free lists TLSF has, for blocks of up to `2^23` words.
     const COUNT: u32 = tlsf::COUNT;
 
     ghost COUNT = { 336 };
 
     ghost rule = { tlsf_lists };
 
+    /// The number of the TLSF list for free blocks of `size` words.
     fn bucket(size: u32) -> u32 {
         tlsf::bucket_of(size)
     }
 
+    /// The number of the first TLSF list that is searched for `need` words.
     fn search(need: u32) -> u32 {
         tlsf::search_for(need)
     }

@@ -12,6 +12,7 @@ pub type TlsfHeap = TagHeap<TlsfBuckets>;
 impl FitPolicy for TlsfBuckets {
     ghost kind = { Tlsf };
 
+    /// Returns the kind of manager with the free lists of TLSF.
     fn kind() -> Kind {
         Kind::Tlsf
     }

@@ -7,7 +7,7 @@ use Rattle.run_model.specs.Terms.{asks, Command, Item, Reply, RunState}
 use Rattle.cf_session.specs.Apply.{outcome_of}
 use Rattle.cf_session.specs.declared.outcome.Outcome.{Outcome}
 use Rattle.cf_session.specs.declared.outcome.Outcome.TheVariants.{Good, Refused, Other}
-use Rattle.generator.specs.Generated.{generated}
+use Rattle.script_reader.specs.Generated.{generated}
 use Rattle.run_model.proofs.CallerLemmas.{one_run, run_joined}
 use Rattle.run_model.specs.Runs.{BeginsOne, Run, IsCommandStep}
 use Rattle.top_call.specs.Bench.{IsAppliedTo, is_good, is_refusal}

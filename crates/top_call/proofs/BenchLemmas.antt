@@ -5,12 +5,12 @@ use Rattle.top_call.specs.Bench.{BenchRun, EndsBench, IsAppliedTo, IsTextWritten
 use Rattle.top_call.specs.Bench.{good_ones, refusals}
 use Rattle.top_call.specs.declared.figures.BenchFigures.{BenchFigures}
 use Rattle.run_model.specs.Terms.{asks, fresh_session, HeapState, KeepsRules, Kind, Profile, profile_of, Reply, RunState, said, SessionState, Status, totals_in}
-use Rattle.cf_base.specs.declared.answers.Totals.{Totals}
+use Rattle.cf_base.specs.declared.results.Totals.{Totals}
 use Rattle.cf_base.specs.declared.settings.Settings.{Settings}
 use Rattle.cf_base.specs.declared.status.Status.TheVariants.{Done, Words, BadScript, ReadFault, WriteFault, OutOfMemory, TooLong, BadImage}
 use Rattle.cf_model.specs.Steps.{IsEmptyHeap}
 use Rattle.cf_session.specs.Apply.{run_at}
-use Rattle.generator.specs.Generated.{generated}
+use Rattle.script_reader.specs.Generated.{generated}
 use Rattle.run_model.specs.Runs.{Begins, Run}
 
 -- six texts that are pushed on a line one by one are the line of all of them

@@ -6,7 +6,7 @@ use Rattle.top_call.specs.OwnRuns.{MeetHeadlines, OwnRuns}
 use Rattle.std.specs.Prelude.{Err, ⊤}
 use Rattle.cf_base.specs.declared.status.Status.TheVariants.{Done, Words, BadScript, ReadFault, WriteFault, OutOfMemory, TooLong, BadImage}
 use Rattle.cf_session.specs.Apply.{run_at}
-use Rattle.command_line.specs.declared.choice.Choice.{Choice}
+use Rattle.top_call.specs.declared.choice.Choice.{Choice}
 use Rattle.script_laws.specs.Headline.{MeetsHeadline}
 use Rattle.script_loop.proofs.CallerLemmas.{observed_row, some_row, wrote_by, within_all}
 use Rattle.script_loop.specs.Consequences.{AnswersAll}
@@ -17,7 +17,7 @@ use Rattle.heap_image.proofs.CallerLemmas.{observed_load}
 use Rattle.heap_image.specs.Decoded.{Decoded, decoded}
 use Rattle.heap_image.specs.Feed.{Feed}
 use Rattle.heap_image.specs.Load.{LoadsBy}
-use Rattle.image_run.specs.Saves.{unseen}
+use Rattle.top_call.specs.Saves.{unseen}
 use Rattle.top_call.proofs.FirstOfKindLemmas.{chosen_kind}
 use Rattle.top_call.proofs.OwnOutcomes.{own_of}
 use Rattle.top_call.specs.FirstOfKind.{chosen_manager}
@@ -25,12 +25,12 @@ use Rattle.top_call.specs.SideBySide.{fresh_side_by_side, many_managers}
 use Rattle.top_call.specs.Claims.{GivesImage, MeetsClaim}
 use Rattle.top_call.specs.Outcomes.{Benches, Compares, EndsWithCause, EndsWhole, CallState, Loads, OrLacks, PlaysOwn, RunsChosen, Saves, effects_of, kinds_in, IsMadeLarge}
 use Rattle.clap.specs.Words.{Text}
-use Rattle.image_run.proofs.CallerLemmas.{load_met, save_met}
-use Rattle.image_run.specs.Claims.{LoadsAs, Prints, SavesAs}
-use Rattle.command_line.proofs.CallerLemmas.{one_choice}
-use Rattle.command_line.specs.Choices.{Chooses}
-use Rattle.command_line.specs.declared.choice.Mode.{Mode}
-use Rattle.command_line.specs.declared.choice.Mode.TheVariants.{Run, Compare, Bench, Large, Save, Load, Slice, Quota}
+use Rattle.top_call.proofs.ClaimsMet.{load_met, save_met}
+use Rattle.top_call.specs.ImageClaims.{LoadsAs, Prints, SavesAs}
+use Rattle.top_call.proofs.ReadAlike.{one_choice}
+use Rattle.top_call.specs.Choices.{Chooses}
+use Rattle.top_call.specs.declared.choice.Mode.{Mode}
+use Rattle.top_call.specs.declared.choice.Mode.TheVariants.{Run, Compare, Bench, Large, Save, Load, Slice, Quota}
 use Rattle.large_session.specs.Playing.{large_heap}
 use Rattle.large_session.proofs.CallerLemmas.{large_met}
 use Rattle.large_session.specs.LargeHeadline.{MeetsLarge}
@@ -187,7 +187,8 @@ module _ {S P : Type 0} (m : Semantics S P) (IsMade : S → Type 0) where
   pub own_sound : IsSound (PlaysOwn m IsMade) IsClean
   own_sound = script_sound m (PlaysOwn m IsMade) λ old st new done. ((done.begin, done.end), done.outcome)
 
-  -- if each run from a state of which `IsMade` holds is as claimed, so is the output
+  -- Suppose `Claim` holds of the items and replies of each run that begins in a state of which `IsMade` holds. Then the call printed a reply to each
+  -- item, and `Claim` holds of the items and these replies.
   pub own_shown : (Claim : List Item → List Reply → Type 0)
       → ((begin : S) → IsMade begin → (all : List ℕ) (replies : List Reply) (end : Option S) → RunBy m begin None (items_within all) replies end
       → Claim (items_within all) replies)

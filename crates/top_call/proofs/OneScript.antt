@@ -10,18 +10,18 @@ use Rattle.clap.specs.Words.{Text}
 use Rattle.run_model.specs.Terms.{appended, asks, closed_state, Command, fresh_session, HeapState, Item, Kind, Moving, Reply, RunState, said, Status, text_of}
 use Rattle.cf_base.specs.declared.status.Status.TheVariants.{Done, Words, BadScript, ReadFault, WriteFault, OutOfMemory, TooLong, BadImage}
 use Rattle.cf_session.specs.Apply.{run_at}
-use Rattle.command_line.proofs.CallerLemmas.{one_choice}
-use Rattle.command_line.specs.Choices.{Chooses}
-use Rattle.command_line.specs.declared.choice.Choice.{Choice}
-use Rattle.command_line.specs.declared.choice.Mode.{Mode}
-use Rattle.command_line.specs.declared.choice.Mode.TheVariants.{Run, Compare, Bench, Large, Save, Load, Slice, Quota}
+use Rattle.top_call.proofs.ReadAlike.{one_choice}
+use Rattle.top_call.specs.Choices.{Chooses}
+use Rattle.top_call.specs.declared.choice.Choice.{Choice}
+use Rattle.top_call.specs.declared.choice.Mode.{Mode}
+use Rattle.top_call.specs.declared.choice.Mode.TheVariants.{Run, Compare, Bench, Large, Save, Load, Slice, Quota}
 use Rattle.script_laws.specs.OneOutput.{BeginNone, BeginOnce, IsOrdered}
 use Rattle.script_laws.proofs.CallerLemmas.{begins_once, begun_alike}
 use Rattle.heap_image.specs.Decoded.{Decoded, whole as image_of}
-use Rattle.image_run.specs.Claims.{LoadsAs, MeetsLoad, Prints}
-use Rattle.image_run.specs.Loads.{EndsLoadBy}
-use Rattle.image_run.specs.Saves.{WritesAtEnd, saved, script_status, unseen}
-use Rattle.image_run.specs.Script.{script_under}
+use Rattle.top_call.specs.ImageClaims.{LoadsAs, MeetsLoad, Prints}
+use Rattle.top_call.specs.Loads.{EndsLoadBy}
+use Rattle.top_call.specs.Saves.{WritesAtEnd, saved, script_status, unseen}
+use Rattle.top_call.specs.ImageScript.{script_under}
 use Rattle.large_session.specs.Playing.{large_heap}
 use Rattle.large_session.specs.LargeHeadline.{MeetsLarge}
 use Rattle.top_call.specs.Claims.{MeetsClaim}
@@ -43,7 +43,7 @@ use Rattle.top_call.specs.OwnRuns.{JoinStates, OwnRuns, EachEndsAt, interleaved_
 use Rattle.slice_session.proofs.CallerLemmas.{one_play}
 use Rattle.slice_session.specs.Playing.{SlicePlay, slices}
 use Rattle.top_call.specs.Bench.{EndsBench, bench_items, bench_text}
-use Rattle.generator.specs.Generated.{generated}
+use Rattle.script_reader.specs.Generated.{generated}
 use Rattle.top_call.specs.OneScript.{AnswersWhole, AreRunsInOrder, IsRunInOrder, KeepsContract, LeavesNoChoice, PrintsReplies, PromisesOrder, TopCall}
 use Rattle.top_call.specs.TopOutcome.{AnswersInput, DoesChosen, EndsWell, InMode, IsMadeForTasks, IsMadeSliced, PrintsBytes, PrintsChosen, PrintsInMode}
 

@@ -7,8 +7,8 @@ use Rattle.cf_base.specs.declared.status.Status.TheVariants.{Done, Words, BadScr
 use Rattle.cf_model.specs.Ordered.{KeepsPromise}
 use Rattle.cf_session.specs.Apply.{run_at}
 use Rattle.script_loop.specs.OneManager.{one_manager}
-use Rattle.image_run.specs.Loads.{EndsLoad}
-use Rattle.image_run.specs.Saves.{EndsSave}
+use Rattle.top_call.specs.Loads.{EndsLoad}
+use Rattle.top_call.specs.Saves.{EndsSave}
 use Rattle.script_loop.specs.ScriptOutcome.{Effects, HasCauses, MeetsOutcome, is_read_fault, is_write_fault}
 use Rattle.script_loop.specs.Semantics.{Semantics}
 use Rattle.top_call.proofs.Begun.{begun_side_by_side}
@@ -16,7 +16,7 @@ use Rattle.top_call.proofs.FirstOfKindLemmas.{chosen_first, chosen_kinds, chosen
 use Rattle.top_call.specs.FirstOfKind.{chosen_manager, first_of_kind, with_chosen_manager}
 use Rattle.top_call.specs.SideBySide.{AreFresh, SideBySide, side_by_side_at, many_managers}
 use Rattle.top_call.specs.Bench.{EndsBench}
-use Rattle.command_line.specs.declared.choice.Choice.{Choice}
+use Rattle.top_call.specs.declared.choice.Choice.{Choice}
 use Rattle.top_call.specs.Outcomes.{Benches, Compares, EndsWithCause, CallState, Loads, OrLacks, PlaysOwn, RunsChosen, Saves, effects_of, call_state}
 
 -- `OrLacks`, if the mode's record `Does` holds and nothing was written if memory ran out

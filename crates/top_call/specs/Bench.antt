@@ -10,7 +10,7 @@ use Rattle.cf_io.specs.Feeds.{WritesPrefix}
 use Rattle.cf_session.specs.Apply.{outcome_of, LacksOne}
 use Rattle.cf_session.specs.declared.outcome.Outcome.{Outcome}
 use Rattle.cf_session.specs.declared.outcome.Outcome.TheVariants.{Good, Refused}
-use Rattle.generator.specs.Generated.{generated}
+use Rattle.script_reader.specs.Generated.{generated}
 use Rattle.run_model.specs.Runs.{Run}
 
 -- true if the outcome of a command is `Good` (a reply `ok`, or the bytes of a read)

@@ -1,11 +1,11 @@
--- For a mode that answers a script: that its output is a reply to each item, of which a given claim holds (`PrintsAs`). And that the bytes of a source are a
+-- For a mode that answers a script: that it printed replies which, with the items, meet a given claim (`PrintsAs`). And that the bytes of a source are a
 -- heap image (`GivesImage`).
 use Rattle.std.specs.Prelude.{◌≡◌, ⊤, ℕ, List, [], Option, Some, None}
 use Rattle.run_model.specs.Terms.{appended, Item, Reply, text_of}
 use Rattle.script_loop.specs.ScriptOutcome.{Effects, items_within}
 use Rattle.heap_image.specs.Decoded.{IsHeapImage}
 
--- The call printed a reply to each of the items `wanted`, and `Claim` holds of the items and these replies.
+-- The call printed some replies, and `Claim` holds of the items `wanted` and these replies.
 pub record PrintsAs (Claim : List Item → List Reply → Type 0) (wanted : List Item) (call : Effects) : Type 0 where
   pub replies : List Reply
   pub printed : call.after ≡ appended call.before (text_of [] replies)

@@ -3,9 +3,9 @@ use Rattle.std.specs.Prelude.{◌≡◌, ⊤, ℕ, IsSome, List, [], ◌∷◌, 
 use Rattle.std.specs.List.{All}
 use Rattle.clap.specs.Words.{Text}
 use Rattle.run_model.specs.Terms.{appended, HeapState, Item, Kind, Reply, RunState, Status, text_of}
-use Rattle.command_line.specs.declared.choice.Choice.{Choice}
-use Rattle.command_line.specs.declared.choice.Mode.{Mode}
-use Rattle.command_line.specs.declared.choice.Mode.TheVariants.{Run, Compare}
+use Rattle.top_call.specs.declared.choice.Choice.{Choice}
+use Rattle.top_call.specs.declared.choice.Mode.{Mode}
+use Rattle.top_call.specs.declared.choice.Mode.TheVariants.{Run, Compare}
 use Rattle.run_model.specs.Runs.{Run as RunOver}
 use Rattle.script_laws.specs.OneOutput.{IsOrdered}
 use Rattle.script_loop.specs.Consequences.{AnswersAll, status_of}
@@ -44,7 +44,7 @@ LeavesNoChoice Run choice managers = PromisesOrder (chosen_manager choice.kind m
 LeavesNoChoice Compare choice managers = All PromisesOrder managers
 LeavesNoChoice mode choice managers = ⊤
 
--- one reply for each item of the bytes `all` was printed, `Claim` holds of the items and these replies, and the status follows from the bytes
+-- some replies were printed, `Claim` holds of the items of the bytes `all` and these replies, and the status follows from the bytes
 pub record PrintsReplies (Claim : List Item → List Reply → Type 0) (all : List ℕ) (call : TopCall) : Type 0 where
   pub status : call.status ≡ status_of all
   pub replies : List Reply

@@ -6,14 +6,14 @@ use Rattle.cf_base.specs.declared.status.Status.TheVariants.{Done, OutOfMemory}
 use Rattle.cf_io.specs.declared.sink.Sink as sink
 use Rattle.cf_io.specs.declared.source.Source as source
 use Rattle.cf_model.specs.Ordered.{KeepsPromise}
-use Rattle.command_line.specs.declared.choice.Choice.{Choice}
+use Rattle.top_call.specs.declared.choice.Choice.{Choice}
 use Rattle.top_call.specs.Bench.{EndsBench}
 use Rattle.cf_session.specs.Apply.{run_at}
 use Rattle.script_loop.specs.OneManager.{one_manager}
 use Rattle.script_loop.specs.ScriptOutcome.{Effects, HasCauses, MeetsOutcome, effects}
 use Rattle.script_loop.specs.Semantics.{Semantics}
-use Rattle.image_run.specs.Loads.{EndsLoad}
-use Rattle.image_run.specs.Saves.{EndsSave}
+use Rattle.top_call.specs.Loads.{EndsLoad}
+use Rattle.top_call.specs.Saves.{EndsSave}
 use Rattle.large_session.specs.LargeRun.{LargeRun}
 use Rattle.large_session.specs.Playing.{IsFreshLarge, large_heap}
 use Rattle.top_call.specs.FirstOfKind.{chosen_manager, first_of_kind, with_chosen_manager}

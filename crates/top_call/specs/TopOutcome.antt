@@ -3,13 +3,13 @@ use Rattle.std.specs.Prelude.{◌≡◌, ⊤, ℕ, List, Option, Some, None}
 use Rattle.run_model.specs.Terms.{empty, Kind, Moving, Status}
 use Rattle.clap.specs.Words.{Text}
 use Rattle.cf_base.specs.declared.status.Status.TheVariants.{Words, BadImage}
-use Rattle.command_line.specs.Choices.{AreRefused, Chooses}
-use Rattle.command_line.specs.declared.choice.Choice.{Choice}
-use Rattle.command_line.specs.declared.choice.Mode.{Mode}
-use Rattle.command_line.specs.declared.choice.Mode.TheVariants.{Run, Compare, Bench, Large, Save, Load, Slice, Quota}
+use Rattle.top_call.specs.Choices.{AreRefused, Chooses}
+use Rattle.top_call.specs.declared.choice.Choice.{Choice}
+use Rattle.top_call.specs.declared.choice.Mode.{Mode}
+use Rattle.top_call.specs.declared.choice.Mode.TheVariants.{Run, Compare, Bench, Large, Save, Load, Slice, Quota}
 use Rattle.script_laws.specs.Headline.{MeetsHeadline}
 use Rattle.large_session.specs.LargeHeadline.{MeetsLarge}
-use Rattle.image_run.specs.Claims.{LoadsAs, Prints, SavesAs}
+use Rattle.top_call.specs.ImageClaims.{LoadsAs, Prints, SavesAs}
 use Rattle.quota_session.specs.Transcript.{MeetsTasks}
 use Rattle.script_loop.specs.Consequences.{AnswersAll}
 use Rattle.script_loop.specs.ScriptOutcome.{Effects, IsClean}

@@ -15,9 +15,10 @@ use cf_model::Manager;
 use cf_session::Session;
 use script_reader::CommandRef;
 
-/// In mode `compare`, does a command on each manager in order, in the session with the same index, and writes each line
-/// of its reply after the name of its kind. Returns `Failed` if the sink failed. Then the managers up to the one whose
-/// reply was cut have done the command, and those after it have not.
+/// In mode `compare`, does a command on each manager in order, in the session with the same index,
+/// and writes each line of a manager's reply after the name of the manager's kind. Returns `Failed`
+/// if the sink failed. Then the managers up to the one whose reply was cut have done the command,
+/// and those after it have not.
 pub fn answer_each<H: Manager, K: Sink>(
     sessions: &mut Vec<Session>,
     managers: &mut Vec<H>,
@@ -45,9 +46,9 @@ pub fn answer_each<H: Manager, K: Sink>(
     Ok(())
 }
 
-/// In mode `compare`, does a command on one manager in its session, and writes each line of the reply after the name of
-/// its kind. Returns `Failed` if the sink failed; then the command has taken effect, and a prefix of its reply was
-/// written.
+/// In mode `compare`, does a command on one manager in its session, and writes each line of the
+/// reply after the name of the manager's kind. Returns `Failed` if the sink failed; then the
+/// command has taken effect, and a prefix of its reply was written.
 fn answer_one<H: Manager, K: Sink>(
     session: &mut Session,
     manager: &mut H,
@@ -67,8 +68,8 @@ fn answer_one<H: Manager, K: Sink>(
     Ok(())
 }
 
-/// The name of a kind, `cf`, `nm`, `tlsf` or `half`, and a space: each line of a manager's reply begins with
-/// these bytes.
+/// The name of a kind, `cf`, `nm`, `tlsf` or `half`, and a space: in mode `compare` each line of a
+/// manager's reply begins with these bytes.
 pub fn lead_bytes(kind: Kind) -> &'static [u8]
     ensures value { result.now ≡ lead_of kind }
     ensures short { length result.now ≤ 8 }

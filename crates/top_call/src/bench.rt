@@ -1,5 +1,6 @@
-//! Mode `bench`: runs generated commands on one manager of the chosen kind. It prints no replies, but one line
-//! that counts them, the live objects, the pages or blocks in use and the objects that moved.
+//! Mode `bench`: runs generated commands on one manager of the chosen kind. It prints no replies,
+//! but one line that counts them, the live objects, the pages or blocks in use, and the moves of
+//! objects.
 ghost use Rattle.script_loop.specs.ScriptOutcome.{is_write_fault};
 ghost use Rattle.top_call.specs.Outcomes.{Benches, EndsBeside};
 ghost use Rattle.std.specs.Prelude.{◌≡◌};
@@ -7,28 +8,29 @@ ghost use Rattle.top_call.specs.Bench.{EndsBench, IsAppliedTo};
 ghost use Rattle.run_model.specs.Terms.{fresh_session, IsGoing, SinkFailsIf, SourceState};
 ghost use Rattle.cf_model.specs.Ordered.{KeepsPromise};
 ghost use Rattle.cf_session.specs.Apply.{run_at};
-ghost use Rattle.generator.specs.Generated.{generated};
+ghost use Rattle.script_reader.specs.Generated.{generated};
 
+use crate::Choice;
 use crate::figures::BenchFigures;
 use crate::tally::Tally;
 use cf_base::{Kind, Settings, Status};
 use cf_io::{NullSink, Sink};
 use cf_model::Manager;
 use cf_session::Session;
-use command_line::Choice;
-use generator::Generator;
 use half_fit_heap::HalfFitHeap;
 use moving_heap::MovingHeap;
 use nonmoving_heap::NonMovingHeap;
+use script_reader::Generator;
 use std::alloc::Global;
 use std::rt::Memory;
 use step_ledger::Meter;
 use tlsf_heap::TlsfHeap;
 
-/// Makes a closed manager of the chosen kind, and runs on it the chosen number of commands, generated from the
-/// chosen seed. Prints a line of six counts: commands, good replies, refusals; and at the end live objects,
-/// pages or blocks in use, and objects moved. It reads nothing and touches no other manager. Returns the
-/// status, `OutOfMemory` also if the session can't be allocated.
+/// Makes a closed manager of the chosen kind, and runs on it the chosen number of commands,
+/// generated from the chosen seed. Prints a line of six counts: commands, good replies, refusals,
+/// moves of objects, and at the end live objects, and pages or blocks in use. It reads nothing and
+/// touches no other manager. Returns the status, `OutOfMemory` also if the session can't be
+/// allocated.
 pub fn bench_seed<K: Sink>(memory: Memory, alloc: Global, choice: Choice, sink: &mut K) -> Status
     ensures { (source : SourceState) → EndsBeside (Benches choice)
         source (K.state sink.old) result source (K.state sink.new) }
@@ -57,10 +59,11 @@ pub fn bench_seed<K: Sink>(memory: Memory, alloc: Global, choice: Choice, sink: 
     }
 }
 
-/// Opens the manager as `heap 64 16384 1 4096` does, and applies the first `count` commands that the generator
-/// makes of the seed. Drops their replies, and writes one line with the numbers of the bench (`BenchFigures`).
-/// `session` must be fresh. Returns `Done`; `OutOfMemory` if the manager can't be opened, and then nothing is written; or `WriteFault`
-/// if the sink failed, and then a prefix of the line is written.
+/// Opens the manager as `heap 64 16384 1 4096` does, and applies the first `count` commands that
+/// the generator makes of the seed. Drops their replies, and writes one line with the numbers of
+/// the bench (`BenchFigures`). `session` must be fresh. Returns `Done`; `OutOfMemory` if the
+/// manager can't be opened, and then nothing is written; or `WriteFault` if the sink failed, and
+/// then a prefix of the line is written.
 fn run_bench<H: Manager, K: Sink>(
     memory: Memory,
     session: &mut Session,

@@ -1,7 +1,7 @@
 //! Mode `compare`: runs one script on several managers and prints the replies of all.
 ghost use Rattle.top_call.specs.Outcomes.{Compares, EndsWithCause, call_seen};
 
-use crate::each::Sessions;
+use crate::sessions::Sessions;
 use cf_base::Status;
 use cf_io::{Sink, Source};
 use cf_model::Manager;

@@ -7,9 +7,10 @@ ghost use Rattle.script_loop.specs.ScriptOutcome.{is_write_fault};
 use cf_base::Status;
 use cf_io::{Line, Sink, push_field, put_line};
 
-/// The numbers of a bench: the commands applied, and how many of their replies were good (`ok` or the bytes of
-/// a read) and how many were refusals (`refused`). At the end: the live objects (`live`), the pages or blocks in
-/// use (`pages`), and how many objects moved since the opening (`moves`).
+/// The numbers of a bench: the commands applied, and how many of their replies were good (`ok` or
+/// the bytes of a read) and how many were refusals (`refused`). At the end: the live objects
+/// (`live`), the pages or blocks in use (`pages`), and the number of moves of objects since the
+/// opening (`moves`).
 #[derive(Clone, Copy, Debug, PartialEq, Eq)]
 pub struct BenchFigures {
     pub commands: u64,
@@ -21,8 +22,8 @@ pub struct BenchFigures {
 }
 
 impl BenchFigures {
-    /// In mode `bench`, writes the line of the numbers in one call of the sink. Returns `Done`, or `WriteFault` if the
-    /// sink failed.
+    /// In mode `bench`, writes the line of the numbers. Returns `Done`; or `WriteFault` if the sink
+    /// failed, and then a prefix of the line was written.
     pub(crate) fn put<K: Sink>(&self, sink: &mut K) -> Status
         ensures written { IsTextWritten result (K.state sink.old).written (led [] (said (bench_line self.now))) (K.state sink.new).written }
         ensures sink { SinkFailsIf (is_write_fault result) (K.state sink.old) (K.state sink.new) }

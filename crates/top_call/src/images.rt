@@ -6,11 +6,11 @@ ghost use Rattle.std.specs.Prelude.{◌≡◌};
 ghost use Rattle.run_model.specs.Terms.{closed_state, Moving};
 ghost use Rattle.top_call.specs.Outcomes.{EndsBeside, Loads, Saves};
 
+use crate::{load_script, save_script};
 use cf_base::Status;
 use cf_io::{Sink, Source};
 use cf_model::{Boxed, Manager};
 use cf_session::Session;
-use image_run::{load_script, save_script};
 use moving_heap::MovingHeap;
 use script_loop::WithSettings;
 use std::alloc::Global;
@@ -35,7 +35,9 @@ pub fn save_image<S: Source, K: Sink>(
     save_on(memory, alloc, &mut heap, source, sink)
 }
 
-/// `save_image` on the given heap, a moving manager that was never open.
+/// In mode `save`, runs a script on `heap`, a moving manager that was never open, and writes the
+/// image of the objects that are live at its end. Returns the status, `OutOfMemory` also if the
+/// session can't be allocated.
 fn save_on<H: Manager, S: Source, K: Sink>(
     memory: Memory,
     alloc: Global,
@@ -75,7 +77,9 @@ pub fn load_image<S: Source, K: Sink>(
     load_on(memory, alloc, &mut heap, source, sink)
 }
 
-/// `load_image` on the given heap, a moving manager that was never open.
+/// In mode `load`, loads an image into `heap`, a moving manager that was never open, and writes the
+/// script that makes its objects. Returns the status, `OutOfMemory` also if the session can't be
+/// allocated.
 fn load_on<H: Manager, S: Source, K: Sink>(
     memory: Memory,
     alloc: Global,

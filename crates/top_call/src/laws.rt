@@ -1,17 +1,18 @@
-//! Laws of many managers on one script (mode `compare`), and of calls of `cf_main`: the run and the output of each
-//! manager, and when two calls print the same bytes. Each manager has its own run and meets the headline; a cut reply
-//! stops between two managers; what was written is a prefix. On managers that promise an order, a call prints the
-//! replies of runs in that order. And of long objects: which numbers give their step bounds. The functions do nothing:
-//! their contracts are the laws.
+//! Laws of many managers on one script (mode `compare`), and of calls of `cf_main`: the run and the
+//! output of each manager, and when two calls print the same bytes. Each manager has its own run,
+//! whose replies meet the claim of mode `run`; a cut stops between two managers; what was written
+//! is a prefix. On managers that promise an order, a call prints the replies of runs in that order.
+//! The last law has the steps from which the step bounds of long objects follow. The functions do
+//! nothing: their contracts are the laws.
 ghost use Rattle.std.specs.Prelude.{◌≡◌, ℕ, IsSome, List, Option, map, ◌++◌, [], None, Some, option_map};
 ghost use Rattle.std.specs.List.{All};
 ghost use Rattle.clap.specs.Words.{Text};
 ghost use Rattle.run_model.specs.Terms.{closed_state, HeapState, IsGoing, Item, Kind, Moving, NonMoving, Reply, RunState, text_of};
 ghost use Rattle.cf_base.specs.declared.status.Status.TheVariants.{Done};
-ghost use Rattle.command_line.specs.Choices.{Chooses};
-ghost use Rattle.command_line.specs.declared.choice.Choice.{Choice};
-ghost use Rattle.command_line.specs.declared.choice.Mode.{Mode};
-ghost use Rattle.command_line.specs.declared.choice.Mode.TheVariants.{Compare, Run};
+ghost use Rattle.top_call.specs.Choices.{Chooses};
+ghost use Rattle.top_call.specs.declared.choice.Choice.{Choice};
+ghost use Rattle.top_call.specs.declared.choice.Mode.{Mode};
+ghost use Rattle.top_call.specs.declared.choice.Mode.TheVariants.{Compare, Run};
 ghost use Rattle.script_laws.specs.OneOutput.{BeginOnce};
 ghost use Rattle.top_call.specs.Bench.{EndsBench};
 ghost use Rattle.top_call.specs.FirstOfKind.{chosen_manager};
@@ -28,10 +29,11 @@ use cf_model::StepBounds;
 use moving_heap::MovingHeap;
 use nonmoving_heap::NonMovingHeap;
 
-/// Two calls of `cf_main` with the same arguments and the same input print the same bytes and return the same status,
-/// whatever the chunks of their sources, if each item of the script has its reply, or the image is loaded. This
-/// includes each address, word and cost, on managers of any kind. In the modes `run` and `compare` the managers are of
-/// the same kinds, and those that run promise an order before the call, as the managers of this repository do. What
+/// Two calls of `cf_main` with the same arguments and the same input print the same bytes and
+/// return the same status, whatever the chunks of their sources, if each item of the script has its
+/// reply, or the image is loaded. This includes each address, word and cost. Both calls have
+/// managers of the same kinds, and sinks with the same bytes before. In modes `run` and `compare`
+/// the managers that run promise an order before the call, as those of this repository do. What
 /// they held before may differ.
 pub fn equal_scripts_get_equal_output()
     ensures { (words : List Text) (choice : Choice) (all : List ℕ) (one two : TopCall) → Chooses words choice
@@ -53,8 +55,9 @@ pub fn a_run_in_order_is_printed()
         → PrintsReplies (IsRunInOrder choice.kind) all call }
 {}
 
-/// The same in mode `compare`, on managers that each promise an order. Clause `printed`: the replies printed
-/// interleave those of a run of each manager in its order. Clause `one`: there is one such list of replies.
+/// In mode `compare`, on managers that each promise an order, the replies printed interleave those
+/// of a run of each manager in its order (clause `printed`). There is at most one such list of
+/// replies to items of which only the first may be a `heap` line (`one`), as in every script.
 pub fn a_comparison_in_order_is_printed()
     ensures printed { (words : List Text) (choice : Choice) (all : List ℕ) (call : TopCall) → Chooses words choice
         → choice.mode ≡ Compare → KeepsContract words call → AnswersWhole all call
@@ -64,8 +67,9 @@ pub fn a_comparison_in_order_is_printed()
         → AreRunsInOrder kinds items replies → AreRunsInOrder kinds items others → others ≡ replies }
 {}
 
-/// For calls of `cf_main`, managers that were never open promise an order, whatever their kinds. So they have no choice
-/// in any mode (`LeavesNoChoice`), and two calls of the tool on one script print the same.
+/// For calls of `cf_main`, managers that were never open promise an order, whatever their kinds. So
+/// they have no choice in any mode (`LeavesNoChoice`), as `equal_scripts_get_equal_output`
+/// requires.
 pub fn closed_managers_leave_no_choice()
     ensures { (mode : Mode) (choice : Choice) (kinds : List Kind)
         → LeavesNoChoice mode choice (map closed_state kinds) }
@@ -93,8 +97,8 @@ pub fn each_has_its_own_run()
         → OwnRuns kinds items replies end }
 {}
 
-/// In mode `compare`, if each manager has a run of its own over some items, the replies of this run meet the headline
-/// of its kind.
+/// In mode `compare`, if each manager has a run of its own over some items, the replies of this run
+/// meet the claim of mode `run` for its kind (`MeetsHeadline`).
 pub fn each_meets_the_headline()
     ensures { (kinds : List Kind) (items : List Item) (replies : List Reply) (end : Option (List RunState))
         → OwnRuns kinds items replies end → MeetHeadlines kinds items replies }
@@ -148,9 +152,9 @@ pub fn what_was_cut_is_a_prefix()
         → IsPrefixBy many_managers from (items_within all) (text_of [] w.replies ++ w.front) }
 {}
 
-/// In calls of `cf_main`, the steps of long objects are bounded from those of their inner manager. These are the
-/// numbers for a moving and for a non-moving one: they follow from the step bounds and from the order that the manager
-/// itself promises.
+/// The steps that calls of the manager inside a heap of long objects take; the step bounds of long
+/// objects follow from these. If the manager promises an order, a moving one takes at most
+/// `moving_costs` (clause `moving`), and a non-moving one at most `nonmoving_costs` (`non_moving`).
 pub fn long_objects_take_the_steps_of_their_manager()
     ensures moving { (s : HeapState) → s.kind ≡ Moving → IsSome s.order
         → AreInnerCosts s ⟦<MovingHeap as StepBounds>⟧.most moving_costs }

@@ -14,7 +14,7 @@ pub fn put_opened<H: Manager, K: Sink>(managers: &Vec<H>, sink: &mut K) -> Resul
     ensures { Writes (K.state sink.old) (led [] (opened_reply (map (λ m. (H.state m).kind) managers.now.items))) result (K.state sink.new) }
 {
     for i in 0..managers.len() {
-        match show_one(managers[i].kind(), sink) {
+        match put_opened_line(managers[i].kind(), sink) {
             Ok(()) => {}
             Err(failed) => return Err(failed),
         }
@@ -24,7 +24,7 @@ pub fn put_opened<H: Manager, K: Sink>(managers: &Vec<H>, sink: &mut K) -> Resul
 
 /// In mode `compare`, writes the line of one manager: the name of its kind, and `ok`. Returns `Failed` if the sink
 /// failed; then a prefix of the line was written.
-fn show_one<K: Sink>(kind: Kind, sink: &mut K) -> Result<(), Failed>
+fn put_opened_line<K: Sink>(kind: Kind, sink: &mut K) -> Result<(), Failed>
     ensures { Writes (K.state sink.old) (lead_of kind ++ codes "ok\n") result (K.state sink.new) }
 {
     let mut line = Line::new();

@@ -39,9 +39,10 @@ pub fn run_chosen<H: Manager, S: Source, K: Sink>(
     }
 }
 
-/// In mode `run`, runs a script on a closed manager of the kind, which is made for it. It is behind a box, as the given
-/// managers are: so only mode `bench` instantiates a session over an unboxed manager. Returns the status, and
-/// `OutOfMemory` also if the manager can't be allocated.
+/// In mode `run`, runs a script on a closed manager of the kind, which is made for it, with a new
+/// session. The manager is in a box, as those of `cf_tool` are: so only mode `bench` compiles a
+/// session over an unboxed manager. Returns the status, `OutOfMemory` also if the manager can't be
+/// allocated.
 fn run_own<S: Source, K: Sink>(
     alloc: Global,
     kind: Kind,
@@ -81,8 +82,8 @@ fn run_own<S: Source, K: Sink>(
     }
 }
 
-/// In mode `run`, runs a script on the given heap, a manager of the kind that was never open, with the session
-/// `session`, which is new. Reads the script from `source` and writes the replies to `sink`.
+/// In mode `run`, runs a script on `heap`, a manager of the kind that was never open, with a new
+/// session. Reads the script from `source`, writes the replies to `sink`, and returns the status.
 fn run_on<H: Manager, S: Source, K: Sink>(
     kind: Kind,
     heap: &mut H,

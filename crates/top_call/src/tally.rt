@@ -1,4 +1,4 @@
-//! `Tally` counts the commands of mode `bench`: how many succeeded, and how many were refused.
+//! `Tally` counts the good replies and the refusals of mode `bench`.
 ghost use Rattle.std.specs.Prelude.{◌≡◌, ◌+◌, ◌<◌, ◌^◌, cond};
 ghost use Rattle.top_call.specs.Bench.{is_good, is_refusal};
 

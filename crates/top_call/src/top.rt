@@ -13,28 +13,30 @@ use crate::large::play_large;
 use crate::quota::play_quotas;
 use crate::run::run_chosen;
 use crate::slice::play_slices;
+use crate::{ArgumentsFault, Choice, Mode, read_arguments};
 use cf_base::Status;
 use cf_io::{Sink, Source};
 use cf_model::Manager;
-use command_line::{ArgumentsFault, Choice, Mode, read_arguments};
 use std::alloc::Global;
 use std::rt::Memory;
 
 /// Parses the arguments `words` (the first is the program's name), and runs the mode that they choose.
 ///
-/// In mode `run` the first of `managers` of the chosen kind, or a closed one made for the call if there is none,
-/// runs a script of at most 268,435,455 bytes. The `heap` line opens the manager, and the reply to each command
-/// is written before the next chunk is taken from the source. No other manager is touched. In mode
-/// `compare` every given manager runs the script, in order: each line of its replies begins with the name of
-/// its kind; `bad line` is printed once and without a name. Mode `bench` reads nothing: it runs generated
-/// commands on a manager made for them, and prints counts. Mode `save` prints no reply, but at the end the live
-/// objects as an image; mode `load` reads an image, and prints the script that makes its objects, or returns
-/// `BadImage`. In the modes `large`, `slice` and `quota` a heap that is made for it runs the script.
+/// In mode `run` the first of `managers` of the chosen kind, or a closed one made for the call if
+/// there is none, runs a script of at most 268,435,455 bytes. The `heap` line opens the manager,
+/// and the reply to each command is written before the next chunk is taken from the source. No
+/// other manager is touched. In mode `compare` every given manager runs the script, in order: each
+/// line of its replies begins with the name of its kind; `bad line` is printed once and without a
+/// name. Mode `bench` reads nothing: it runs generated commands on a manager made for them, and
+/// prints counts. Mode `save` prints no reply, but at the end the live objects as an image; mode
+/// `load` reads an image, and prints the script that makes its objects, or returns `BadImage`. In
+/// the modes `large`, `slice` and `quota` a heap that is made for the call runs the script.
 ///
-/// The call returns `Done` at the end of the input; `BadScript` at a line that the grammar does not allow at its
-/// place; `TooLong` if the script has more than 268,435,455 bytes; `ReadFault` if the source failed; `WriteFault`
-/// if the sink did; and `OutOfMemory`, before any reply, if an allocation failed. It returns `Words` if and only
-/// if `clap` refuses the arguments for another cause than memory.
+/// The call returns `Done` at the end of the input or of the bench; `BadScript` at a line that the
+/// grammar does not allow at its place; `TooLong` if the script has more than 268,435,455 bytes;
+/// `ReadFault` if the source failed; `WriteFault` if the sink did; and `OutOfMemory`, before any
+/// reply, if an allocation failed. It returns `Words` if and only if `clap` refuses the arguments
+/// for another cause than memory.
 pub fn cf_main<H: Manager, S: Source, K: Sink>(
     rt: &HostRuntime,
     alloc: Global,
@@ -68,7 +70,8 @@ pub fn cf_main<H: Manager, S: Source, K: Sink>(
     run_arguments(rt.memory(), alloc, words, source, sink, managers)
 }
 
-/// `cf_main` for an export, which has no runtime value: `memory` makes the meters (`Meter::for_library`). Clause
+/// Parses the arguments and runs the mode that they choose, as `cf_main` does, for a caller without
+/// a `HostRuntime`, such as an export: `memory` makes the meters (`Meter::for_library`). Clause
 /// `keeps` has the first four clauses of `cf_main`; the others are the same.
 pub fn run_arguments<H: Manager, S: Source, K: Sink>(
     memory: Memory,
@@ -97,7 +100,7 @@ pub fn run_arguments<H: Manager, S: Source, K: Sink>(
     }
 }
 
-/// Runs the mode of `choice`, which has the values of the arguments.
+/// Runs the mode of `choice`, which has the values of the arguments, and returns the status.
 fn run_mode<H: Manager, S: Source, K: Sink>(
     memory: Memory,
     alloc: Global,

@@ -1,5 +1,6 @@
-//! Tests with managers that the caller passes in: what modes `run`, `compare` and `bench` print, and how many
-//! live objects these managers have afterwards.
+//! Tests with managers that the caller passes in: what modes `run`, `compare` and `bench` print,
+//! how many live objects these managers have afterwards, and what a sink that fails in mode
+//! `compare` leaves.
 
 use super::faults::{MOVE, MOVED};
 use super::{OutputOn, answer_with, answered_on, failing_sink};

@@ -47,8 +47,8 @@ fn fills_once<H: Manager>(rt: &HostRuntime, heap: &mut H, page: u32) -> bool
     first && heap.malloc(page, meter.steps()).is_err()
 }
 
-/// Nothing is allocated here but by `open_heap`: `checks/refused-memory` refuses each of these
-/// allocations in turn.
+/// Each manager opens at the first or the second try. Only `open_heap` allocates here:
+/// `checks/refused-memory` refuses each of its allocations in turn.
 #[test]
 fn a_heap_opens_again_where_an_allocation_failed(rt: HostRuntime) -> Result<(), Fail> {
     let alloc = rt.alloc();

@@ -89,7 +89,8 @@ fn played(rt: &HostRuntime, case: &Case, take: u64, put: u64) -> Result<Ended, F
     })
 }
 
-/// For `take` or `put` of `played`, if no call of the source or of the sink is to fail.
+/// The number of a call that is never made: with it as `take` or `put` of `played`, no call of the
+/// source or of the sink fails.
 const NEVER: u64 = u64::MAX;
 
 /// Returns the first `count` lines of a text.
@@ -144,8 +145,9 @@ fn read_faults(rt: &HostRuntime, case: &Case) -> Result<Option<u64>, Fail> {
     Ok(None)
 }
 
-/// As `read_faults`, for the sink: returns the number of calls that failed, `None` if a run has a wrong outcome.
-/// Each failed call must leave a longer prefix of the text than the failed call of the run before.
+/// Lets call 0, 1, and so on of the sink fail, in a run each, until a run makes no such call and
+/// ends with `Done`. Returns the number of calls that failed, `None` if a run has a wrong outcome:
+/// each must leave a longer prefix of the text than the run before.
 fn write_faults(rt: &HostRuntime, case: &Case) -> Result<Option<u64>, Fail> {
     let (_, _, text, _) = *case;
     let mut shorter = 0;

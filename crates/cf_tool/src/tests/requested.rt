@@ -1,5 +1,6 @@
-//! A test of the memory that a heap asks for: it opens each heap over each size of a page. `checks/refused-memory` runs it
-//! while each request is seen, and compares the requests with what the heap's `bytes_needed` returned.
+//! A test of the memory that a heap asks for: it opens each heap with each page size.
+//! `checks/refused-memory` runs it while each request is recorded, and compares the requests with
+//! what the heap's `bytes_needed` returned.
 
 use cf_base::{BytesNeeded, Settings};
 use cf_model::Manager;
@@ -13,24 +14,26 @@ use std::alloc::AllocError;
 use std::test::Fail;
 use tlsf_heap::TlsfHeap;
 
-/// The request that says that the next three are the numbers of a `BytesNeeded`: its blocks, its total, its largest.
+/// The size in bytes of a request that announces three more, whose sizes in bytes are the fields of
+/// a `BytesNeeded`: `blocks`, `total` and `largest`.
 const BEFORE: u64 = 1_000_003;
 
-/// The request after the last one of a heap.
+/// The size in bytes of the request after the last one of a heap.
 const AFTER: u64 = 1_000_033;
 
-/// The bytes of a page.
+/// The sizes of a page in bytes.
 const PAGE_BYTES: [u32; 9] = [
     512, 1_024, 2_048, 4_096, 8_192, 16_384, 32_768, 65_536, 131_072,
 ];
 
-/// Asks for a block of so many bytes, and returns it.
+/// Allocates a block of `bytes` bytes and frees it.
 fn ask(rt: &HostRuntime, bytes: u64) -> Result<(), AllocError> {
     let _block: Vec<u8> = Vec::with_capacity(rt.alloc(), bytes as usize)?;
     Ok(())
 }
 
-/// Asks for blocks that say what the next heap needs.
+/// Announces what the next heap needs: requests `BEFORE` bytes, then as many bytes as each field of
+/// `needed` says.
 fn announce(rt: &HostRuntime, needed: BytesNeeded) -> Result<(), AllocError> {
     ask(rt, BEFORE)?;
     ask(rt, u64::from(needed.blocks))?;
@@ -38,7 +41,8 @@ fn announce(rt: &HostRuntime, needed: BytesNeeded) -> Result<(), AllocError> {
     ask(rt, needed.largest)
 }
 
-/// Opens a manager, which needs so much memory. Returns the number of heaps that opened.
+/// Opens a manager, between the requests that announce `needed` and the one of `AFTER` bytes.
+/// Returns 1 if it opened, else 0.
 fn open_manager<H: Manager>(
     rt: &HostRuntime,
     mut heap: H,
@@ -51,7 +55,8 @@ fn open_manager<H: Manager>(
     Ok(u32::from(opened))
 }
 
-/// Opens the heaps that aren't managers. Returns the number of those that opened.
+/// Opens the sliced heap, the heap of tasks and a heap of long objects, each between its requests.
+/// Returns the number of those that opened.
 fn open_others(rt: &HostRuntime, s: &Settings) -> Result<u32, AllocError> {
     let alloc = rt.alloc();
     announce(rt, SlicedHeap::bytes_needed(s))?;
@@ -106,7 +111,7 @@ fn open_each(rt: &HostRuntime, s: &Settings) -> Result<u32, AllocError> {
     )
 }
 
-/// Seven heaps with each of four settings, over nine sizes of a page.
+/// Seven heaps open, each with four settings and nine page sizes.
 #[test]
 fn each_heap_asks_for_the_memory_it_says(rt: HostRuntime) -> Result<(), Fail> {
     let mut opened = 0u32;

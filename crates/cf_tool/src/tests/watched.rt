@@ -40,7 +40,7 @@ impl Log {
         !self.early.get()
     }
 
-    /// Notes a call of the source or the sink.
+    /// Counts a call of the source or the sink if one before it failed.
     fn note_call(&self) {
         if self.failed.get() {
             self.after.set(self.after.get().saturating_add(1));
@@ -61,6 +61,8 @@ pub struct WatchedSource<'a, S> {
 impl<'a, S: Source> Source for WatchedSource<'a, S> {
     ghost state = { λ w. S.state w.source };
 
+    /// Notes the call, and whether a reply to an earlier chunk is still missing. Then takes a chunk
+    /// from the inner source.
     fn take(&mut self, buf: &mut [u8]) -> Result<usize, Failed> {
         self.log.note_call();
         if self.log.lines.get() != self.taken.saturating_mul(self.replies) {
@@ -85,6 +87,7 @@ pub struct WatchedSink<'a, K> {
 impl<'a, K: Sink> Sink for WatchedSink<'a, K> {
     ghost state = { λ w. K.state w.sink };
 
+    /// Notes the call, and how many line feeds the inner sink took of the bytes.
     fn put(&mut self, bytes: &[u8]) -> Result<usize, Failed> {
         self.log.note_call();
         let result = self.sink.put(bytes);

@@ -12,9 +12,10 @@ use std::alloc::Global;
 use std::test::Fail;
 use step_ledger::Meter;
 
-/// Mallocs on an empty heap. `settings` has its pages, the bytes of a page, and its proxies. `mallocs` has the
-/// bytes of each object, and why its malloc is refused; none if it succeeds. `totals` has then of the manager below
-/// its objects, the pages in use, and the free pages.
+/// Mallocs on an empty heap. `settings` has its pages, the bytes of a page, and its proxies.
+/// `mallocs` has the bytes of each object, and why its malloc is refused; none if it succeeds.
+/// `totals` has the objects, the pages in use and the free pages of the inner manager after the
+/// mallocs.
 struct Row {
     settings: [u32; 3],
     mallocs: &'static [(u32, Option<Refusal>)],
@@ -79,7 +80,7 @@ static ROWS: [Row; 7] = [
     },
 ];
 
-/// Makes the mallocs, and returns whether each has its result.
+/// Makes the mallocs, and returns whether each has its result; false if the heap is closed.
 fn makes<H: Manager>(
     heap: &mut LargeHeap<H>,
     mallocs: &[(u32, Option<Refusal>)],
@@ -93,7 +94,7 @@ fn makes<H: Manager>(
     true
 }
 
-/// Of the manager below: its objects, the pages in use, and the free pages; none if it is closed.
+/// The objects, the pages in use and the free pages of the inner manager; none if it is closed.
 fn totals<H: Manager>(heap: &LargeHeap<H>, meter: &mut Meter) -> Option<[u32; 3]> {
     let inner = heap.inner();
     if !inner.is_open() {
@@ -156,13 +157,14 @@ enum Call {
 /// The parts of object 2 of `CALLS`: 43 whole ones and a shorter one.
 const PARTS: u64 = 44;
 
-/// Of these parts and the spine, those that share their pages: the shorter part and the spine.
+/// How many of these parts and of the spine share a page: the shorter part and the spine.
 const SHARING: u64 = 2;
 
-/// The words of their slots: of the whole parts, the shorter one, and the spine.
+/// The words of the slots of object 2: of 43 whole parts, of the shorter part, and of the spine.
 const SLOTS: u64 = 43 * 64 + 30 + 23;
 
-/// The most steps of a malloc and of a free of object 2, by `long_calls_take_steps_for_parts_and_words`.
+/// The most steps of a malloc and of a free of object 2, by the law
+/// `long_calls_take_steps_for_parts_and_words` of `large_objects`.
 const MALLOC_BOUND: u64 = 15 + 18 * PARTS + 2 * SHARING;
 
 const FREE_BOUND: u64 = 16 + 19 * PARTS + 4 * SHARING + SLOTS;

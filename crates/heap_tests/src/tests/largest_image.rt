@@ -66,8 +66,8 @@ fn put_image(buffer: &mut [u8], from: u64) {
     }
 }
 
-/// A sink that accepts all bytes and keeps none. It has got `at` bytes, and `differs` is whether one of
-/// them was not that of the image.
+/// A sink that accepts all bytes and keeps none. It received `at` bytes, and `differs` is whether
+/// one of them was not that of the image.
 #[derive(Drop)]
 struct Comparison {
     at: u64,

@@ -106,7 +106,7 @@ fn first_other(heap: &mut QuotaHeap, meter: &mut Meter) -> Option<usize> {
 }
 
 /// The pages that task 0 uses, and those in no quota; none if the heap is closed.
-fn pages_left(heap: &QuotaHeap) -> Option<[u32; 2]> {
+fn used_and_unassigned(heap: &QuotaHeap) -> Option<[u32; 2]> {
     if !heap.is_open() {
         return None;
     }
@@ -119,6 +119,6 @@ fn each_call_takes_its_steps(rt: HostRuntime) -> Result<(), Fail> {
     let mut heap = QuotaHeap::closed(rt.alloc());
     heap.open_heap(&Settings::check(3, 512, 1, 8)?)?;
     assert_eq!(rt; first_other(&mut heap, &mut Meter::new(&rt)), None);
-    assert_eq!(rt; pages_left(&heap), Some([1, 1]));
+    assert_eq!(rt; used_and_unassigned(&heap), Some([1, 1]));
     Ok(())
 }

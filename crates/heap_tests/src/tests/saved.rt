@@ -88,7 +88,7 @@ static ROWS: [Row; 4] = [
     },
 ];
 
-/// Does these commands on the heap in order, through the session.
+/// Does these commands on the heap in order, through the session (`do_command`).
 fn do_commands<H: Manager>(heap: &mut H, session: &mut Session, commands: &[CommandRef])
     requires { IsGoing (run_at session.old (H.state heap.old)) }
     ensures { (p : Profile) → IsReady p (run_at session.old (H.state heap.old)) → IsReady p (run_at session.new (H.state heap.new)) }

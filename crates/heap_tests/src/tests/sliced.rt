@@ -1,5 +1,5 @@
-//! The steps of single calls of `SlicedHeap`, each worked out by hand; the longest of each kind are among
-//! them.
+//! The steps of single calls of `SlicedHeap`, each worked out by hand. Among them are a malloc, a free, a slice, a
+//! read and a write that reach their bounds: 17, 23 and 15 plus the quantum, and 2 plus the words touched.
 ghost use Rattle.std.specs.Prelude.{IsTrue};
 
 use cf_base::{Handle, Settings};
@@ -70,7 +70,8 @@ fn first_with_other_steps(
 /// 232 bytes has a slot of 30 words, two to a page; one of 504 bytes fills a page.
 ///
 /// A malloc takes 1 step for the class, 2 for the proxy and 1 for the header. The slot takes 11 steps on a free
-/// page; on a partly full page 13 if the page becomes full, else 5; and 2 if there is no slot.
+/// page; on a partly full page 13 if the page becomes full, else 5; and 2 if the malloc is refused until the pending
+/// job ends. Other refusals take only the step for the class.
 ///
 /// A free takes 5 steps, and 1 to test whether the slot must be filled, or 6 to fill it; then the slice. A slice
 /// takes 1 step for each word, and 1 if it moves an object. At the end of a job it takes 14 more if the slot's
@@ -123,7 +124,8 @@ const CALLS: [(Call, u64); 30] = [
     (Call::Peek(256), 0),
 ];
 
-/// With slices of 30 words the free moves the whole object, which has a slot of 30 words: the longest free.
+/// With slices of 30 words the free moves the whole object, which has a slot of 30 words: the longest
+/// free with this quantum.
 const AT_ONCE: [(Call, u64); 4] = [
     (Call::Malloc(232), 15),
     (Call::Malloc(232), 17),

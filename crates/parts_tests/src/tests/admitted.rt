@@ -3,7 +3,7 @@ use cf_base::Settings;
 use quota_model::{Admission, Need, admit};
 use std::test::Fail;
 
-// `admit` returns each of its results by its cause. Pages have 512 bytes, and there are 8 proxies. A page
+// `admit` returns each of its four results, for the right cause. Pages have 512 bytes, and there are 8 proxies. A page
 // has two slots for 176 bytes, and 8 bytes have another class. So `half`, three objects, needs two pages,
 // and `small` one more. `No` has the number of the first malloc that is refused, from 1 on. The last two
 // cases are tested before the quota. `half`, `small` and `many` are 12 objects, more than the proxies.

@@ -46,8 +46,9 @@ fn sinks_take_what_they_have_room_for(rt: HostRuntime) -> Result<(), Fail> {
     Ok(())
 }
 
-/// A reader and writer of std for tests. Each call reads or writes at most `moves` bytes. If `breaks`, the first
-/// call fails, and unless `flushes` the first flush does. No later one fails, so that a second try would show.
+/// A reader and writer of std for tests, which reads and writes nothing. Each call claims at most `moves` bytes. If
+/// `breaks`, the first read or write fails, and unless `flushes` the first flush does. No later one fails, so that a
+/// second try would show.
 #[derive(Drop)]
 struct Pipe {
     moves: usize,
@@ -56,7 +57,7 @@ struct Pipe {
 }
 
 impl Pipe {
-    /// How many of `len` bytes a call reads or writes, or its failure.
+    /// For a read or a write, how many of `len` bytes it claims. Fails the first time if `breaks`.
     fn turn(&mut self, len: usize) -> io::Result<usize> {
         if self.breaks {
             self.breaks = false;
@@ -67,18 +68,19 @@ impl Pipe {
 }
 
 impl Read for Pipe {
-    // Returns how many bytes it would read, and leaves the buffer unchanged.
+    // Claims bytes, or fails, as `turn` says; the buffer stays unchanged.
     fn read(&mut self, buf: &mut [u8]) -> io::Result<usize> {
         Ok(self.turn(buf.len())?.min(buf.len()))
     }
 }
 
 impl Write for Pipe {
-    // Returns how many of the bytes it would write, and drops them.
+    // Claims bytes, or fails, as `turn` says; the bytes are dropped.
     fn write(&mut self, buf: &[u8]) -> io::Result<usize> {
         Ok(self.turn(buf.len())?.min(buf.len()))
     }
 
+    // Fails the first time unless `flushes`.
     fn flush(&mut self) -> io::Result<()> {
         if self.flushes {
             return Ok(());

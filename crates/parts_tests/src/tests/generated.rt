@@ -1,7 +1,7 @@
 //! Test of the generator of mode `bench`: the first commands of seed 0. They were worked out by hand from the
 //! first numbers that SplitMix64 returns for that seed.
 use cf_io::Line;
-use generator::{Generator, command_text};
+use script_reader::{Generator, command_text};
 use std::test::Fail;
 
 // `Generator::next_command` returns these four commands of a script, and `command_text` writes each as a

@@ -1,4 +1,4 @@
-//! Tests of what heaps and sessions are made of: each table, pool and list is made and used once.
+//! Tests of what heaps and sessions are made of: tables, lists, bitmaps, a pool and a region.
 ghost use Rattle.std.specs.Prelude.{◌≡◌, ◌<◌, ◌≤◌, length};
 
 use block_table::BlockTable;
@@ -28,7 +28,7 @@ fn the_page_that_was_given_last_is_taken_first(rt: HostRuntime) -> Result<(), Fa
     Ok(())
 }
 
-// A table of one proxy has a number for one address alone.
+// In a table of one proxy the first address gets the number 0, and a second one gets none.
 #[test]
 fn one_proxy_is_bound_once(rt: HostRuntime) -> Result<(), Fail> {
     let mut meter = Meter::new(&rt);
@@ -81,7 +81,7 @@ fn words_are_moved(rt: HostRuntime) -> Result<(), Fail> {
     Ok(())
 }
 
-// An id names the handle to which it was last bound.
+// An id names the handle to which it was last bound, and counts once.
 #[test]
 fn an_id_names_what_it_was_last_bound_to(rt: HostRuntime) -> Result<(), Fail> {
     let mut ids = IdTable::new(rt.alloc()).map_err(|_| "out of memory")?;
@@ -103,9 +103,10 @@ fn fill(maps: &mut SlotMaps, page: u32, n: u32, steps: &mut Steps) -> Option<u32
     last
 }
 
-/// Makes a table of three pages with up to `slots` slots each, gives page 1 as many, and takes all of
-/// them. Returns the slot that was taken last, then the lowest used and the lowest free slot of page 1,
-/// and the lowest free slots of pages 0 and 2; how many slots of page 1 are used; and the steps in all.
+/// Makes a table of three pages with up to `slots` slots each, gives page 1 `slots` slots, and takes
+/// all of these. Returns the slot that was taken last, then the lowest used and the lowest free slot
+/// of page 1, and the lowest free slots of pages 0 and 2; how many slots of page 1 are used; and the
+/// steps in all.
 fn page_filled(rt: &HostRuntime, slots: u32) -> Result<([Option<u32>; 5], u32, u64), Fail>
     requires some { 1 ≤ slots }
     requires few { slots ≤ 4096 }
@@ -123,8 +124,9 @@ fn page_filled(rt: &HostRuntime, slots: u32) -> Result<([Option<u32>; 5], u32, u
     Ok((found, maps.count(1, meter.steps()), meter.lap()))
 }
 
-// A table whose pages have 1 to 64 words each. The slots of a page are taken in order; then none is free.
-// Each other page still has its one free slot. A slot is taken for three steps; what is left costs ten.
+// Six tables; the bitmap of a page has 1 to 64 words. The slots of page 1 are taken in order; then none
+// is free. Pages 0 and 2 still have the one free slot of a page that no class uses. Taking a slot costs
+// three steps; the other calls cost ten in all.
 #[test]
 fn a_page_is_filled_and_the_others_stay_free(rt: HostRuntime) -> Result<(), Fail> {
     let seen = [

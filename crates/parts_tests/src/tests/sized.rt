@@ -7,6 +7,7 @@ use sizing::{
 };
 use std::test::Fail;
 
+/// The need of `count` objects of `bytes` bytes.
 fn need(bytes: u32, count: u32) -> Need {
     Need { bytes, count }
 }
@@ -14,7 +15,8 @@ fn need(bytes: u32, count: u32) -> Need {
 // A page has 64 words, of which an object takes one for its header. The 176 bytes of an object need 23
 // words. Slots of 23 words, or of 6 blocks, are 2 to a page. 24 and 20 bytes need 4 words, one block: 16
 // to a page. 32 bytes need 5 words and 40 bytes 6: slots of 5 and of 6 words are 12 and 10 to a page, but
-// both need 2 blocks, 8 to a page. 504 bytes fill a page, 505 need more.
+// both need 2 blocks, 8 to a page. 504 bytes fill a page, 505 need more. And 21 objects are more than the
+// proxies.
 #[test]
 fn each_class_needs_its_own_pages(rt: HostRuntime) -> Result<(), Fail> {
     let Ok(s) = Settings::check(1, 512, 1, 20) else {
@@ -45,7 +47,8 @@ fn each_class_needs_its_own_pages(rt: HostRuntime) -> Result<(), Fail> {
 }
 
 // The modes are start, with 17 objects of 24 bytes; work, with 3 of 176 bytes and one of a page; and
-// stop, with one of 40 bytes. They need 2, 3 and 1 pages, so 3 serve them all.
+// stop, with one of 40 bytes. They need 2, 3 and 1 pages, so 3 serve them all. A mode with 21 objects has
+// more than the 20 proxies.
 #[test]
 fn the_greatest_mode_counts(rt: HostRuntime) -> Result<(), Fail> {
     let Ok(s) = Settings::check(1, 512, 1, 20) else {
@@ -61,6 +64,7 @@ fn the_greatest_mode_counts(rt: HostRuntime) -> Result<(), Fail> {
     Ok(())
 }
 
+/// A mode with these needs, at most `ENTRIES`; its other entries have no objects.
 fn mode(needs: &[Need]) -> ModeNeeds {
     let mut mode = ModeNeeds {
         needs: [need(0, 0); ENTRIES],
@@ -71,7 +75,8 @@ fn mode(needs: &[Need]) -> ModeNeeds {
     mode
 }
 
-/// A point with so many pages of the classes 11 and 15.
+/// A list of a certificate, for the mode with the number `mode`: `of_11` pages of class 11, `of_15` of class 15, and
+/// none of the others.
 fn point(mode: u32, of_11: u32, of_15: u32) -> PointPages {
     let mut pages = [0; CLASSES];
     pages[11] = of_11;
@@ -81,7 +86,8 @@ fn point(mode: u32, of_11: u32, of_15: u32) -> PointPages {
 
 // A page of 64 words has 20 classes. Number 11 has slots of 23 words, two to a page, for objects of 176 bytes;
 // number 15 has slots of 39, one to a page, for 300 bytes. Six objects of 176 bytes are on three pages. If two of
-// them stay, with bound 2 they can be on two pages, beside three of the other mode.
+// them stay, with bound 2 they can be on two pages, beside three of the other mode. Without a
+// bound for each class, or a list for each mode, nothing is certified.
 #[test]
 fn two_modes_need_five_pages(rt: HostRuntime) -> Result<(), Fail> {
     let modes = [
@@ -100,9 +106,9 @@ fn two_modes_need_five_pages(rt: HostRuntime) -> Result<(), Fail> {
     Ok(())
 }
 
-// Objects of 160 bytes have slots of class 11 too. Three of 176 bytes are on two pages; one of them can stay beside one
-// of 160 bytes and one of 300, on one page of each class. If the program resizes one of two on two pages to 160 bytes, both
-// stay, on two pages.
+// Objects of 160 bytes have slots of class 11 too. Three of 176 bytes are on two pages. One of them
+// can stay beside one of 160 bytes and one of 300, on one page of each class. But if two stay, on
+// two pages, and the program resizes one of the two to 160 bytes, class 11 keeps both pages.
 #[test]
 fn a_resize_within_a_class_keeps_an_object_more(rt: HostRuntime) -> Result<(), Fail> {
     let modes = [
@@ -123,9 +129,11 @@ fn a_resize_within_a_class_keeps_an_object_more(rt: HostRuntime) -> Result<(), F
     Ok(())
 }
 
-// The objects of the classes 11 and 12, two to a page, cost 100 each, all others more than the budget of 500. If one page may
-// be partly full, an object of class 12 and four of class 11 take three pages. If two may be, two objects of class 12, left of
-// three, and three of class 11 take four.
+// The objects of the classes 11 and 12, two to a page, cost 100 each, all others more than the
+// budget of 500. So the level of these classes, what a full page costs at least, is 200. If one page
+// of a class may be partly full, an object of class 12 and four of class 11 take three pages. If two
+// may be, two objects of class 12, left of three, and three of class 11 take four. The level 201, or
+// a bound too few, is refused.
 #[test]
 fn a_greater_bound_needs_a_page_more(rt: HostRuntime) -> Result<(), Fail> {
     let mut prices = [501; 20];

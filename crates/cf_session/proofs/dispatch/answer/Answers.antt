@@ -49,11 +49,11 @@ returns-in-Peek-clause-step g c = shown_step _ _ _ (Peek _) c.args.lead.now _ _ 
     (c.put_reply-in-Peek.ensures _ c.peek.ensures)
 
 pub put_reply-requires-in-Steps-clause-room : goal.put_reply-requires-in-Steps-clause-room
-put_reply-requires-in-Steps-clause-room g c = has_room c.args.lead.now _ _ _ c.put_steps_line.ensures
+put_reply-requires-in-Steps-clause-room g c = has_room c.args.lead.now _ _ _ c.build_steps_line.ensures
 
 pub returns-in-Steps-clause-step : goal.returns-in-Steps-clause-step
 returns-in-Steps-clause-step g c = shown_step _ _ _ Steps c.args.lead.now _ _ _ _ (ap owned_command c.in-Steps.is) c.requires.going (refl, refl)
-    (c.put_reply-in-Steps.ensures _ c.put_steps_line.ensures)
+    (c.put_reply-in-Steps.ensures _ c.build_steps_line.ensures)
 
 pub returns-in-Read-clause-step : goal.returns-in-Read-clause-step
 returns-in-Read-clause-step g c = shown_step _ _ _ (Read _ _ _) c.args.lead.now _ _ _ _ (ap owned_command c.in-Read.is) c.requires.going (refl, refl)
@@ -84,4 +84,4 @@ pub returns-in-Peek-clause-sink : goal.returns-in-Peek-clause-sink
 returns-in-Peek-clause-sink g c = put_faults _ c.args.lead.now _ _ _ (c.put_reply-in-Peek.ensures _ c.peek.ensures)
 
 pub returns-in-Steps-clause-sink : goal.returns-in-Steps-clause-sink
-returns-in-Steps-clause-sink g c = put_faults _ c.args.lead.now _ _ _ (c.put_reply-in-Steps.ensures _ c.put_steps_line.ensures)
+returns-in-Steps-clause-sink g c = put_faults _ c.args.lead.now _ _ _ (c.put_reply-in-Steps.ensures _ c.build_steps_line.ensures)

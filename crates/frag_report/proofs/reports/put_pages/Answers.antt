@@ -1,5 +1,5 @@
 use Rattle.std.proofs.Common.{◌++◌, ap}
-use Rattle.cf_base.specs.declared.answers.Totals.{Totals}
+use Rattle.cf_base.specs.declared.results.Totals.{Totals}
 use Rattle.cf_io.proofs.CallerLemmas.{puts_same}
 use Rattle.cf_model.specs.Answers.{classes_in}
 use Rattle.cf_model.specs.State.{paging_in}

@@ -15,44 +15,44 @@ loop-c-init g c = record {
 
 pub overflow_sub-within : goal.overflow_sub-within
 overflow_sub-within g c = before_within (g.H.Manager.state c.args.inner.now) c.requires.ready c.args.part_bytes c.args.bytes c.requires.some (omega arith) c.loop-c.c
-    (let lt = c.loop-c-test.true in let e = c.classes-c-end.ensures in omega arith) c.in-Some.figures c.in-Some.ensures c.inner_objects_within-within.result
+    (let lt = c.loop-c-test.true in let e = c.classes-c-end.ensures in omega arith) c.in-Some.figures c.in-Some.ensures c.count_inner_objects_within-within.result
     c.loop-c.before
-    c.inner_objects_within-within.ensures c.loop-c.invariant.before
+    c.count_inner_objects_within-within.ensures c.loop-c.invariant.before
 
 pub overflow_add-figures : goal.overflow_add-figures
 overflow_add-figures g c =
     let small = objects_small (g.H.Manager.state c.args.inner.now) c.requires.ready c.args.part_bytes c.args.bytes c.requires.some (omega arith) c.loop-c.c
-    (let lt = c.loop-c-test.true in let e = c.classes-c-end.ensures in omega arith) c.in-Some.figures c.in-Some.ensures c.inner_objects_within-within.result
+    (let lt = c.loop-c-test.true in let e = c.classes-c-end.ensures in omega arith) c.in-Some.figures c.in-Some.ensures c.count_inner_objects_within-within.result
     c.loop-c.before
-    c.inner_objects_within-within.ensures c.loop-c.invariant.before in omega arith
+    c.count_inner_objects_within-within.ensures c.loop-c.invariant.before in omega arith
 
 pub div_ceil-pages-requires : goal.div_ceil-pages-requires
 div_ceil-pages-requires g c = slots_positive (g.H.Manager.state c.args.inner.now) c.requires.ready c.args.part_bytes c.args.bytes c.requires.some (omega arith)
     c.loop-c.c
-    (let lt = c.loop-c-test.true in let e = c.classes-c-end.ensures in omega arith) c.in-Some.figures c.in-Some.ensures c.inner_objects_within-within.result
+    (let lt = c.loop-c-test.true in let e = c.classes-c-end.ensures in omega arith) c.in-Some.figures c.in-Some.ensures c.count_inner_objects_within-within.result
     c.loop-c.before
-    c.inner_objects_within-within.ensures c.loop-c.invariant.before
+    c.count_inner_objects_within-within.ensures c.loop-c.invariant.before
 
 pub overflow_add-pages : goal.overflow_add-pages
 overflow_add-pages g c =
     let fit = pages_fit (g.H.Manager.state c.args.inner.now) c.requires.ready c.args.part_bytes c.args.bytes c.requires.some (omega arith) c.loop-c.c
-    (let lt = c.loop-c-test.true in let e = c.classes-c-end.ensures in omega arith) c.in-Some.figures c.in-Some.ensures c.inner_objects_within-within.result
+    (let lt = c.loop-c-test.true in let e = c.classes-c-end.ensures in omega arith) c.in-Some.figures c.in-Some.ensures c.count_inner_objects_within-within.result
     c.loop-c.before
-    c.inner_objects_within-within.ensures c.loop-c.invariant.before c.loop-c.pages c.div_ceil-pages.result c.loop-c.invariant.sum c.loop-c.invariant.small
+    c.count_inner_objects_within-within.ensures c.loop-c.invariant.before c.loop-c.pages c.div_ceil-pages.result c.loop-c.invariant.sum c.loop-c.invariant.small
     c.div_ceil-pages.ensures in omega arith
 
 pub loop-c-preserved : goal.loop-c-preserved
 loop-c-preserved g c = record {
   sum = pages_summed (g.H.Manager.state c.args.inner.now) c.requires.ready c.args.part_bytes c.args.bytes c.requires.some (omega arith) c.loop-c.c
-      (let lt = c.loop-c-test.true in let e = c.classes-c-end.ensures in omega arith) c.in-Some.figures c.in-Some.ensures c.inner_objects_within-within.result
-      c.loop-c.before c.inner_objects_within-within.ensures c.loop-c.invariant.before c.loop-c.pages c.div_ceil-pages.result c.loop-c.invariant.sum
+      (let lt = c.loop-c-test.true in let e = c.classes-c-end.ensures in omega arith) c.in-Some.figures c.in-Some.ensures c.count_inner_objects_within-within.result
+      c.loop-c.before c.count_inner_objects_within-within.ensures c.loop-c.invariant.before c.loop-c.pages c.div_ceil-pages.result c.loop-c.invariant.sum
       c.loop-c.invariant.small c.div_ceil-pages.ensures;
   before = within_all (g.H.Manager.state c.args.inner.now) c.requires.ready c.args.part_bytes c.args.bytes c.requires.some (omega arith) c.loop-c.c
-      (let lt = c.loop-c-test.true in let e = c.classes-c-end.ensures in omega arith) c.in-Some.figures c.in-Some.ensures c.inner_objects_within-within.result
-      c.loop-c.before c.inner_objects_within-within.ensures c.loop-c.invariant.before;
+      (let lt = c.loop-c-test.true in let e = c.classes-c-end.ensures in omega arith) c.in-Some.figures c.in-Some.ensures c.count_inner_objects_within-within.result
+      c.loop-c.before c.count_inner_objects_within-within.ensures c.loop-c.invariant.before;
   small = pages_low (g.H.Manager.state c.args.inner.now) c.requires.ready c.args.part_bytes c.args.bytes c.requires.some (omega arith) c.loop-c.c
-      (let lt = c.loop-c-test.true in let e = c.classes-c-end.ensures in omega arith) c.in-Some.figures c.in-Some.ensures c.inner_objects_within-within.result
-      c.loop-c.before c.inner_objects_within-within.ensures c.loop-c.invariant.before c.loop-c.pages c.div_ceil-pages.result c.loop-c.invariant.sum
+      (let lt = c.loop-c-test.true in let e = c.classes-c-end.ensures in omega arith) c.in-Some.figures c.in-Some.ensures c.count_inner_objects_within-within.result
+      c.loop-c.before c.count_inner_objects_within-within.ensures c.loop-c.invariant.before c.loop-c.pages c.div_ceil-pages.result c.loop-c.invariant.sum
       c.loop-c.invariant.small c.div_ceil-pages.ensures;
 }
 

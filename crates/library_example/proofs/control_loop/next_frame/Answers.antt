@@ -1,5 +1,5 @@
 use Rattle.std.proofs.Common.{◌≡◌, ◌+◌, ◌∙◌, arith, ap}
-use Rattle.slice_model.specs.declared.answers.SliceRefusal.TheVariants.{Busy}
+use Rattle.slice_model.specs.declared.refusals.SliceRefusal.TheVariants.{Busy}
 use Rattle.library_example.proofs.Cycles.{has_frame, has_none, next_slice, not_busy, one_more, stays_on}
 use Rattle.library_example.proofs.control_loop.next_frame.Goals as goal
 

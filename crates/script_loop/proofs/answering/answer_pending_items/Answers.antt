@@ -76,4 +76,4 @@ pub returns-in-Bad-clause-goes : goal.returns-in-Bad-clause-goes
 returns-in-Bad-clause-goes g c =
     let so_far = c.replies.invariant in
     named g.A.ModeHandler.semantics _ _ _ _ _ _ _ so_far.text _ so_far.answered so_far.wrote.wrote
-    (bad_at _ _ _ so_far.going (rw c.in-Bad.is at c.read_next.ensures)) c.name_bad.ensures.names
+    (bad_at _ _ _ so_far.going (rw c.in-Bad.is at c.read_next.ensures)) c.put_bad_line.ensures.names

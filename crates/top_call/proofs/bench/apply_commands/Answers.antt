@@ -1,5 +1,5 @@
 use Rattle.std.proofs.Common.{◌≡◌, ◌-◌, ◌∙◌, ◌++◌, [], ◌∷◌, ap₂, arith, refl, sym}
-use Rattle.generator.specs.Generated.{generated}
+use Rattle.script_reader.specs.Generated.{generated}
 use Rattle.script_laws.proofs.CallerLemmas.{step_keeps}
 use Rattle.run_model.proofs.CallerLemmas.{step_same}
 use Rattle.script_reader.specs.Owned.{owned_command}

@@ -2,7 +2,7 @@ use Rattle.std.proofs.Common.{◌≡◌, ◌≤◌, ◌+◌, ◌-◌, ◌++◌, 
 use Rattle.top_call.specs.Bench.{IsAppliedTo}
 use Rattle.cf_model.specs.Ordered.{KeepsPromise}
 use Rattle.cf_session.specs.Apply.{run_at}
-use Rattle.generator.specs.Generated.{generated}
+use Rattle.script_reader.specs.Generated.{generated}
 use Rattle.run_model.specs.Terms.{Command, IsGoing}
 use Rattle.top_call.proofs.bench.apply_commands.Given as goal
 

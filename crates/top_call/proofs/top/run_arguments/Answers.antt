@@ -1,4 +1,4 @@
-use Rattle.command_line.proofs.CallerLemmas.{chosen_are_accepted, not_accepted}
+use Rattle.top_call.proofs.ReadAlike.{chosen_are_accepted, not_accepted}
 use Rattle.top_call.proofs.Modes.{chosen_ends, chosen_shows, chosen_whole}
 use Rattle.top_call.proofs.top.run_arguments.Goals as goal
 

@@ -1,4 +1,4 @@
-use Rattle.command_line.specs.declared.choice.Mode.TheVariants.{Bench, Large, Save, Load, Slice, Quota}
+use Rattle.top_call.specs.declared.choice.Mode.TheVariants.{Bench, Large, Save, Load, Slice, Quota}
 use Rattle.top_call.proofs.Modes.{in_mode}
 use Rattle.top_call.proofs.top.run_mode.Goals as goal
 

@@ -1,7 +1,7 @@
 -- The figures count the live objects: if there are none the class gets its bound, else the call is refused.
 use Rattle.std.proofs.Common.{◌∙◌, ap, arith, pos, subst, sym}
 use Rattle.std.specs.FinMap.{empty_of_len}
-use Rattle.cf_base.specs.declared.answers.Totals.{Totals}
+use Rattle.cf_base.specs.declared.results.Totals.{Totals}
 use Rattle.cf_model.specs.Families.{family_of}
 use Rattle.held_heap.specs.Bound.{IsBoundCall}
 use Rattle.held_heap.specs.HeldState.{HeldState}

@@ -2,7 +2,7 @@
 use Rattle.std.proofs.Common.{refl}
 use denote.Memory.{part_of}
 use Rattle.c_base.proofs.CallerLemmas.{lends_inner}
-use Rattle.c_base.specs.contracts.heap.LendableHeap.{the_row as heap_row}
+use Rattle.c_base.specs.contracts.lendable.LendableHeap.{the_row as heap_row}
 use Rattle.held_heap.specs.TlsfPlace.{inner_of, outer_of}
 use Rattle.held_heap.specs.Tag.{loose_heap}
 use Rattle.held_heap.specs.Tlsf.{open_heap}

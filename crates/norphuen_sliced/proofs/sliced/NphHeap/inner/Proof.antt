@@ -2,7 +2,7 @@
 use Rattle.std.proofs.Common.{refl}
 use denote.Memory.{part_of}
 use Rattle.c_base.proofs.CallerLemmas.{lends_inner}
-use Rattle.c_base.specs.contracts.heap.LendableHeap.{the_row as heap_row}
+use Rattle.c_base.specs.contracts.lendable.LendableHeap.{the_row as heap_row}
 use Rattle.norphuen_sliced.specs.Place.{sliced_inner_of, sliced_outer_of}
 use Rattle.norphuen_sliced.specs.Sliced.{loose_sliced, open_sliced}
 use Rattle.norphuen_sliced.specs.contracts.loose.HeldLendableLooseHeld.TheImpl.{ghosts}

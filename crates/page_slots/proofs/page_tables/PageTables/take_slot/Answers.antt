@@ -14,8 +14,8 @@ take_least-slot-requires-clause-page c = front_inside _ _ c.requires.tables c.ar
 pub take_least-slot-requires-clause-some : goal.take_least-slot-requires-clause-some
 take_least-slot-requires-clause-some c = front_room _ _ c.requires.tables c.args.c c.in-Some.page c.in-Some.ensures.front
 
-pub leave_if_filled-requires-clause-listed : goal.leave_if_filled-requires-clause-listed
-leave_if_filled-requires-clause-listed c = front_there _ _ c.requires.tables c.args.c c.in-Some.page c.in-Some.ensures.front
+pub list_as_full_if_filled-requires-clause-listed : goal.list_as_full_if_filled-requires-clause-listed
+list_as_full_if_filled-requires-clause-listed c = front_there _ _ c.requires.tables c.args.c c.in-Some.page c.in-Some.ensures.front
 
 pub address_of-requires-clause-slot : goal.address_of-requires-clause-slot
 address_of-requires-clause-slot c =
@@ -38,18 +38,18 @@ returns-clause-taken c = record {
     free = c.take_least-slot.ensures.free;
     maps = ap (λ (m : SlotTable). m.pages) c.take_least-slot.ensures.map;
     pool = refl;
-    filled = c.leave_if_filled.ensures.filled;
-    not_filled = c.leave_if_filled.ensures.not_filled;
+    filled = c.list_as_full_if_filled.ensures.filled;
+    not_filled = c.list_as_full_if_filled.ensures.not_filled;
   });
 }
 
 pub returns-clause-others : goal.returns-clause-others
 returns-clause-others c =
-    taken_others _ _ c.requires.tables c.args.c c.requires.class _ _ (returns-clause-taken c) c.leave_if_filled.ensures.kept c.requires.tables.pool
+    taken_others _ _ c.requires.tables c.args.c c.requires.class _ _ (returns-clause-taken c) c.list_as_full_if_filled.ensures.kept c.requires.tables.pool
 
 pub returns-clause-kept : goal.returns-clause-kept
 returns-clause-kept c =
-    (taken_gains _ _ c.requires.tables c.args.c c.requires.class _ _ (returns-clause-taken c) c.leave_if_filled.ensures.kept
+    (taken_gains _ _ c.requires.tables c.args.c c.requires.class _ _ (returns-clause-taken c) c.list_as_full_if_filled.ensures.kept
     c.requires.tables.pool).kept
 
 pub returns-clause-steps : goal.returns-clause-steps
@@ -57,4 +57,4 @@ returns-clause-steps c =
     let inside = front_inside _ _ c.requires.tables c.args.c c.in-Some.page c.in-Some.ensures.front in
     took_open_steps _ _ c.requires.tables c.args.c c.in-Some.page c.in-Some.ensures.front c.take_least-slot.result _ c.take_least-slot.ensures.free
     (read_back _ _ _ _ c.take_least-slot.ensures.map inside) c.args.steps.now _ _ _
-    c.in-Some.ensures.steps c.take_least-slot.ensures.steps c.leave_if_filled.ensures.steps
+    c.in-Some.ensures.steps c.take_least-slot.ensures.steps c.list_as_full_if_filled.ensures.steps

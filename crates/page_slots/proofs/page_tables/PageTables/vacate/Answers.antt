@@ -12,4 +12,4 @@ pub returns-else-count-eq0-clause-steps : goal.returns-else-count-eq0-clause-ste
 returns-else-count-eq0-clause-steps c =
     let few = used_left _ _ _ _ c.args.slot c.unset.ensures.value c.requires.page c.requires.used c.count.ensures.value in
     kept_steps c.args.self.now.maps.pages c.args.page c.count.result few c.args.which _ _ _ _ c.unset.ensures.steps c.count.ensures.steps c.if-count-eq0.false
-    c.move_if_full.ensures.steps
+    c.list_as_partly_full.ensures.steps

@@ -31,8 +31,8 @@ use denote.Triple.Table.{framed}
 use Rattle.std.proofs.option.Made.{Some-of, none_of}
 use Rattle.std.proofs.Calls.{T_true, T_false}
 use Rattle.std.specs.Prelude.{Option}
-use Rattle.cf_base.specs.contracts.answers.Handle.{the_row as Handle}
-use Rattle.cf_base.proofs.answers.Handle.TheLaws as handle
+use Rattle.cf_base.specs.contracts.results.Handle.{the_row as Handle}
+use Rattle.cf_base.proofs.results.Handle.TheLaws as handle
 use Rattle.step_ledger.specs.Counting.{RoseAtMost}
 use Rattle.step_ledger.specs.contracts.Steps.{the_row as Steps}
 use Rattle.cf_model.specs.Rules.{KeepsRules}

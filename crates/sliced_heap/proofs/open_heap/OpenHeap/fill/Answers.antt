@@ -11,14 +11,14 @@ use Rattle.sliced_heap.proofs.open_heap.OpenHeap.fill.Goals as goal
 pub must_move-requires-clause-page : goal.must_move-requires-clause-page
 must_move-requires-clause-page c = page_within (sliced_seen c.args.self.now) c.requires.kept c.args.k c.requires.job
 
-pub move_to-requires-clause-within : goal.move_to-requires-clause-within
-move_to-requires-clause-within c =
+pub start_move-requires-clause-within : goal.start_move-requires-clause-within
+start_move-requires-clause-within c =
     let h = sliced_seen c.args.self.now in
     let t = c.must_move.ensures.value.0 c.if-must_move.true in
     from_within h c.requires.kept c.args.k c.requires.job ((must_is h c.requires.kept c.args.k c.requires.job).0 t)
 
-pub move_to-requires-clause-live : goal.move_to-requires-clause-live
-move_to-requires-clause-live c =
+pub start_move-requires-clause-live : goal.start_move-requires-clause-live
+start_move-requires-clause-live c =
     let h = sliced_seen c.args.self.now in
     let t = c.must_move.ensures.value.0 c.if-must_move.true in
     number_live h c.requires.kept c.args.k c.requires.job ((must_is h c.requires.kept c.args.k c.requires.job).0 t)
@@ -27,17 +27,17 @@ pub returns-then-must_move-clause-filled : goal.returns-then-must_move-clause-fi
 returns-then-must_move-clause-filled c =
     let h = sliced_seen c.args.self.now in
     let t = c.must_move.ensures.value.0 c.if-must_move.true in
-    let b = c.move_to.ensures.begun in
+    let b = c.start_move.ensures.begun in
     is_filled h c.requires.kept c.args.k c.requires.job ((must_is h c.requires.kept c.args.k c.requires.job).0 t) b.from b.filler c.requires.fresh
-    (sliced_seen c.move_to.new.self) b.handles b.free b.whole
+    (sliced_seen c.start_move.new.self) b.handles b.free b.whole
 
 pub returns-then-must_move-clause-kept : goal.returns-then-must_move-clause-kept
 returns-then-must_move-clause-kept c =
     let h = sliced_seen c.args.self.now in
     let t = c.must_move.ensures.value.0 c.if-must_move.true in
-    let b = c.move_to.ensures.begun in
+    let b = c.start_move.ensures.begun in
     filled_valid h c.requires.kept c.args.k c.requires.job ((must_is h c.requires.kept c.args.k c.requires.job).0 t) b.from b.filler c.requires.fresh
-    (sliced_seen c.move_to.new.self) b.handles b.free b.whole
+    (sliced_seen c.start_move.new.self) b.handles b.free b.whole
 
 pub returns-clause-filled : goal.returns-clause-filled
 returns-clause-filled c =

@@ -1,5 +1,0 @@
-use Rattle.command_line.proofs.ReadAlike.{same_faults, same_matches}
-use Rattle.command_line.proofs.laws.all_such_commands_read_alike.Goals as goal
-
-pub returns : goal.returns
-returns c = record { faults = same_faults; matches = same_matches }

@@ -1,5 +1,0 @@
-use Rattle.command_line.proofs.KnownWords.{other_manager, other_mode}
-use Rattle.command_line.proofs.laws.other_names_are_refused.Goals as goal
-
-pub returns : goal.returns
-returns c = record { mode = other_mode; manager = other_manager }

@@ -1,5 +1,0 @@
-mod TextLemmas
-mod TokenLemmas
-mod ReadBack
-mod GeneratedLemmas
-pub mod CallerLemmas

@@ -1,3 +1,0 @@
-pub mod Generated
-pub mod CommandText
-pub mod ReadBack

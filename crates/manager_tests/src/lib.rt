@@ -1,6 +1,0 @@
-//! Tests of the managers: those with pages, and those with blocks. They have a crate of their own, since a
-//! crate with tests is proved twice.
-#![tactic(auto)]
-
-#[cfg(test)]
-mod tests;

@@ -1,5 +1,0 @@
-use Rattle.page_model.proofs.Writing.{header_shown}
-use Rattle.page_model.proofs.words.headers_show.Goals as goal
-
-pub returns : goal.returns
-returns c = header_shown

@@ -1,4 +1,0 @@
-use Rattle.sliced_heap.proofs.open_heap.OpenHeap.move_to.Goals as goal
-
-pub read-requires : goal.read-requires
-read-requires c = record { within = c.requires.within c.filler-from.result c.filler-from.ensures.filler }
