@@ -325,7 +325,7 @@ def check_recordings():
 # The condition before a claim that begins within a sentence: the page shows such a claim only where that holds.
 CONDITIONS = {
     "classes": "In MovingHeap and NonMovingHeap ", "partly": "With pages (PagedHeap: MovingHeap, NonMovingHeap), ",
-    "blocks": "With blocks (TagHeap: TLSF, Half-Fit), ", "pending": "There ",
+    "blocks": "With blocks (TagHeap: TLSF, Half-Fit), ", "pending": "In mode slice the last two laws hold too, and ",
 }
 
 

@@ -1,14 +1,14 @@
 /* Norphuen: a verified memory manager for real-time programs. It is no drop-in malloc: a program names an object by its
- * handle, and asks for the object's address.
+ * handle, and copies its bytes or asks for its address.
  *
  * A heap has one region of words of 8 bytes, cut into equal pages. A page in use has slots of one size, a size class; an object
- * takes the smallest slot that holds it and its header of a word. nph_open takes all memory, so that later calls take none. Each
- * call on an open heap takes a bounded number of steps (docs/CALLS.md), accesses to a word or to an entry of a table;
- * nph_last_steps returns the steps of the last one. There are eight libraries, and a program may link several:
+ * takes the smallest slot that holds it and its header of a word. nph_open takes all memory, so that later calls take none. A step
+ * is an access to a word or to an entry of a table. docs/CALLS.md has the most steps of each call that counts them, and
+ * nph_last_steps writes those of the last such call. There are eight libraries, and a program may link several:
  *
  *   libnorphuen.a            Compact-fit, moving: a free may move one object, whose handle stays the same
  *   libnorphuen_nonmoving.a  Compact-fit, non-moving: a free may exchange entries of a block table. Lends nothing, since
- *                            an object's words are not side by side
+ *                            an object's words may lie apart
  *   libnorphuen_tlsf.a       TLSF, for comparison: blocks in place of pages. No object moves or changes its length
  *   libnorphuen_half.a       Half-Fit, for comparison: the same, but a free list for each power of two
  *   libnorphuen_sliced.a     Compact-fit, moving, with frees in slices of a set length: "Frees in slices" below
@@ -27,16 +27,17 @@
  *
  * A caller has these duties, which the library cannot test:
  *
- *   - A heap begins as NPH_HEAP. Only these calls change it, and it stays in one struct: no call gets a copy.
- *   - Other pointers are not null and point to what their types say. No two pointers of a call overlap.
- *   - A buffer has `count` bytes. With a count of 0 its pointer is not null either.
+ *   - A heap begins as NPH_HEAP. Only the calls below change it, and it stays in one struct: no call gets a copy.
+ *   - Other pointers point to what their types say. They are not null, but `freed` and `resized` may be. What two pointers of a
+ *     call point to does not overlap.
+ *   - A buffer has `count` bytes, and `needs` has `count` entries. With a count of 0 the pointer is not null either.
  *   - While a heap is lent, the program writes only bytes of live objects, and none beyond an object's length. After
  *     nph_return or nph_close it uses no pointer that it got from the loan.
  *   - One call at a time runs on a heap, in any thread. A lock, a join or a start of a thread orders the calls, and the
  *     uses of a lent heap's bytes.
  *
- * The library tests all else: every number may be passed as a setting, handle, length, offset or class, and every call
- * may be made on a heap that is not open or is lent. No call takes a const heap, since even a read writes the count of
+ * The library tests all else: every number may be passed as a setting, handle, id, task, length, offset or class, and every
+ * call may be made on a heap that is not open or is lent. No call takes a const heap, since even a read writes the count of
  * steps. docs/C.md says what is proved, and what becomes of a handle after its object is freed.
  */
 #ifndef NORPHUEN_H
@@ -94,28 +95,30 @@ typedef struct nph_large_heap { void *at; uint32_t last; bool is_open; } nph_lar
 #define NPH_LARGE_HEAP (nph_large_heap){ NULL, 0, false }
 #endif
 
-/* What a call returns. A call that does not return NPH_OK writes nothing through its pointers; but see nph_images_load. */
+/* What a call returns. A call that does not return NPH_OK leaves the caller's numbers, structures and buffers as they were; but
+ * see nph_images_load. */
 typedef enum nph_status {
     NPH_OK = 0,
-    NPH_SIZE = 1,    /* the object with its header needs more words than a page has */
-    NPH_PROXY = 2,   /* every proxy is in use */
-    NPH_SPACE = 3,   /* no free slot of the class and no free page; with blocks no free block that serves */
-    NPH_UNKNOWN = 4, /* the handle is not live; there is no such class (with blocks there is none) or task */
-    NPH_RANGE = 5,   /* the range passes the end of the object */
+    NPH_SIZE = 1,    /* the object with its header needs more words than a page has; nph_large_malloc: its spine does */
+    NPH_PROXY = 2,   /* every proxy is in use; nph_large_malloc: too few are left */
+    NPH_SPACE = 3,   /* no free slot of the class and no free page; with blocks no free block that serves; with tasks the quota is
+                        too small */
+    NPH_UNKNOWN = 4, /* the handle is not live; no object has the id; there is no such class (with blocks there is none) or task */
+    NPH_RANGE = 5,   /* the range passes the end of the object, or of the caller's buffer */
     NPH_KIND = 6,    /* nph_resize: with blocks there is no resize */
     NPH_CLOSED = 7,  /* the heap is not open */
     NPH_OPEN = 8,    /* nph_open: the heap is open already */
     NPH_LENT = 9,    /* the heap is lent: only nph_return and nph_close are allowed */
-    NPH_MEMORY = 10, /* nph_open: out of memory; the heap is not open */
-    NPH_PAGES = 11,      /* nph_open, nph_bytes_needed: pages are 1 to 4096 */
-    NPH_PAGE_BYTES = 12, /* the same: a page has 512, 1024, and so on by powers of two to 131072 bytes */
-    NPH_BOUND = 13,      /* the same: k is 1 to 64 */
-    NPH_PROXIES = 14,    /* the same: proxies are 1 to 65536 */
-    NPH_REGION = 15,     /* the same: pages * page_bytes is at most 67108864 */
+    NPH_MEMORY = 10, /* out of memory; the heap is not open */
+    NPH_PAGES = 11,      /* pages are 1 to 4096; the quotas exceed the pages */
+    NPH_PAGE_BYTES = 12, /* a page has 512, 1024, and so on by powers of two to 131072 bytes */
+    NPH_BOUND = 13,      /* k is 1 to 64 */
+    NPH_PROXIES = 14,    /* proxies are 1 to 65536; the needs are more objects than a heap or a task may have */
+    NPH_REGION = 15,     /* pages * page_bytes is at most 67108864 */
     NPH_NOT_LENT = 16,   /* nph_return: the heap is not lent */
-    NPH_ENTRIES = 17,    /* nph_pages_needed: there are more than 64 needs */
-    NPH_BUSY = 18,       /* nph_sliced_free, nph_sliced_lend: a job is pending; nph_sliced_malloc: no slot is left but that of the
-                            pending job */
+    NPH_ENTRIES = 17,    /* there are more than 64 needs */
+    NPH_BUSY = 18,       /* nph_sliced_free, nph_sliced_lend: a job is pending; nph_sliced_malloc, nph_sliced_has_room: no slot is
+                            left but that of the pending job */
     NPH_QUANTUM = 19,    /* nph_sliced_open: a quantum is 1 to 16384 words */
     NPH_LIVE = 20,       /* nph_set_bound: an object is live; nph_images_make: one has the id */
     NPH_IMAGE = 21       /* nph_images_load: the bytes are no image, and `offset` says where */
@@ -150,8 +153,9 @@ static inline const char *nph_text(nph_status status) {
     }
 }
 
-/* In place of a handle: in nph_freed and nph_resized no object moved; nph_next takes and writes it at the two ends of a walk. It
- * names no object: each other call with it fails with NPH_UNKNOWN. */
+/* In place of a handle. It names no object. In nph_freed and nph_resized it means that no object moved, from nph_sliced_moving that
+ * none moves. nph_next takes it at the start of a walk, and writes it at the end. On an open heap each other call with it fails
+ * with NPH_UNKNOWN. */
 #define NPH_NONE UINT32_MAX
 
 /* The memory that nph_open asks for: the bytes of all blocks, those of the largest block, and how many blocks. */
@@ -202,10 +206,10 @@ typedef struct nph_heap_totals {
     uint32_t largest;
 } nph_heap_totals;
 
-/* What a heap counted since it was opened. `most_asked` is the most bytes that its live objects asked for after an nph_malloc or
- * nph_resize, and `least_free` the fewest free pages after one, with blocks the fewest bytes outside the used ones: so at most
- * pages - least_free were in use. `moves` counts the objects named as `moved`. The others count each nph_malloc, nph_free and
- * nph_resize that failed with NPH_UNKNOWN, NPH_SIZE, NPH_PROXY or NPH_SPACE. A count stops at UINT64_MAX. */
+/* What a heap counted since it was opened. `most_asked` is the most bytes that its live objects asked for at one time. `least_free`
+ * is the fewest free pages after a call, with blocks the fewest bytes outside used blocks: so at most pages - least_free were in
+ * use. `moves` counts the objects named as `moved`. The others count each nph_malloc, nph_free and nph_resize that failed with
+ * NPH_UNKNOWN, NPH_SIZE, NPH_PROXY or NPH_SPACE. A count stops at UINT64_MAX. */
 typedef struct nph_counted {
     uint64_t most_asked;
     uint64_t least_free;
@@ -216,20 +220,21 @@ typedef struct nph_counted {
     uint64_t space;
 } nph_counted;
 
-/* Opens a heap without objects, of `pages` pages of `page_bytes` bytes. At most `proxies` objects are live at a time, and each
- * size class has at most `k` partly full pages. With blocks the pages are one region without classes, and k means nothing.
- * Fails with NPH_LENT, NPH_OPEN, NPH_PAGES, NPH_PAGE_BYTES, NPH_BOUND, NPH_PROXIES, NPH_REGION or NPH_MEMORY. */
+/* Opens a heap without objects, of `pages` pages of `page_bytes` bytes. At most `proxies` objects are live at a time, and `k` pages
+ * of each size class may be partly full (nph_set_bound changes this for one). With blocks the pages are one region without classes,
+ * and k means nothing. Fails with NPH_LENT, NPH_OPEN, NPH_PAGES, NPH_PAGE_BYTES, NPH_BOUND, NPH_PROXIES, NPH_REGION or
+ * NPH_MEMORY. */
 NPH_CALL nph_status nph_open(nph_heap *heap, uint32_t pages, uint32_t page_bytes, uint32_t k, uint32_t proxies);
 
-/* Writes what nph_open with these settings asks of rattle_alloc, exactly. It never calls rattle_realloc. What the program's
+/* Writes what nph_open with these settings asks of rattle_alloc, exactly. nph_open never calls rattle_realloc. What the program's
  * own functions need for a block, and the nph_heap itself, are not counted. Fails as nph_open does for these settings. */
 NPH_CALL nph_status nph_bytes_needed(uint32_t pages, uint32_t page_bytes, uint32_t k, uint32_t proxies, nph_needed *needed);
 
-/* Writes how many pages of `page_bytes` bytes are enough for a program: with them no nph_malloc and no nph_resize fails with
- * NPH_SPACE, whatever their order, while the live objects are within the `count` needs. With fewer some such call fails so.
- * Needs of the same length add up. The number is the same for every k, and may be more than nph_open takes. Fails with
- * NPH_ENTRIES, NPH_PAGE_BYTES, NPH_BOUND, NPH_SIZE, or with NPH_PROXIES if the needs are more objects than a heap may have.
- * A library with blocks lacks this call. */
+/* Writes how many pages of `page_bytes` bytes are enough for a program: on a heap with them no nph_malloc and no nph_resize fails
+ * with NPH_SPACE, whatever was called before, while the live objects, the new or resized one included, are within the `count`
+ * needs. With fewer pages some program within the needs has an nph_malloc that fails with NPH_SPACE. Needs of the same length add
+ * up. The number is the same for every k, and may be more than nph_open takes. Fails with NPH_ENTRIES, NPH_PAGE_BYTES, NPH_BOUND,
+ * NPH_SIZE, or with NPH_PROXIES if the needs are more objects than a heap may have. A library with blocks lacks this call. */
 NPH_CALL nph_status nph_pages_needed(uint32_t page_bytes, uint32_t k, const nph_need *needs, size_t count, uint32_t *pages);
 
 /* Returns the memory, of a lent heap too. The heap is closed afterwards, and may be opened again. May be called twice. */
@@ -258,36 +263,38 @@ NPH_CALL nph_status nph_length(nph_heap *heap, uint32_t handle, uint32_t *bytes)
 /* Returns what nph_malloc of `bytes` bytes would return now. Makes no object. */
 NPH_CALL nph_status nph_has_room(nph_heap *heap, uint32_t bytes);
 
-/* Writes the words of the slot or block of an object, its headers among them: what nph_free of it would write, and what
- * nph_most_free takes. Fails with NPH_UNKNOWN. */
+/* Writes how many words the slot or block of an object has, its headers among them. nph_free would write the same number, and
+ * nph_most_free takes it. Fails with NPH_UNKNOWN. */
 NPH_CALL nph_status nph_slot_words(nph_heap *heap, uint32_t handle, uint32_t *words);
 
 /* Writes the size class of an object of `bytes` bytes, for nph_figures. Fails with NPH_SIZE. A library with blocks lacks this
  * call. */
 NPH_CALL nph_status nph_class_of(nph_heap *heap, uint32_t bytes, uint32_t *size_class);
 
-/* Writes the figures of a size class; the classes are numbered from 0. Fails with NPH_UNKNOWN if there is no such class. */
+/* Writes the figures of a size class, the fields of nph_class; the classes are numbered from 0. Fails with NPH_UNKNOWN if there
+ * is no such class. */
 NPH_CALL nph_status nph_figures(nph_heap *heap, uint32_t size_class, nph_class *figures);
 
-/* Writes the figures of the whole heap. With blocks this visits each free one. */
+/* Writes the figures of the whole heap, the fields of nph_heap_totals. With blocks this visits each free block. */
 NPH_CALL nph_status nph_totals(nph_heap *heap, nph_heap_totals *totals);
 
 /* Writes the handle of the live object after `handle` into `next`, in a fixed order: the first one if `handle` is NPH_NONE, and
  * NPH_NONE after the last. Fails with NPH_UNKNOWN, also if the object of `handle` was freed: ask for the next one before a free. An
- * object that was made during the walk may be left out. Takes a step for `handle`, and one for each number of an object that it
- * looks at: at most as many as the proxies, rounded up to a power of two. A walk over n objects takes n more in all. */
+ * object that was made during the walk may be left out. Takes a step for `handle` unless that is NPH_NONE, and
+ * one for each number of an object that it looks at: together at most p, the proxies rounded up to a power of two. A walk over n
+ * objects takes p + n steps in all. */
 NPH_CALL nph_status nph_next(nph_heap *heap, uint32_t handle, uint32_t *next);
 
-/* Writes what the heap counted. */
+/* Writes what the heap counted since it was opened: the fields of nph_counted. */
 NPH_CALL nph_status nph_counts(nph_heap *heap, nph_counted *counts);
 
-/* Sets to `k`, 1 to 64, how many pages of the size class with slots of `slot_words` words may be partly full. Fails with NPH_BOUND,
- * with NPH_LIVE if an object is live, or with NPH_UNKNOWN if no class has such slots. A library with blocks lacks this
- * call. */
+/* Sets the bound of the size class with slots of `slot_words` words: at most `k` of its pages, 1 to 64, may be partly full. Fails
+ * with NPH_BOUND, with NPH_LIVE if an object is live, or with NPH_UNKNOWN if no class has such slots. A library with blocks lacks
+ * this call. */
 NPH_CALL nph_status nph_set_bound(nph_heap *heap, uint32_t slot_words, uint32_t k);
 
-/* Writes the steps of the last call on the heap. nph_figures, nph_counts, nph_set_bound, nph_lend, nph_return and this call
- * take none, and leave the count as it was. */
+/* Writes the steps of the last call on the heap that counts them. nph_figures, nph_counts, nph_set_bound, nph_lend, nph_return
+ * and this call take none, and leave the count as it was. */
 NPH_CALL nph_status nph_last_steps(nph_heap *heap, uint64_t *steps);
 
 /* Returns the version of the library, in the form of NPH_VERSION. */
@@ -309,7 +316,8 @@ uint64_t nph_most_free(uint32_t slot_words);
 /* Returns the most steps of nph_resize to `bytes` bytes, from a slot of `old_slot_words` words to one of `slot_words`. */
 uint64_t nph_most_resize(uint32_t bytes, uint32_t old_slot_words, uint32_t slot_words);
 
-/* Returns the most steps of nph_read or nph_write of `count` bytes from byte `at` on. One that is not refused takes just these. */
+/* Returns the most steps of nph_read or nph_write of `count` bytes from byte `at` on. A call that is not refused takes exactly
+ * these. */
 uint64_t nph_most_access(uint32_t at, uint32_t count);
 
 /* Returns the most steps of nph_has_room. */
@@ -322,17 +330,18 @@ uint64_t nph_most_totals(uint32_t free_count);
 uint64_t nph_most_length(void);
 
 /* Pointers to objects. Call nph_place for each object, then nph_lend. Until nph_return the bytes of an object are at
- * nph_bytes(words, place), aligned to 8, and the program reads and writes them there. Each other call but nph_close
- * returns NPH_LENT until then. A library that lends nothing has none of these calls. */
+ * nph_bytes(words, place), aligned to 8, and the program reads and writes them there. Until then each other call on the heap
+ * but nph_close returns NPH_LENT. A library that lends nothing has none of these calls. */
 
-/* Writes the place of an object: its first word, which is in front of its bytes, counted from the first word of the
- * region. It stays the same until the object is freed, resized, or named as `moved`. Fails with NPH_UNKNOWN. */
+/* Writes the place of an object: the index in the region of its first word. A header is in front of its bytes. The place stays the
+ * same until the object is freed, resized, or named as `moved`. Fails with NPH_UNKNOWN. */
 NPH_CALL nph_status nph_place(nph_heap *heap, uint32_t handle, uint32_t *place);
 
 /* Lends the heap, and writes the address of the first word of the region. */
 NPH_CALL nph_status nph_lend(nph_heap *heap, uint64_t **words);
 
-/* Ends the loan: the heap is open again, and its objects have the bytes that the program wrote. Fails with NPH_NOT_LENT. */
+/* Ends the loan: the heap is open again, and its objects have the bytes that the program wrote. Fails with NPH_CLOSED or
+ * NPH_NOT_LENT. */
 NPH_CALL nph_status nph_return(nph_heap *heap);
 
 /* The address of the bytes of an object. With blocks two words are in front of them. */
@@ -383,11 +392,11 @@ NPH_CALL nph_status nph_half_return(nph_half_heap *heap);
 /* Frees in slices: libnorphuen_sliced.a. A free leaves its long work, to clear a slot or to move another object into it, as a
  * job. The free and each nph_sliced_step do a slice of it: at most as many words as the quantum. Each class has at most one
  * partly full page, but the class of a pending job may have two. Objects are read and written also while they move. A program
- * calls nph_sliced_step until nph_sliced_left writes 0: the jobs of a free end after the slices of its slot, and as many again
- * for each nph_sliced_malloc of its class in between. */
+ * calls nph_sliced_step until nph_sliced_left writes 0. The jobs of a free take at most n slices, where n is the words of its
+ * slot divided by the quantum, rounded up, and at most n more for each nph_sliced_malloc of its class in between. */
 
-/* Opens a heap without objects, as nph_open with k = 1, whose slices have at most `quantum` words. The codes are those of
- * nph_open, and NPH_QUANTUM. */
+/* Opens a heap without objects, as nph_open with k = 1, whose slices have at most `quantum` words. Fails with NPH_LENT,
+ * NPH_OPEN, NPH_PAGES, NPH_PAGE_BYTES, NPH_PROXIES, NPH_REGION, NPH_QUANTUM or NPH_MEMORY. */
 NPH_CALL nph_status nph_sliced_open(nph_sliced_heap *heap, uint32_t pages, uint32_t page_bytes, uint32_t proxies, uint32_t quantum);
 
 /* As nph_bytes_needed, for nph_sliced_open with these settings and any quantum. */
@@ -433,7 +442,8 @@ NPH_CALL nph_status nph_sliced_class_of(nph_sliced_heap *heap, uint32_t bytes, u
 /* As nph_figures. The slot of a pending job counts as used: its page is one of the class, but it is no live object. */
 NPH_CALL nph_status nph_sliced_figures(nph_sliced_heap *heap, uint32_t size_class, nph_class *figures);
 
-/* As nph_totals. The slot of a pending job counts as taken, and its page as used, but it is no live object and asks for no bytes. */
+/* As nph_totals. The slot of a pending job counts as taken, and its page as used, but it is no live object and asks for no
+ * bytes. */
 NPH_CALL nph_status nph_sliced_totals(nph_sliced_heap *heap, nph_heap_totals *totals);
 
 /* Writes the steps of the last call on the heap that counts them. nph_sliced_left, nph_sliced_moving, nph_sliced_figures,
@@ -457,8 +467,9 @@ static inline void *nph_sliced_bytes(uint64_t *words, uint32_t place) { return w
 /* As nph_version. */
 uint32_t nph_sliced_version(void);
 
-/* The most steps of each call, before it is made. A refused call takes at most as many.
- * Returns the most steps of nph_sliced_malloc. */
+/* The most steps of each call, before it is made. A refused call takes at most as many. */
+
+/* Returns the most steps of nph_sliced_malloc. */
 uint64_t nph_sliced_most_malloc(void);
 
 /* Returns the most steps of nph_sliced_free in a heap with this quantum. */
@@ -551,11 +562,11 @@ NPH_OR_NULL_OF(nph_half)
 #endif
 
 /* Heaps of tasks: libnorphuen_tasks.a. Sixteen tasks, numbered 0 to 15, share the pages of a heap. Each has its own objects and
- * handles, and a quota, the most pages that it may use; no page has objects of two tasks. So what a task's calls return and write
- * does not depend on the others: a task may hit its quota, and no other task notices. Each class of a task has at most one
- * partly full page. A handle means the object of the task that the call names, and two tasks may have equal handles. A call that
- * names another task than these sixteen fails with NPH_UNKNOWN. The calls with a handle and nph_tasks_malloc count steps; the
- * others leave the count as it was. */
+ * handles, and a quota, the most pages that it may use; no page has objects of two tasks. So a task may hit its quota, and no other
+ * task notices: of a task's calls only nph_tasks_set_quota fails because of the quotas of others. Each class of a task has at most
+ * one partly full page. A handle means the object of the task that the call names, and two tasks may have equal handles. A call
+ * that names a task above 15 fails with NPH_UNKNOWN. Only nph_tasks_malloc and the calls with a handle count steps, if there is
+ * such a task; the others leave the count as it was. */
 
 /* A task: its quota, the pages that have its objects, and its live objects. */
 typedef struct nph_task {
@@ -577,8 +588,8 @@ NPH_NONNULL void nph_tasks_close(nph_tasks_heap *heap);
  * the task uses more than `pages` pages. */
 NPH_CALL nph_status nph_tasks_set_quota(nph_tasks_heap *heap, uint32_t task, uint32_t pages);
 
-/* Makes an object of a task, as nph_malloc. Fails with NPH_SPACE if and only if the task's objects with this one need more pages
- * than its quota. */
+/* Makes an object of a task, as nph_malloc. Fails with NPH_SIZE, NPH_PROXY if the task's proxies are all in use, or NPH_SPACE if
+ * the task's objects with this one need more pages than its quota. */
 NPH_CALL nph_status nph_tasks_malloc(nph_tasks_heap *heap, uint32_t task, uint32_t bytes, uint32_t *handle);
 
 /* Frees an object of a task, as nph_free. What moves is of the same task. */
@@ -593,7 +604,7 @@ NPH_CALL nph_status nph_tasks_read(nph_tasks_heap *heap, uint32_t task, uint32_t
 /* As nph_length. */
 NPH_CALL nph_status nph_tasks_length(nph_tasks_heap *heap, uint32_t task, uint32_t handle, uint32_t *bytes);
 
-/* Writes the figures of a task. */
+/* Writes the figures of a task, the fields of nph_task. */
 NPH_CALL nph_status nph_tasks_task(nph_tasks_heap *heap, uint32_t task, nph_task *figures);
 
 /* Writes the figures of a size class of a task, as nph_figures. */
@@ -602,9 +613,9 @@ NPH_CALL nph_status nph_tasks_figures(nph_tasks_heap *heap, uint32_t task, uint3
 /* Writes how many pages are in no quota. */
 NPH_CALL nph_status nph_tasks_unassigned(nph_tasks_heap *heap, uint32_t *pages);
 
-/* Tests whether the quota of a task is enough for `count` needs: returns NPH_OK if no nph_tasks_malloc of the task fails with
- * NPH_SPACE, whatever the order of its calls, if it begins without objects and its live objects stay within the needs. Else
- * fails with NPH_SPACE, or as nph_tasks_least_quota does. */
+/* Tests whether the quota of a task is enough for `count` needs: for a task that begins without objects, keeps its quota, and
+ * whose live objects stay within the needs, no nph_tasks_malloc then fails with NPH_SPACE, whatever the order of its calls. Fails
+ * as nph_tasks_least_quota does, else with NPH_SPACE if the quota is not enough. */
 NPH_CALL nph_status nph_tasks_admit(nph_tasks_heap *heap, uint32_t task, const nph_need *needs, size_t count);
 
 /* Writes the least quota for which nph_tasks_admit returns NPH_OK. Fails with NPH_ENTRIES if there are more than 64 needs, with
@@ -627,17 +638,19 @@ NPH_CALL_OR_NULL static inline nph_status nph_tasks_free_or_null(nph_tasks_heap 
 /* Images: libnorphuen_images.a. A program names an object by an id that it chooses, 0 to 65535, in place of a handle. It can save
  * the whole heap as an image and load it later: the same objects under the same ids. The image of a heap depends on its settings
  * without k, and on the bytes under each id, but not on how the heap came about. docs/USING.md describes the format.
- * These calls count no steps. A call on an id without an object, or on an id of more than 16 bits, fails with NPH_UNKNOWN. */
+ * Calls on such a heap count no steps. A call on an id without an object, or on an id of more than 16 bits, fails with
+ * NPH_UNKNOWN. */
 
-/* Opens a heap as nph_open does. It takes 512 KiB more memory, for the table of ids. */
+/* Opens a heap as nph_open does, with 512 KiB for the table of ids, and no memory for handles. */
 NPH_CALL nph_status nph_images_open(nph_images_heap *heap, uint32_t pages, uint32_t page_bytes, uint32_t k, uint32_t proxies);
 
 /* As nph_bytes_needed, for nph_images_open, and for nph_images_load of an image with these settings. */
 NPH_CALL nph_status nph_images_bytes_needed(uint32_t pages, uint32_t page_bytes, uint32_t k, uint32_t proxies, nph_needed *needed);
 
-/* Opens a heap with the settings and the objects of an image of `count` bytes, and with this k, since an image has none. Fails
+/* Opens a heap with the settings and the objects of an image of `count` bytes. An image has no k: the heap gets this one. Fails
  * with NPH_OPEN, NPH_BOUND, NPH_MEMORY or NPH_IMAGE; a closed heap then stays closed. With NPH_IMAGE it writes into `offset` where
- * the bytes stop being an image: the first byte of the field that breaks a rule or is cut by the end, or of what follows the image. */
+ * the bytes stop being an image: the first byte of the field that breaks a rule or is cut by the end, or of what follows the
+ * image. */
 NPH_CALL nph_status nph_images_load(nph_images_heap *heap, const void *bytes, size_t count, uint32_t k, uint64_t *offset);
 
 /* As nph_close. */
@@ -646,7 +659,7 @@ NPH_NONNULL void nph_images_close(nph_images_heap *heap);
 /* Makes an object of `bytes` bytes, all zero, under an id. Fails with NPH_UNKNOWN, NPH_LIVE, NPH_SIZE, NPH_PROXY or NPH_SPACE. */
 NPH_CALL nph_status nph_images_make(nph_images_heap *heap, uint32_t id, uint32_t bytes);
 
-/* Frees the object of an id, which may then name another. */
+/* Frees the object of an id, which may then name another. Fails with NPH_UNKNOWN. */
 NPH_CALL nph_status nph_images_free(nph_images_heap *heap, uint32_t id);
 
 /* As nph_write. */
@@ -661,18 +674,18 @@ NPH_CALL nph_status nph_images_length(nph_images_heap *heap, uint32_t id, uint32
 /* Writes how many bytes the heap's image has: 20, and for each object 6 and its bytes. */
 NPH_CALL nph_status nph_images_image_bytes(nph_images_heap *heap, uint64_t *bytes);
 
-/* Writes the heap's image to the start of a buffer of `count` bytes, and its length into `written`. Fails with NPH_RANGE if the image
- * has more bytes. The heap stays as it is. */
+/* Writes the heap's image to the start of a buffer of `count` bytes, and its length into `written`. Fails with NPH_RANGE if the
+ * image has more bytes. The heap stays as it is. */
 NPH_CALL nph_status nph_images_save(nph_images_heap *heap, void *bytes, size_t count, uint64_t *written);
 
 /* As nph_version. */
 uint32_t nph_images_version(void);
 
 /* Long objects: libnorphuen_large.a. An object that fits a page, of at most page_bytes - 8 bytes, is one object of a moving heap
- * with k = 1. A longer one is cut into parts of that many bytes and a rest, each an object of that heap, and a spine, which has four
- * bytes for each part and must fit a page: so with pages of 4,096 bytes the longest object has 4,177,936. Parts and spines count
- * as objects wherever objects are counted. nph_large_malloc, nph_large_free, nph_large_write, nph_large_read and nph_large_totals
- * count steps; the others leave the count as it was. */
+ * with k = 1. A longer one is cut into parts of that many bytes and a rest, each an object of that heap, and a spine, which has
+ * four bytes for each part and must fit a page: so with pages of 4,096 bytes the longest object has 4,177,936 bytes. Parts and
+ * spines count as objects wherever objects are counted. nph_large_malloc, nph_large_free, nph_large_write, nph_large_read and
+ * nph_large_totals count steps; the others leave the count as it was. */
 
 /* Opens a heap without objects, as nph_open with k = 1. */
 NPH_CALL nph_status nph_large_open(nph_large_heap *heap, uint32_t pages, uint32_t page_bytes, uint32_t proxies);
@@ -683,8 +696,8 @@ NPH_CALL nph_status nph_large_bytes_needed(uint32_t pages, uint32_t page_bytes, 
 /* As nph_close. */
 NPH_NONNULL void nph_large_close(nph_large_heap *heap);
 
-/* Makes an object, as nph_malloc. Fails with NPH_SIZE if its spine does not fit a page, with NPH_PROXY if it has more parts than
- * proxies are left, or with NPH_SPACE if and only if all objects with this one need more pages than there are. */
+/* Makes an object, as nph_malloc. Fails with NPH_SIZE if its spine does not fit a page, with NPH_PROXY if it takes more proxies
+ * than are left, or with NPH_SPACE if all objects with this one need more pages than there are. */
 NPH_CALL nph_status nph_large_malloc(nph_large_heap *heap, uint32_t bytes, uint32_t *handle);
 
 /* Frees an object with all its parts. Fails with NPH_UNKNOWN. */
@@ -736,8 +749,8 @@ nph_block rattle_realloc(void *at, size_t kept, size_t bytes, size_t align);
 /* Takes back a block. */
 void rattle_dealloc(void *at);
 
-/* Of src/norphuen_arena.c alone: how many bytes of its array were in use so far. An array of this size serves the same
- * calls. */
+/* Of src/norphuen_arena.c alone: how many bytes of its array were in use so far, from its start. An array of this size serves the
+ * same calls. */
 size_t nph_arena_most(void);
 
 #ifdef __cplusplus

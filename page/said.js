@@ -135,7 +135,7 @@ const CLAIM = {
   physical: ["On NonMovingHeap an object keeps its physical blocks until it is freed or resized to another class", 'PagedHeap::free'],
   bad: ['a line within the limit is not in the grammar at its place', ''],
   slice: ['a function of script and quantum, but for the word p prints', 'MeetsSliced'],
-  busy: ["A malloc's Busy means that with the new object and the job's slot the objects need more pages than there are", 'when_a_malloc_is_busy'],
+  busy: ["A malloc's Busy means that with the new object and the job's slot the objects need more pages than there are", 'when_no_slot_is_left'],
   pending: ['a free of a live id is busy exactly while a job is pending', 'who_is_busy_and_how_long'],
   moving: ['MovingHeap · 17 · 20 + s · 34 + s + t', ''],
   nonmoving: ['NonMovingHeap · 18 · 22 + s + s/2 · 38 + 3(s + t)/2', ''],
@@ -151,7 +151,7 @@ const CLAIM = {
   admit: ["After yes the task's mallocs reply ok or live as long as its quota is no smaller and its live objects, the new one included, are within what it had declared", 'an_admitted_task_is_served'],
   parts: ['all spines and parts would need more pages than there are', 'LargeHeap::malloc'],
   long: ['A malloc or free of a long object takes at most the steps of one malloc or free for each part and for the spine, and of an access of four bytes for each part.', 'LargeHeap'],
-  counted: ['A step is an access to one table entry or word, or a change of two.', ''],
+  counted: ['A step accesses a table entry or word, swaps two entries, or moves a word.', ''],
   classes: ['a class with n live objects, m to a page, has at most ⌊n/m⌋ + k pages; k, 1 to 64, may be partly full.', ''],
 };
 
