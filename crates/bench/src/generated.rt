@@ -1,5 +1,6 @@
 //! Runs the first commands of the generator with seed 1 (line `g` of the profiler's script) on a manager,
-//! without a session and without printing replies. Each command resets the meter first.
+//! without a session and without printing replies. The manager must be open. Each command resets the
+//! meter first.
 ghost use Rattle.std.specs.Prelude.{IsTrue};
 
 use crate::script::{NONE, Table};
@@ -7,10 +8,10 @@ use cf_model::Manager;
 use script_reader::{CommandRef, Generator};
 use step_ledger::Meter;
 
-/// For a profiler, runs one generated command: a malloc, free, write, or read of 8 bytes. Returns
-/// whether it succeeded. It fails if the manager refuses it; a malloc also if its id has a handle in
-/// `table`, each other one if its id has none. A malloc that succeeds sets the id's handle, and a
-/// free removes it.
+/// For a profiler, runs one generated command: a malloc, free, write, or read of 8 bytes. The manager stays open.
+/// Returns whether the command succeeded. A command fails if the manager refuses it; a malloc also if its id has a
+/// handle in `table`, each other one if its id has none. A malloc that succeeds sets the id's handle, and a free
+/// removes the handle, even if the free fails.
 fn call<H: Manager>(heap: &mut H, c: CommandRef, table: &mut Table, meter: &mut Meter) -> bool
     requires { IsTrue (H.state heap.old).is_open }
     ensures { IsTrue (H.state heap.new).is_open }

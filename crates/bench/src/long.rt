@@ -1,5 +1,6 @@
 //! Makes the calls of a script on a heap of long objects over the moving manager, the heap `l` of a script:
-//! it has the calls `m` (malloc), `w` (write) and `r` (read).
+//! it has the calls `m` (malloc), `w` (write) and `r` (read). `long_write` and `long_read` require
+//! that the heap is open.
 ghost use Rattle.std.specs.Prelude.{◌≡◌, IsTrue};
 
 use crate::script::{LINE, Line, Table};
@@ -40,9 +41,9 @@ fn long_read<H: Manager>(
     heap.read(h, at, out, meter).is_ok()
 }
 
-/// Makes the call of a line on long objects, and returns whether it succeeded: false for a letter that is no call of
-/// this heap, or if it is closed. `table` has the handle of each ID, which a malloc sets, and the bytes that are written
-/// or read.
+/// For a profiler, makes the call of a line on long objects, and returns whether it succeeded: false for a letter that
+/// is no call of this heap, or if the heap is closed. `table` has the handle of each ID, which a malloc sets, and the
+/// bytes that are written or read.
 fn apply<H: Manager>(
     heap: &mut LargeHeap<H>,
     line: Line,
@@ -67,9 +68,8 @@ fn apply<H: Manager>(
     }
 }
 
-/// Opens a heap of long objects with the settings, but the bound 1, and makes the calls, the script's lines
-/// after the first. Returns the number of calls that succeeded, or `None` if a line is bad or memory runs
-/// out.
+/// For a profiler, opens a heap of long objects with the settings, but the bound 1, and makes the calls, the script's
+/// lines after the first. Returns the number of calls that succeeded, or `None` if a line is bad or memory runs out.
 pub(crate) fn run(
     alloc: Global,
     settings: &Settings,

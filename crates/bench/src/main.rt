@@ -122,8 +122,8 @@ fn on_heap(rt: &HostRuntime, text: &[u8]) -> Option<u64> {
     }
 }
 
-/// Runs the script of standard input and prints `served N`, where N is the number of calls that succeeded.
-/// Exits with 3 if the script is bad or can't be read or memory runs out, and with 5 if printing fails.
+/// Runs the script of standard input and prints `served N`, where N is the number of calls that succeeded. Exits with
+/// 0; with 3 if the script is bad or can't be read or memory runs out, and with 5 if printing fails.
 fn main(rt: HostRuntime) -> ExitCode {
     let served = match all_input(&rt) {
         Some(text) => on_heap(&rt, text.as_slice()),

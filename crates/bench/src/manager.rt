@@ -1,6 +1,6 @@
 //! Makes the calls of a script on a manager: the heaps `c` (moving), `n` (non-moving), `t` (TLSF) and `h`
 //! (Half-Fit). Each call of the manager is in a function that is not inlined, so that a profile shows it, and
-//! resets the meter first.
+//! resets the meter first. Such a function requires that the manager is open.
 ghost use Rattle.std.specs.Prelude.{IsTrue};
 
 use crate::generated;

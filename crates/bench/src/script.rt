@@ -53,8 +53,7 @@ impl Table {
         Some(Table { handles, bytes })
     }
 
-    /// For a profiler, the handle that was last set for an id; `NONE` if none was, or the id is above
-    /// 65,535.
+    /// For a profiler, returns the handle that was last set for an id; `NONE` if none was, or the id is above 65,535.
     pub(crate) fn handle(&self, id: u32) -> Handle {
         match self.handles.get(id as usize) {
             Some(number) => Handle(*number),
@@ -62,7 +61,7 @@ impl Table {
         }
     }
 
-    /// Sets the handle of an id; does nothing if the id is above 65,535.
+    /// Sets the handle of an id in the bench table, `NONE` to remove it; does nothing if the id is above 65,535.
     pub(crate) fn name(&mut self, id: u32, h: Handle) {
         if let Some(number) = self.handles.get_mut(id as usize) {
             *number = h.0;

@@ -1,6 +1,7 @@
 //! Makes the calls of a script on the sliced heap, the heap `s` of a script: `m` (malloc), `f` (free), `s`
 //! (one slice of the pending job), and `d` (a number of these, drawn at random). Each
-//! call of the heap resets the meter first.
+//! call of the heap resets the meter first. `sliced_malloc`, `sliced_free` and
+//! `sliced_step` require that the heap is open.
 ghost use Rattle.std.specs.Prelude.{IsTrue};
 
 use crate::script::{LINE, Line, NONE, Table};
@@ -14,8 +15,8 @@ use step_ledger::Meter;
 /// The number of ids that drawn calls use.
 const ENTRIES: u32 = 256;
 
-/// The length in bytes of a drawn malloc, by the random number `word`: half are drawn below 256, and
-/// the longest have 131,070.
+/// Returns the length in bytes of a drawn malloc, by the random number `word`: half are drawn below 256, and the
+/// longest have 131,070.
 fn length_of(word: u64) -> u32 {
     let size = ((word >> 8) % 65_536) as u32;
     match word % 8 {
@@ -54,9 +55,10 @@ fn sliced_step(heap: &mut SlicedHeap, meter: &mut Meter)
     heap.step(meter.steps());
 }
 
-/// For a profiler, makes the call that the random number `word` determines. For one of three numbers it is `step`,
-/// which does a slice of the pending job. Else the number selects an id: if the id has no handle in `table`, the call
-/// is a malloc, else a free of its object. Does nothing if the heap is closed.
+/// For a profiler, makes the call that the random number `word` determines. For one of three numbers the call is
+/// `step`, which does a slice of the pending job. Else the number selects an id below 256: if the id has no handle in
+/// `table`, the call is a malloc, which sets the handle; else it is a free of the object, which removes the handle. If
+/// the heap refuses, the handle stays. Does nothing if the heap is closed.
 fn drawn(heap: &mut SlicedHeap, word: u64, table: &mut Table, meter: &mut Meter) {
     if !heap.is_open() {
         return;
@@ -74,8 +76,9 @@ fn drawn(heap: &mut SlicedHeap, word: u64, table: &mut Table, meter: &mut Meter)
     }
 }
 
-/// Makes the call of a line on the sliced heap, or for the letter `d` a number of drawn calls. Returns whether it
-/// succeeded: for `s` and `d` true; for a letter that is no call of this heap, or if it is closed, false.
+/// For a profiler, makes the call of a line on the sliced heap, or for the letter `d` a number of drawn calls. Returns
+/// whether the call succeeded: for `s` and `d` true; for a letter that is no call of this heap, or if the heap is
+/// closed, false.
 fn apply(heap: &mut SlicedHeap, line: Line, table: &mut Table, meter: &mut Meter) -> bool {
     if !heap.is_open() {
         return false;
@@ -104,9 +107,9 @@ fn apply(heap: &mut SlicedHeap, line: Line, table: &mut Table, meter: &mut Meter
     }
 }
 
-/// Opens the heap with the numbers of the line `first`: its pages, the bytes of a page, and the quantum in words,
-/// clamped to 1 to 16,384. Makes the calls of the lines `calls`. Returns the number of lines whose calls
-/// succeeded, or `None` if a line is bad or memory runs out.
+/// For a profiler, opens the sliced heap with the numbers of the line `first`: its pages, the bytes of a page, and the
+/// quantum in words, clamped to 1 to 16,384. Makes the calls of the lines `calls`. Returns the number of lines whose
+/// calls succeeded, or `None` if a line is bad or memory runs out.
 pub(crate) fn run(
     alloc: Global,
     first: Line,

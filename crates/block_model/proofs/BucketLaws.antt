@@ -1,5 +1,5 @@
 -- The free-list rules of TLSF (336 lists) and Half-Fit (24) are lawful: list numbers don't fall as the size grows, and from the first list that is searched
--- on, each block has the words that are needed.
+-- on, each block has the words that are needed. For `bucket_of` and `rounded_up` of TLSF: the list and the rounded size for s words, by the logarithm of s.
 use Rattle.std.proofs.Common.{◌≡◌, ℕ, true, false, ◌+◌, ◌-◌, ◌*◌, ◌/◌, ◌^◌, ◌<◌, ◌≤◌, arith, sym, ◌∙◌, inl, inr, ap, refl, subst}
 use Rattle.std.specs.Prelude.{nat_le, nat_lt}
 use Rattle.std.proofs.lemmas.Bool.{cases_lt}

@@ -1,4 +1,5 @@
--- What other crates' proofs may cite of this crate, re-exported: free lists, bounds on steps, the words and the tiling after a call. Declares nothing.
+-- What other crates' proofs may cite of this crate, re-exported: free lists and their order, bounds on steps, and of a tiling its words, the blocks that they
+-- show, what a malloc and a free leave of it, and how many words are used. Declares nothing.
 pub use Rattle.block_model.proofs.BucketLaws.{half_fit_lawful, tlsf_lawful}
 pub use Rattle.block_model.proofs.StepBounds.{carve_at_most, next_at_most, none_at_most, previous_at_most, release_at_most}
 pub use Rattle.block_model.proofs.FreeOrderLemmas.{carve_follows, carve_is_malloc, carve_keeps_lists, first_is, led_other, led_same, length-led, length-without}

@@ -1,5 +1,7 @@
--- For the laws of the order of free blocks: which block a malloc takes next from the free lists, that there is one if a block may serve, and that the lists
--- after it contain exactly the free blocks.
+-- For the laws of the order of free blocks: which block a malloc takes next from the free lists, that there is one if a block may serve, that a malloc in order
+-- is a malloc of the model, that only one follows the order, and that the lists after it, or of a region that is one free block, contain exactly the free
+-- blocks. Also: the first and the last list with a block, the lists after a block leaves one or becomes the first of one, and when two lists of lists are
+-- equal.
 use Rattle.std.proofs.Common.{◌≡◌, ◌≢◌, ℕ, zero, suc, ◌+◌, ◌-◌, ◌^◌, ◌<◌, ◌≤◌, List, [], ◌∷◌, ◌++◌, Option, Some, None, length, drop, replicate, arith, refl, sym, ap, ◌∙◌, inl, inr, subst}
 use Rattle.std.specs.Prelude.{nat_eq}
 use Rattle.std.specs.List.{Contains, IsDistinct}

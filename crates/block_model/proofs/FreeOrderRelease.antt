@@ -1,5 +1,5 @@
 -- For the order of free blocks: which free blocks there are after a free, which coalesces the freed block with its free neighbours, and that the free lists
--- after it contain exactly these.
+-- after it contain exactly these. Also: without two free neighbours coalescing changes nothing, and no free block ends where the blocks begin.
 use Rattle.std.proofs.Common.{◌≡◌, ◌≢◌, ℕ, Bool, true, false, ◌+◌, ◌-◌, ◌^◌, ◌<◌, ◌≤◌, List, [], ◌∷◌, Some, None, cond, arith, refl, sym, ap, ◌∙◌, inl, inr, subst}
 use Rattle.std.specs.Prelude.{◌&&◌, is_none, nat_eq}
 use Rattle.std.proofs.lemmas.Bool.{cases_Bool, cases_eq}

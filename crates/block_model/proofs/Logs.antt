@@ -1,4 +1,4 @@
--- For the free-list rules, whose lists follow the powers of two: the binary logarithm, rounded down.
+-- For the free-list rules, whose lists follow the powers of two: these powers, and the binary logarithm, rounded down.
 use Rattle.std.proofs.Common.{◌≡◌, ℕ, zero, suc, true, false, ◌+◌, ◌*◌, ◌^◌, ◌<◌, ◌≤◌, arith, sym, ◌∙◌, inl, inr}
 use Rattle.std.specs.Prelude.{nat_le}
 use Rattle.std.proofs.lemmas.Bool.{cases_lt}

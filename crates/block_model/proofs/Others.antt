@@ -1,5 +1,7 @@
 -- For the laws `other_blocks_stay` and `malloc_gives_what_is_needed`: after a malloc or a free every other used block stays and no other becomes used; the
--- block of a malloc has the words that are needed or one more.
+-- block of a malloc has the words that are needed or one more. After a free no used block begins at the address of the freed one. For other proofs: a block
+-- lies within the words that the blocks fill, which don't end before they begin; no used block is free; and an address finds the first block if it begins
+-- there, else one of the others.
 use Rattle.std.proofs.Common.{◌≡◌, ◌≢◌, ℕ, Bool, true, false, ◌+◌, ◌-◌, ◌^◌, ◌≤◌, List, [], ◌∷◌, ◌++◌, Some, None, arith, sym, ◌∙◌, inl, inr, ap, refl, subst}
 use Rattle.std.specs.Prelude.{◌&&◌, is_none}
 use Rattle.std.proofs.lemmas.Bool.{cases_lt, cases_eq}

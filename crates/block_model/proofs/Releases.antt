@@ -1,5 +1,5 @@
--- For the law `free_keeps_tiling`: after a free, which coalesces the freed block with its free neighbours, the blocks still fill the region without a gap,
--- and no two neighbours are both free.
+-- After a free, which coalesces the freed block with its free neighbours, the blocks still fill the region without a gap, and no two neighbours are both free:
+-- the law `free_keeps_tiling`.
 use Rattle.std.proofs.Common.{◌≡◌, ℕ, Bool, true, false, ◌+◌, List, [], ◌∷◌, arith, inl, inr, refl, subst}
 use Rattle.std.specs.Prelude.{◌&&◌}
 use Rattle.std.proofs.lemmas.Bool.{cases_eq, and_parts}

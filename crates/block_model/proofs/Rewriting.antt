@@ -1,5 +1,6 @@
 -- For the law `a_block_gets_other_contents`: after one used block gets other contents and every word outside of it stays, the words are those of the same
--- blocks, with these contents.
+-- blocks, with these contents. For other proofs: two blocks share no word; an address finds the same block if one more is put before the list; and blocks keep
+-- their headers if word 0 of each stays.
 use Rattle.std.proofs.Common.{◌≡◌, ◌≢◌, ℕ, ◌+◌, ◌-◌, ◌<◌, ◌≤◌, List, [], ◌∷◌, Some, None, length, get_or, map, arith, sym, ◌∙◌, inl, inr, ap, refl}
 use Rattle.std.specs.Prelude.{◌⊎◌, ◌&&◌, cond, nat_le, nat_lt}
 use Rattle.std.specs.List.{range_with_len}

@@ -1,5 +1,5 @@
 -- For the laws of `costs.rt`: a carve (finding a free block and making it used) takes at most 23 steps, a release (clearing a block and coalescing it) at
--- most 37 and one for each word.
+-- most 37 and one for each word. Also: a search that finds no block takes at most 2; to lead a list past a block takes at most 3 before it and 2 behind it.
 use Rattle.std.proofs.Common.{ℕ, Bool, true, false, ◌+◌, ◌-◌, ◌/◌, ◌%◌, ◌^◌, ◌≤◌, ◌==◌, List, Option, Some, None, cond, length, get_or, arith}
 use Rattle.std.specs.Prelude.{nat_le, nat_lt}
 use Rattle.block_model.specs.Buckets.{FreeLists}

@@ -1,4 +1,5 @@
--- For the count of used words that heaps with blocks keep: a malloc adds the words of its block to the sum over all used blocks, and a free subtracts them.
+-- For the count of used words that heaps with blocks keep: a malloc adds the words of its block to the sum over all used blocks, and a free subtracts them; the
+-- sum is at most the words of the region, and 0 if the region is one free block.
 use Rattle.std.proofs.Common.{◌≡◌, ◌≢◌, ℕ, Bool, true, false, ◌+◌, ◌-◌, ◌≤◌, List, [], ◌∷◌, ◌++◌, Some, None, arith, ◌∙◌, inl, inr, ap, refl, subst}
 use Rattle.std.specs.Prelude.{◌&&◌, cond, is_none}
 use Rattle.std.proofs.lemmas.Bool.{cases_lt, cases_eq}

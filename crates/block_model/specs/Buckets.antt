@@ -1,5 +1,5 @@
--- The free-list rules of TLSF (2004) and of Half-Fit (1995), and when a rule is right (`AreLawful`). A bucket is the number of a free list. Sizes and needs
--- are in words.
+-- The free-list rules of TLSF (2004) and of Half-Fit (1995), the binary logarithm that they use, and when a rule is right (`AreLawful`). A bucket is the number
+-- of a free list. Sizes and needs are in words.
 use Rattle.std.specs.Prelude.{ℕ, zero, suc, ◌+◌, ◌-◌, ◌*◌, ◌/◌, ◌^◌, ◌<◌, ◌≤◌, if◌then◌else◌, nat_le, nat_lt}
 
 -- the greatest f up to `top` with 2^f at most n, else 0
@@ -11,23 +11,23 @@ log_up_to (suc top) n = if nat_le (2 ^ suc top) n then suc top else log_up_to to
 abbrev pub log : ℕ → ℕ
 log n = log_up_to 31 n
 
--- TLSF, the list of a free block of s words: a list for each size below 16, then 16 lists for each power of two
+-- the number of the TLSF list for a free block of s words: a list for each size below 16, then 16 lists for each power of two
 unfoldable pub tlsf_bucket : ℕ → ℕ
 tlsf_bucket s = if nat_lt s 16 then s else 16 + 16 * (log s - 4) + (s - 2 ^ log s) / 2 ^ (log s - 4)
 
--- TLSF: the need, raised so far that every block in the list of the result has at least `need` words
+-- the size whose TLSF list a search begins with: the need, raised so far that every block in the list of the result has at least `need` words
 unfoldable pub tlsf_rounded : ℕ → ℕ
 tlsf_rounded need = if nat_lt need 16 then need else need + 2 ^ (log need - 4) - 1
 
--- TLSF, the list that a search begins with: the first one in which every block has at least `need` words
+-- the number of the TLSF list that a search begins with: the first one in which every block has at least `need` words
 abbrev pub tlsf_search : ℕ → ℕ
 tlsf_search need = tlsf_bucket (tlsf_rounded need)
 
--- Half-Fit, the list of a free block of s words: list i holds the sizes from 2^i on, below 2^(i+1)
+-- the number of the Half-Fit list for a free block of s words: list i holds the sizes from 2^i on, below 2^(i+1)
 abbrev pub half_fit_bucket : ℕ → ℕ
 half_fit_bucket s = log s
 
--- Half-Fit, the list that a search begins with: the first one in which every block has at least `need` words
+-- the number of the Half-Fit list that a search begins with: the first one in which every block has at least `need` words
 abbrev pub half_fit_search : ℕ → ℕ
 half_fit_search need = if nat_le need 1 then 0 else log (need - 1) + 1
 

@@ -1,5 +1,6 @@
--- How many steps calls on blocks cost, by the blocks and words that they find. A carve, by a malloc, finds a free block and splits it; a release, by a free,
--- clears a block and coalesces it with neighbours.
+-- How many steps calls on blocks, and the parts of these calls, cost, by the blocks and words that they find. A carve, by a malloc, finds a free block and
+-- splits it; a release, by a free, clears a block and coalesces it with neighbours; another call finds the largest free block. Also: how many free blocks
+-- belong to a list, and the link of a block after another one left its list.
 use Rattle.std.specs.Prelude.{ℕ, ◌+◌, ◌-◌, ◌*◌, ◌/◌, ◌%◌, ◌^◌, ◌==◌, ◌&&◌, List, Option, Some, None, if◌then◌else◌, nat_eq, nat_le, nat_lt, count_by}
 use Rattle.std.specs.Prelude.{length, slice_index}
 use Rattle.block_model.specs.Buckets.{FreeLists}
@@ -96,13 +97,15 @@ next_merge_steps link end more words = (if end == words then 0 else 1) + (if mor
 abbrev pub previous_merge_steps : ℕ → ℕ → ℕ → ℕ → ℕ → ℕ
 previous_merge_steps link at less end words = (if at == 0 then 0 else 1) + (if less == 0 then 0 else join_steps link end words)
 
--- The link of the block at `a` after another block left the list. It was `link` before, and the block that left had the link `gone`. If the block at `a` was
--- right before the one that left, its next block is now the next block of the one that left. Otherwise the link is unchanged.
+-- The link of the block at `a`, changed if that block was right before one that left the list. It was `link` before, and the block that left had the link
+-- `gone`. If the block at `a` was right before the one that left, its next block is now the next block of the one that left. Otherwise the link is unchanged,
+-- even if the block at `a` was right after the one that left.
 abbrev pub link_if_before_removed : ℕ → ℕ → ℕ → ℕ
 link_if_before_removed a link gone = if a == gone / 2 ^ 32 then link_word (gone % 2 ^ 32) (link / 2 ^ 32) else link
 
--- The same link as `link_if_before_removed`, which changes it if the block at `a` was right before the one that left. This definition also changes it if the block at `a`
--- was right after the one that left: its previous block is then the previous block of the one that left.
+-- The link of the block at `a` after another block left the list. It was `link` before, and the block that left had the link `gone`. If the block at `a` was
+-- right before the one that left, its link changes as in `link_if_before_removed`. If it was right after the one that left, its previous block is now the
+-- previous block of the one that left. Otherwise the link is unchanged.
 abbrev pub link_after_removal : ℕ → ℕ → ℕ → ℕ
 link_after_removal a link gone = if a == gone % 2 ^ 32 then link_word (link_if_before_removed a link gone % 2 ^ 32) (gone / 2 ^ 32) else link_if_before_removed a link gone
 
@@ -118,7 +121,8 @@ release_by words at size more less many =
     + previous_merge_steps (link_then more (at - less) (slice_index words (at - less + 1)) (slice_index words (at + size + 1))) at less (at + (size + more)) (length words)
     + (2 + pushed_steps many)
 
--- `release_by`, by the blocks afterwards (`new`), which show how many blocks the list of the merged block has
+-- The steps of releasing the used block of `size` words at `at`, as `release_by` counts them. The blocks afterwards (`new`) show how many blocks the list of
+-- the merged block then has.
 abbrev pub release_sized : FreeLists → List ℕ → ℕ → ℕ → ℕ → ℕ → List Block → ℕ
 release_sized rule words at size more less new = release_by words at size more less (list_length rule new (rule.bucket (less + (size + more))))
 

@@ -1,5 +1,6 @@
--- The order in which free blocks are used: a free list for each bucket, the next block for a need, the lists after a carve (by a malloc) or a release (by a
--- free), and their links in words.
+-- The order in which free blocks are used: a free list for each bucket, the first and the last list with a block, the next block for a need, and the links of
+-- the lists in words. Also: the lists of a region that is one free block, the lists after a carve (by a malloc) or a release (by a free), and the block that a
+-- release leaves.
 use Rattle.std.specs.Prelude.{◌≡◌, ℕ, ◌+◌, ◌-◌, ◌*◌, ◌^◌, ◌↔◌, List, [], ◌∷◌, Option, Some, None, length, slice_index, slice_index_or, slice_set, map, drop, nat_eq, nat_le}
 use Rattle.std.specs.Prelude.{not, replicate, cond, if◌then◌else◌}
 use Rattle.std.specs.List.{Contains, IsDistinct, filter}
@@ -111,7 +112,7 @@ no_block = 2 ^ 32 - 1
 abbrev pub link_word : ℕ → ℕ → ℕ
 link_word next previous = next + 2 ^ 32 * previous
 
--- the address of the first block of a list, or `no_block`
+-- the address of the first block of a list, or `no_block` if the list is empty
 abbrev pub first : List ℕ → ℕ
 first [] = no_block
 first (a ∷ xs) = a

@@ -1,5 +1,6 @@
--- A tiling: used and free blocks that fill a region without a gap, no two free ones side by side; what a malloc and a free do to the blocks, and counts of
--- them. Addresses and sizes are in words.
+-- A tiling: used and free blocks that fill a region without a gap, no two free ones side by side; which block begins at an address; what a malloc needs, which
+-- free block may serve it, and what a malloc and a free do to the blocks. Also: how many blocks are used and how many free, and the words of the used ones and
+-- of the largest free one. Addresses and sizes are in words.
 use Rattle.std.specs.Prelude.{◌≡◌, ◌≢◌, ℕ, Bool, false, ◌&&◌, ◌+◌, ◌-◌, ◌/◌, ◌≤◌, List, [], ◌∷◌, ◌++◌, Option, Some, None, if◌then◌else◌, is_none, is_some}
 use Rattle.std.specs.Prelude.{nat_eq, nat_le, max, count_by, sum_by, cond}
 use Rattle.block_model.specs.Buckets.{FreeLists}
@@ -88,7 +89,7 @@ abbrev pub joined : Block → List Block → List Block
 joined b [] = b ∷ []
 joined b (c ∷ cs) = if is_free b && is_free c then record { address = b.address; size = b.size + c.size; owner = None } ∷ cs else (b ∷ c ∷ cs)
 
--- the blocks after all free neighbours became one block
+-- the blocks after each row of neighbouring free blocks became one block
 abbrev pub merged : List Block → List Block
 merged [] = []
 merged (b ∷ bs) = joined b (merged bs)
@@ -98,7 +99,7 @@ abbrev pub freed_at : List Block → ℕ → List Block
 freed_at [] a = []
 freed_at (b ∷ bs) a = if nat_eq b.address a then record { address = b.address; size = b.size; owner = None } ∷ bs else b ∷ freed_at bs a
 
--- a free: the block at address a becomes free, and is coalesced with its free neighbours
+-- the blocks after a free of the one at address a, which becomes free and is coalesced with its free neighbours
 abbrev pub released : List Block → ℕ → List Block
 released blocks a = merged (freed_at blocks a)
 

@@ -29,9 +29,9 @@ pub fn a_malloc_in_order_is_a_malloc()
 {}
 
 /// The lists contain exactly the free blocks, each in the list of its bucket (`AreListsOf`). This is so in a
-/// region of one free block. It still is after a malloc of the demand `d`, and after a free of the block at
-/// `place`, that follow the lists. The rule is lawful (`AreLawful`) with `count` lists; the region has `words`
-/// words, at most 2^23.
+/// region of one free block, of at least two words. It still is after a malloc of the demand `d`, and after a
+/// free of the used block at `place`, that follow the lists. The rule is lawful (`AreLawful`) with `count`
+/// lists; the region has `words` words, at most 2^23.
 pub fn lists_stay_lists_of_the_blocks()
     ensures opening { (rule : FreeLists) (count words : ℕ) → AreLawful rule count → 2 ≤ words → words ≤ 2 ^ 23
         → AreListsOf rule count (record { blocks = one_free_block words; lists = first_lists rule count words }) }

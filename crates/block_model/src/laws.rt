@@ -1,7 +1,7 @@
 //! Laws of tilings, which show that the definitions mean what they should. A tiling is a list of
-//! blocks that fill a region without a gap. In the clauses `rule` is the free-list rule, `d` the need
-//! (at least two words) and the owner of a malloc, `place` the address of a block. The functions do
-//! nothing; each contract is a law.
+//! blocks of at least two words that fill a region without a gap, no two free ones side by side. In
+//! the clauses `rule` is the free-list rule, `d` the need (at least two words) and the owner of a
+//! malloc, `place` the address of a block. The functions do nothing; each contract is a law.
 ghost use Rattle.std.specs.Prelude.{◌≡◌, ◌≢◌, ℕ, ◌⊎◌, ◌+◌, ◌^◌, ◌<◌, ◌≤◌, List, Some, length, slice_index};
 ghost use Rattle.block_model.specs.Buckets.{FreeLists, AreLawful, tlsf, half_fit};
 ghost use Rattle.block_model.specs.ReadWords.{HaveTags, read_blocks, tiling_words};

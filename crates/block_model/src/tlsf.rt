@@ -6,7 +6,8 @@ ghost use Rattle.block_model.specs.Buckets.{tlsf_bucket, tlsf_rounded, tlsf_sear
 /// How many free lists there are, for blocks of up to `2^23` words.
 pub const COUNT: u32 = 336;
 
-/// The number of the TLSF list that holds the free blocks of `size` words.
+/// Returns the number of the TLSF list that holds the free blocks of `size` words. `size` must be at most 2^24. For
+/// 2^24 the number is `COUNT`, which no list has.
 pub fn bucket_of(size: u32) -> u32
     requires { size ≤ 2 ^ 24 }
     ensures { result ≡ tlsf_bucket size }
@@ -18,8 +19,8 @@ pub fn bucket_of(size: u32) -> u32
     16 + 16 * (power - 4) + ((size - (1 << power)) >> (power - 4))
 }
 
-/// The number of the TLSF list that a search for `need` words begins with: the first one in which every block has at
-/// least `need` words.
+/// Returns the number of the TLSF list that a search for `need` words, at most 2^23, begins with: the first one in
+/// which every block has at least `need` words.
 pub fn search_for(need: u32) -> u32
     requires { need ≤ 2 ^ 23 }
     ensures { result ≡ tlsf_search need }
@@ -27,8 +28,8 @@ pub fn search_for(need: u32) -> u32
     bucket_of(rounded_up(need))
 }
 
-/// The size whose list a search for `need` words begins with: `need`, raised so far that every
-/// block in the list of the result has at least `need` words.
+/// Returns the size whose TLSF list a search for `need` words, at most 2^23, begins with: `need`, raised so far that
+/// every block in the list of the result has at least `need` words. The result is at most 2^24.
 fn rounded_up(need: u32) -> u32
     requires { need ≤ 2 ^ 23 }
     ensures value { result ≡ tlsf_rounded need }

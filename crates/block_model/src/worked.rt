@@ -16,8 +16,8 @@ pub fn a_search_is_rounded_up()
     ensures second { Carves tlsf (used 0 31 1 ∷ free 31 33 ∷ []) (record { need = 32; owner = 2 }) 31 (used 0 31 1 ∷ used 31 33 2 ∷ []) }
 {}
 
-/// A malloc of 504 bytes needs 65 words, more than the region has. One of 488 bytes needs 63. One
-/// word would be left, too little for a block, so the object gets all 64.
+/// A malloc of 504 bytes needs 65 words, more than the region has, and TLSF refuses it. One of 488
+/// bytes needs 63. One word would be left, too little for a block, so the object gets all 64.
 pub fn a_remainder_of_a_word_stays()
     ensures needs { (block_need 504 ≡ 65) × (block_need 488 ≡ 63) }
     ensures refused { LacksBlock tlsf (one_free_block 64) 65 }

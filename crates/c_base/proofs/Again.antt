@@ -1,4 +1,4 @@
--- For `LendableHeap::held`: a struct whose heap is open is that with these flags.
+-- For `LendableHeap::held`: a struct with a heap, whose flags are proved to be `true` (open) and `false` (lent), equals the struct with these flags.
 use mathlib.Core.Bool.{Bool-set}
 use mathlib.Core.HLevel.{is_prop→PathP}
 use base.Stored.{Coded-set}

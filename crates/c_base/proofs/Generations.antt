@@ -1,4 +1,6 @@
--- Laws of the handles that C has (`Handles`): an object's handle names it, a handle whose number was freed names no object until its number was freed as many times as it has generations, and a handle of an earlier heap names none.
+-- Laws of the handles that C has (`Handles`): an object's handle names it, and a handle whose number was freed names no object until its number was freed as
+-- many times as it has generations; no handle is `none`. Also, for `Handles`: the low bits of a handle, the next generation, and that the handles that
+-- `Handles::new` makes are those of a heap just opened.
 use Rattle.std.proofs.Common.{◌≡◌, ◌≢◌, ℕ, zero, suc, cond, ◌+◌, ◌-◌, ◌*◌, ◌/◌, ◌%◌, ◌^◌, ◌<◌, ◌≤◌, List, [], ◌∷◌, length, bit_and, max, refl, sym, ◌∙◌, ap, subst, inl, inr, arith}
 use Rattle.std.specs.Prelude.{◌⊎◌, nat_eq, nat_lt, slice_index}
 use Rattle.std.proofs.lemmas.Bool.{cond-true, cond-false, le-ltb, lt-ltb, eq-eqb, ne_eqb, cases_eq, cases_lt}

@@ -1,4 +1,5 @@
--- For `laws`, and for the laws of each library: what keeps the rules of the handles, that the handle of a malloc is new, that no object has the number `none`, and that a handle of an earlier heap names nothing.
+-- For `laws`, and for the laws of each library: what keeps the rules of the handles, that the handle of a malloc is new, that no object has the number `none`,
+-- what a call for a number that there is not returns, and that a handle of an earlier heap names nothing.
 use Rattle.std.proofs.Common.{◌≡◌, ◌≢◌, ℕ, zero, suc, ◌+◌, ◌-◌, ◌*◌, ◌/◌, ◌%◌, ◌^◌, ◌<◌, ◌≤◌, List, [], ◌∷◌, length, max, refl, sym, ◌∙◌, ap, subst, inl, inr, arith, cond, ℤ, pos, Option, Some, None}
 use Rattle.std.specs.FinMap.{FinMap, get}
 use Rattle.std.specs.Ordering.{nat_cmp}

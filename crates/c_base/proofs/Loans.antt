@@ -1,4 +1,5 @@
--- For `Loan`, which owns the words of a heap and what makes the heap whole again: how to put it together, to take it apart, and to end the loan.
+-- For `Loan`, which owns the words of a heap and what makes the heap whole again: its machine value; how to put it together, to take it apart, and to end the
+-- loan; when the heap may be replaced by one with as many words (`replaced`). A block that has the fields of a heap isn't empty (`fit_some`).
 use Rattle.std.proofs.Common.{◌≡◌, ℕ, List, [], ◌∷◌, ◌++◌, refl, subst, length, Option, Some, None, IsSome, sym}
 use seplogic.Ra.Ura.{Ura}
 use base.Fraction.{full_share}

@@ -1,4 +1,4 @@
--- The words of a region after all of them were replaced, as at the end of a loan.
+-- The words of a region after all of them were replaced, as at the end of a loan, and after bytes were then written into some.
 use Rattle.std.proofs.Common.{◌≡◌, ℕ, ◌+◌, ◌-◌, ◌^◌, ◌<◌, inl, inr, List, ◌++◌, length, get_or, refl, sym, ap, ◌∙◌, subst, arith}
 use Rattle.std.proofs.lemmas.Bool.{cases_lt}
 use Rattle.std.proofs.lemmas.List.{append-nil, drop_all, get_or_default}

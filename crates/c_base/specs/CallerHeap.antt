@@ -1,4 +1,5 @@
--- What a caller in C has for a heap: a closed heap, an open one, or an open one that is lent. T is the state of a heap.
+-- What a caller in C has for a heap: a closed heap, an open one, or an open one that is lent. Also which of the three it is, with the codes of calls that it
+-- refuses; the address of the block of a loan; and the heap after it is closed. T is the state of a heap.
 use Rattle.std.specs.Prelude.{ℕ, ℤ, pos, Bool, true, false, Option, Some, None, Result, Ok, Err}
 use denote.RawPtr.{Ptr}
 
@@ -26,7 +27,7 @@ lent_now (Closed last) = false
 lent_now (Opened h) = false
 lent_now (Lent h w) = true
 
--- the largest handle of the heap before, if the heap is closed; else the code of an open: 8 (`OPEN`) or 9 (`LENT`)
+-- the largest handle of the heap before, if the heap is closed; else the code of a call to open it: 8 (`OPEN`) or 9 (`LENT`)
 abbrev pub closed_now : {T : Type 0} → CallerHeap T → Result ℕ ℤ
 closed_now (Closed last) = Ok last
 closed_now (Opened h) = Err (pos 8)

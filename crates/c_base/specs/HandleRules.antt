@@ -1,4 +1,4 @@
--- What is true of the handles of a heap: when it is opened, and in every state.
+-- What is true of the handles of a heap: when it is opened, in every state, and of the handle of a malloc.
 use Rattle.std.specs.Prelude.{◌≡◌, ℕ, ◌/◌, ◌*◌, ◌^◌, ◌+◌, ◌<◌, ◌≤◌, List, None, length, slice_index}
 use Rattle.std.specs.FinMap.{FinMap, get}
 use Rattle.std.specs.Ordering.{nat_cmp}
@@ -30,7 +30,7 @@ pub record IsHandleOf (count n handle : ℕ) : Type 0 where
   pub whole : handle ≡ generation * count + n
   pub in_range : generation + 1 < 2 ^ 32 / count
 
--- each number below their count has a handle
+-- the count of these handles is a power of two (`IsCount`), and each number below it has a handle of that number (`IsHandleOf`)
 pub record AreHandles (handles : List ℕ) : Type 0 where
   pub count : IsCount (length handles)
   pub each : (n : ℕ) → n < length handles → IsHandleOf (length handles) n (slice_index handles n)

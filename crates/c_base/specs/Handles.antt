@@ -1,14 +1,15 @@
--- The handles that C has. `handles` has for each number below its length, a power of two, the handle that names it now. A free raises that handle by the length. So the low bits of a handle are the number of an object, and
--- the others its generation.
+-- The handles that C has. `handles` has for each number below its length, a power of two, the handle that names it now. A free raises that handle by the
+-- length. So the low bits of a handle are the number of an object, and the others its generation. The handles of a heap just opened are larger than those of
+-- the heap before, or begin from 0 if too few are larger.
 use Rattle.std.specs.Prelude.{ℕ, ◌+◌, ◌-◌, ◌*◌, ◌%◌, ◌^◌, List, Option, Some, None, Result, Ok, Err, cond, length, max, nat_eq, nat_lt, slice_index, slice_set}
 use Rattle.std.specs.List.{fold, range_with_len}
 use Rattle.cf_base.specs.declared.results.Handle.{Handle}
 
--- in place of a handle or a number: there is none. It is larger than each of both
+-- the value in place of a handle or an object's number that says that there is none; it is larger than every handle and every number
 abbrev pub none : ℕ
 none = 4294967295
 
--- the handle that C has for object `number`
+-- the handle that C has for object `number`, of which only the low bits count
 abbrev pub handle_of : List ℕ → ℕ → ℕ
 handle_of handles number = slice_index handles (number % length handles)
 
@@ -34,7 +35,8 @@ abbrev pub moved_handle : List ℕ → Option Handle → ℕ
 moved_handle handles (Some h) = handle_of handles h.0
 moved_handle handles None = none
 
--- the handle of number 0 in a heap of `count` numbers that was just opened: the least multiple of `count` that is larger than `last`, or 0 if too few handles are larger
+-- the handle of number 0 in a heap of `count` numbers that was just opened: the least multiple of `count` that is larger than `last`, or 0 if fewer than three times
+-- `count` values of 32 bits are larger
 abbrev pub base_of : ℕ → ℕ → ℕ
 base_of count last = cond (nat_lt (last + 3 * count) (2 ^ 32)) (last - last % count + count) 0
 

@@ -1,7 +1,8 @@
--- A heap whose words can be lent, and the fields that it has in memory, without its invariant.
+-- A heap whose words can be lent, and the fields that it has in memory, without its invariant; and that words have 64 bits (`AreWords`).
 use Rattle.std.specs.Prelude.{◌≡◌, ℕ, ◌^◌, ◌<◌, List, Option, Some, None, get_or, length}
 
--- for the type T of an open heap and the type S of its fields: the words of a heap, the fields with other words in place of the heap's, whether they are those of a heap, and of which; and the largest handle that a number of a heap has
+-- for the type T of an open heap and the type S of its fields: the `words` of a heap; the fields with other words in place of the heap's (`with_words`); whether fields are those of a heap (`fits`), and the `state` of that
+-- heap; and the largest handle that a number of a heap has (`last`)
 pub record Lending (T S : Type 0) : Type 1 where
   pub words : T → List ℕ
   pub with_words : S → List ℕ → S
@@ -14,7 +15,7 @@ pub record IsLooseOf {T S : Type 0} (L : Lending T S) (a : S) (x : T) : Type 0 w
   pub fit : L.fits a
   pub shown : L.state a ≡ x
 
--- both blocks have a heap, the one its fields
+-- the first block has the fields of the heap in the second; false if one of them is empty
 abbrev pub AreOf : {T S : Type 0} → Lending T S → Option S → Option T → Type 0
 AreOf L None h = ⊥
 AreOf L (Some a) None = ⊥

@@ -1,4 +1,4 @@
--- What a heap needs, as a caller in C gets it.
+-- The memory that opening a heap asks for, as a caller in C gets it.
 use Rattle.std.specs.Prelude.{◌≡◌, ℕ, ℤ, pos, Option, Some, None}
 use Rattle.std.specs.Int.{IsNextPowerOfTwo}
 use Rattle.cf_base.specs.declared.needed.BytesNeeded.{BytesNeeded}
@@ -6,11 +6,11 @@ use Rattle.cf_base.specs.declared.settings.SettingFault.{SettingFault}
 use Rattle.c_base.specs.Codes.{fault_code}
 use Rattle.c_base.specs.declared.results.NphNeeded.{NphNeeded}
 
--- the numbers for a caller in C
+-- the memory b in the structure for a caller in C
 abbrev pub shown_bytes : BytesNeeded → NphNeeded
 shown_bytes b = record { total = b.total; largest = b.largest; blocks = b.blocks }
 
--- what a heap needs, where `bytes` takes the count of its handles: the least power of two that is not below `proxies`
+-- `needed` is the memory that `bytes` has for the count of a heap's handles, the least power of two that is not below `proxies`
 abbrev pub IsOfHandles : ℕ → (ℕ → BytesNeeded) → BytesNeeded → Type 0
 IsOfHandles proxies bytes needed = (count : ℕ) × IsNextPowerOfTwo proxies count × (needed ≡ bytes count)
 

@@ -20,12 +20,12 @@ abbrev pub freed_shown : List ℕ → NphFreed → Result Freed NotLive → NphF
 freed_shown handles before (Ok f) = record { slot_words = f.slot_words; moved = moved_handle handles f.moved }
 freed_shown handles before (Err e) = before
 
--- the code of a call for what there may be: 0, or 4 (`UNKNOWN`) if there is none
+-- the code of a call that looks something up, such as a class or a live object: 0 if it is there, else 4 (`UNKNOWN`)
 abbrev pub found_code : {T : Type 0} → Option T → ℤ
 found_code (Some x) = pos 0
 found_code None = pos 4
 
--- the caller's number after a call for a number: this, or the number before the call if there is none
+-- the caller's number after a call that looks up a number: the number found, or the number before the call if there is none
 abbrev pub found_number : Option ℕ → ℕ → ℕ
 found_number (Some n) before = n
 found_number None before = before

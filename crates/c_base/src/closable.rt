@@ -22,8 +22,9 @@ pub trait Openable: Sized {
     fn bytes_needed(s: &Settings) -> BytesNeeded
         ensures { opening.needs (profile_of s.now) result };
 
-    /// `Openable`: opens a heap with these settings. Its handles, if it has any, are larger than
-    /// `last`, or from 0 on if too few are larger. Returns `None` if out of memory.
+    /// `Openable`: opens a heap with these settings, whose bound k the type must take (`opening`).
+    /// Its handles, if it has any, are larger than `last`, or from 0 on if too few are larger.
+    /// Returns `None` if out of memory.
     fn open(memory: Memory, s: &Settings, last: u32) -> Option<Box<Self, Global>>
         requires { opening.takes s.now.k }
         ensures { IfSome result (λ b. opening.is_fresh (profile_of s.now) last b.value) };
@@ -115,8 +116,9 @@ impl<T: Openable + Drop> ClosableHeap<T> {
         }
     }
 
-    /// Opens this `ClosableHeap` with these settings. Returns `DONE`; else, with nothing changed, `OPEN` if the heap is
-    /// open already, the code of the first setting out of range, or `MEMORY`.
+    /// Opens this `ClosableHeap` with these settings, whose bound k the type must take (`Openable`). Returns `DONE`;
+    /// else, with nothing changed, `OPEN` if the heap is open already, the code of the first setting out of range, or
+    /// `MEMORY`.
     pub fn open(&mut self, memory: Memory, pages: u32, page_bytes: u32, k: u32, proxies: u32) -> i32
         requires { T.opening.takes k }
         ensures { IsOpenBy (setting_fault pages page_bytes k proxies) (T.opening.is_fresh (profile_from pages page_bytes k proxies)) (caller_heap self.old) result (caller_heap self.new) }

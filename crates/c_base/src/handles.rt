@@ -10,9 +10,9 @@ use cf_base::{BytesNeeded, Handle, numbers_from};
 use std::alloc::Global;
 use std::marker::Model;
 
-/// For each number of an object, the handle that names it now (`of`). The low bits of a handle,
-/// those of `mask`, are its number, and each number of so many bits has a handle. A handle above
-/// `limit` is of the last generation.
+/// For each object number from 0 to `mask`, the handle that names it now (`of`). The low bits of a
+/// handle, those that are 1 in `mask`, are the number, and the others the generation. A handle
+/// above `limit` is of the last generation.
 #[derive(Drop)]
 pub struct Handles {
     of: Vec<u32>,
@@ -34,8 +34,9 @@ impl Model for Handles {
     ghost invariant = { λ h. AreCounted h.of.items h.mask h.limit };
 }
 
-/// C's handle of number 0 in a heap just opened with `count` numbers: the least multiple of `count`
-/// that is larger than `last`, the largest handle before; or 0 if too few are larger.
+/// C's handle of number 0 in a heap just opened with `count` numbers, 1 to 131,071: the least
+/// multiple of `count` that is larger than `last`, the largest handle before; or 0 if fewer than
+/// three times `count` values of 32 bits are larger.
 fn base(count: u32, last: u32) -> u32
     requires some { 1 ≤ count }
     requires few { count < 131072 }
@@ -49,9 +50,9 @@ fn base(count: u32, last: u32) -> u32
 }
 
 impl Handles {
-    /// The handles of a heap just opened with `proxies` proxies, as many as `proxies` rounded up to
-    /// a power of two. They are larger than `last`, or from 0 on if too few are larger. Returns
-    /// `None` if out of memory.
+    /// The handles of a heap just opened with `proxies` proxies, 1 to 65,536: as many as `proxies`
+    /// rounded up to a power of two. They are larger than `last`, or from 0 on if too few are
+    /// larger. Returns `None` if out of memory.
     pub fn new(alloc: Global, proxies: u32, last: u32) -> Option<Handles>
         requires some { 1 ≤ proxies }
         requires few { proxies ≤ 65536 }
@@ -67,7 +68,8 @@ impl Handles {
         })
     }
 
-    /// The memory that the handles of a heap with `proxies` proxies need: one block.
+    /// The memory that the handles of a heap with `proxies` proxies, 1 to 65,536, need: one block,
+    /// with 4 bytes for each handle.
     pub fn bytes_needed(proxies: u32) -> BytesNeeded
         requires some { 1 ≤ proxies }
         requires few { proxies ≤ 65536 }
@@ -93,15 +95,15 @@ impl Handles {
         handle & self.mask
     }
 
-    /// The handle that C has for object `number`.
+    /// The handle that C has for object `number`, of which only the low bits count.
     pub fn handle_of(&self, number: u32) -> u32
         ensures { result ≡ handle_of self.now number }
     {
         self.of[self.number(number) as usize]
     }
 
-    /// The number that a handle of C names; `NONE`, which no object has, if that number has another
-    /// handle now.
+    /// The object number that a handle of C names: the low bits of the handle, if the number there
+    /// has this handle now; else `NONE`, which no object has.
     pub fn number_in(&self, handle: u32) -> u32
         ensures { result ≡ number_in self.now handle }
     {
@@ -124,7 +126,8 @@ impl Handles {
         }
     }
 
-    /// After a free of the object that `handle` named: gives its number C's next handle (`next`).
+    /// Gives the number in `handle` (its low bits) C's next handle (`next`), after a free of the
+    /// object that `handle` named.
     pub fn raise(&mut self, handle: u32)
         ensures { self.new ≡ raised self.old (handle % length self.old) }
     {

@@ -15,7 +15,7 @@ pub fn a_freed_handle_names_nothing()
 
 /// A handle that C has when a heap is closed (`old`) names nothing in the next heap just opened in
 /// the same C struct `nph_heap` (`new`), whatever its number of proxies; provided that no handle in
-/// `old` has reached the last three generations of `new`.
+/// `old` is among the last `3 * length new` values of 32 bits.
 pub fn a_handle_of_an_earlier_heap_names_nothing()
     ensures { (old new : List ℕ) (n proxies : ℕ) → n < length old → AreFirstHandles proxies (largest old) new
         → largest old + 3 * length new < 2 ^ 32 → number_in new (handle_of old n) ≡ none }

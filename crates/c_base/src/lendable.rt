@@ -42,7 +42,7 @@ impl<T: Lendable<S>, S> LendableHeap<T, S> {
     }
 
     /// If this `LendableHeap` is closed, returns the largest handle of the heap that was closed
-    /// last; else the code with which a call that opens is refused: `OPEN` or `LENT`.
+    /// last; else the code with which a call to open it is refused: `OPEN` or `LENT`.
     pub fn closed(&self) -> Result<u32, i32>
         ensures { result ≡ closed_now (caller_heap self.now) }
     {
@@ -55,7 +55,8 @@ impl<T: Lendable<S>, S> LendableHeap<T, S> {
         }
     }
 
-    /// Returns the code of a call on a heap that is not open: `LENT` or `CLOSED`.
+    /// Returns the code of a call on this `LendableHeap` if it is not open: `LENT` if it is lent,
+    /// else `CLOSED`.
     pub fn refusal(&self) -> i32
         ensures { result ≡ refusal_code (caller_heap self.now) }
     {

@@ -12,21 +12,24 @@ use std::marker::{Model, PhantomData};
 /// A type of open heap whose words can be lent. The type `S` has the same fields in the same
 /// memory, but no invariant, since a caller in C may write any words.
 pub trait Lendable<S>: Sized {
-    /// The words and the largest handle of a heap, which values of `S` are the fields of which
-    /// heap, and these fields with other words.
+    /// How a heap of this type lends its words (`Lending`): its words and largest handle, which
+    /// values of `S` are the fields of a heap, the state of that heap, and the fields with other
+    /// words in place of the heap's.
     ghost lending: { Lending Self S };
 
-    /// For a loan, returns the same block as one of type `S`.
+    /// For a loan, returns the block of an open heap as the block of that heap's fields, of type
+    /// `S`.
     fn loosened(block: HeapBlock<Self>) -> HeapBlock<S>
         requires { IsSome block.held }
         ensures { AreOf lending result.held block.held };
 
-    /// After a loan, returns the same block, its type that of a heap.
+    /// After a loan, returns the block of the fields of an open heap as the block of that heap.
     fn tightened(block: HeapBlock<S>) -> HeapBlock<Self>
         requires { IsFit lending block.held }
         ensures { AreOf lending block.held result.held };
 
-    /// `Lendable`: borrows all words of the heap. When the borrow ends, the fields have the words as they then are.
+    /// `Lendable`: borrows all words of the heap whose fields `parts` are. When the borrow ends, the fields have the
+    /// words as they then are.
     fn all_words(parts: &mut S) -> &mut [u64]
         requires { lending.fits parts.old }
         ensures* writes_back { sem 𝓛 (Lends S.row (Array u64 0) parts.entry result (lending.with_words parts.old)) }
@@ -78,7 +81,8 @@ impl<T: Lendable<S>, S> Loan<T, S> {
         split(T::loosened(block))
     }
 
-    /// Ends this loan: returns the block with its heap again, which has the words as they are then.
+    /// Ends this loan, which must be one of a heap: returns `block`, which must have the address of
+    /// the loan's block, with the heap again. The heap has the words as they are then.
     pub fn end(self, block: HeapBlock<T>) -> HeapBlock<T>
         requires some { IsSome self.heap }
         requires address { self.block ≡ block.at }

@@ -8,8 +8,9 @@ use crate::handles::Handles;
 use crate::results::NphNeeded;
 use cf_base::BytesNeeded;
 
-/// Returns the memory that opening a heap asks for: what its manager asks for (`manager`), a block
-/// for the handles of `proxies` proxies, and a block of `held_bytes` bytes for the open heap.
+/// Returns the memory that opening a heap asks for: what its manager asks for (`manager`, fewer
+/// than `2^31` blocks and `2^45` bytes), a block for the handles of `proxies` proxies, 1 to 65,536,
+/// and a block of `held_bytes` bytes, below `2^32`, for the open heap.
 pub fn needed_with(manager: BytesNeeded, proxies: u32, held_bytes: u64) -> NphNeeded
     requires some { 1 ≤ proxies }
     requires low { proxies ≤ 65536 }

@@ -1,5 +1,5 @@
 -- For proofs about `exchanged`, as of a block table: two runs of a list change places. The number that each number of the runs becomes (its partner), and the
--- entries of the list afterwards.
+-- length and the entries of the list afterwards, which determine it.
 use Rattle.std.proofs.Common.{◌≡◌, ℕ, true, false, ◌+◌, ◌-◌, ◌<◌, ◌≤◌, List, length, get_or, arith, sym, ◌∙◌, inl, inr, ap, refl}
 use Rattle.std.specs.Prelude.{◌⊎◌, nat_le, nat_lt}
 use Rattle.std.proofs.lemmas.List.FromFn.{length-map-range_with_len, get_or-map-range_with_len}

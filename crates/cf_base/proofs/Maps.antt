@@ -1,4 +1,5 @@
--- Finite maps whose keys are numbers: lookups and the number of keys after an insertion or a removal. Maps with the same lookups are equal.
+-- Finite maps whose keys are numbers: lookups and the number of keys after an insertion or a removal, what two of them on one key come to, and the removal of a
+-- missing key. A key has one value, and maps with the same lookups are equal.
 use Rattle.std.proofs.Common.{◌≡◌, ◌≢◌, ℕ, cond, ◌+◌, ◌-◌, Some, None, sym, ◌∙◌, ap, refl, inl, inr}
 use Rattle.std.specs.Option.{is_some}
 use Rattle.std.specs.Prelude.{◌⊎◌}

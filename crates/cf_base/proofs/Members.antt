@@ -1,4 +1,5 @@
--- For proofs about lists of pages or numbers: which numbers are in a list, that none is in it twice, and the list without one number.
+-- For proofs about lists of pages or numbers: which numbers are in a list or a range, that none is in it twice, and the list without one number. A list is
+-- empty or has a first number. A list of different numbers below n has at most n of them.
 use Rattle.std.proofs.Common.{◌≡◌, ◌≢◌, ℕ, zero, suc, true, false, ◌+◌, ◌<◌, ◌≤◌, List, [], ◌∷◌, length, get_or, cond, eqb, arith, refl, sym, ◌∙◌, ap, inl, inr}
 use Rattle.std.specs.Prelude.{◌⊎◌, not, nat_eq, ◌||◌}
 use Rattle.std.specs.List.{Contains, IsDistinct, AllByRecursion, list_any, range_with_len}

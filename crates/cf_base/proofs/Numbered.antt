@@ -1,4 +1,5 @@
--- For proofs about `numbered`, as of the tables of ids and proxies: lookups and changes in the finite map that a list of options represents.
+-- For proofs about `numbered`, as of the tables of ids and proxies: lookups, changes and the number of keys in the finite map that a list of options
+-- represents.
 use Rattle.std.proofs.Common.{◌≡◌, ℕ, zero, suc, ◌+◌, ◌<◌, List, [], ◌∷◌, Option, Some, None, length, get_or, set, arith, sym, ◌∙◌, inl, inr}
 use Rattle.std.specs.Prelude.{count_by, is_some, IsSome, cond}
 use Rattle.std.proofs.lemmas.List.Sums.{sum_by-cons}

@@ -1,5 +1,5 @@
--- For proofs about block tables: lists that contain each number below their length once. Their entries differ, each number is an entry, and a list stays one
--- when two of its runs change places.
+-- For proofs about block tables: lists that contain each number below their length once. Their entries differ and are below the length; the numbers in order
+-- are such a list, and a list stays one when two of its runs change places.
 use Rattle.std.proofs.Common.{◌≡◌, ◌≢◌, ℕ, ◌+◌, ◌<◌, ◌≤◌, ◌⊎◌, inl, inr, List, length, slice_index, get_or, min, max}
 use Rattle.std.proofs.Common.{arith, sym, subst, ◌∙◌, eqb, eq-eqb}
 use Rattle.std.proofs.lemmas.Bool.{eqb-false, ne_eqb, cases_eq, cases_order}

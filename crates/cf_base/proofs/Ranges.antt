@@ -1,4 +1,5 @@
--- Counts and sums over a range: if the test or a term changes at one number, at which numbers the test passes, and lower bounds of a sum.
+-- A test's result as a number, 1 or 0 (`one`). Counts and sums over a range: with equal tests or terms, or if the test or a term changes at one number; how
+-- many numbers pass; and sums compared with each other (also over any list) and with their terms.
 use Rattle.std.proofs.Common.{◌≡◌, ◌≢◌, ℕ, zero, suc, Bool, cond, ◌+◌, ◌-◌, ◌<◌, ◌≤◌, List, [], ◌∷◌, arith, ap, refl, ◌∙◌, inl, inr}
 use Rattle.std.specs.Prelude.{count_by, sum_by}
 use Rattle.std.specs.List.{range_with_len}

@@ -1,4 +1,6 @@
--- A search among the numbers below a bound finds one with a property, or shows that none has it; and maps whose keys are below a bound.
+-- A search among the numbers below a bound finds one with a property, or shows that none has it; if a count over a range isn't 0, one of its numbers passes. A
+-- number below n + 1 other than n is below n. A key is in a map or not, and removing it lowers the number of keys by one. How many keys there are if all keys
+-- are below n, or all numbers below n are keys; with fewer than n keys, a number below n is no key.
 use Rattle.std.proofs.Common.{◌≡◌, ◌≢◌, ℕ, zero, suc, true, false, Bool, ◌+◌, ◌<◌, ◌≤◌, Option, Some, None, arith, sym, ◌∙◌, ap, refl, inl, inr}
 use Rattle.std.specs.Prelude.{◌⊎◌, count_by}
 use Rattle.std.specs.List.{range_with_len}

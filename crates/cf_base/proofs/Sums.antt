@@ -1,4 +1,4 @@
--- Sums and counts over the values of a finite map, after a key is inserted or removed, or gets another value.
+-- Sums over the values of a finite map, after a key is inserted or removed, or gets another value. A key that is removed and then inserted.
 use Rattle.std.proofs.Common.{◌≡◌, ℕ, cond, ◌+◌, List, [], ◌∷◌, Some, None, map, arith, sym, ◌∙◌, ap, inl, inr}
 use Rattle.std.proofs.lemmas.Bool.{cases_eq}
 use Rattle.std.specs.Prelude.{sum_by}

@@ -1,4 +1,5 @@
--- For `Cells::exchange`: a list is cut so that two of its runs are segments. Swapping the segments exchanges the runs entry by entry (`exchanged`).
+-- For `exchange_runs` of `Cells::exchange`, and for `Permutations`: a list is cut so that two of its runs are segments. Swapping the segments exchanges the
+-- runs entry by entry (`exchanged`).
 use Rattle.std.proofs.Common.{◌≡◌, ℕ, ◌+◌, ◌-◌, ◌<◌, ◌≤◌, ◌⊎◌, inl, inr, List, ◌++◌, length, drop, slice_index}
 use Rattle.std.proofs.Common.{min, max, arith, ap, ◌∙◌}
 use Rattle.std.proofs.lemmas.List.{length-take-le, length-drop, get_or_append_left, get_or-append_right, get_or-take, get_or-drop}

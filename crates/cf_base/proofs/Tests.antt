@@ -1,4 +1,5 @@
--- When the tests `nat_eq`, `nat_le` and `nat_lt` pass, and when they fail; when `is_within` passes; and when the order of a map's keys finds two equal.
+-- When the tests `nat_eq`, `nat_le` and `nat_lt` pass, and when they fail; when `is_within` passes; that `&&` with false is false; and when the order of a
+-- map's keys finds two equal.
 use Rattle.std.proofs.Common.{◌≡◌, ◌≢◌, ◌∙◌, ℕ, Bool, true, false, ◌<◌, ◌≤◌, refl}
 use Rattle.std.specs.Prelude.{◌&&◌, nat_eq, nat_le, nat_lt}
 use Rattle.std.proofs.lemmas.Bool.{and_from, eq-eqb, ne_eqb, lt-ltb, le-ltb, le-leb, lt-leb}

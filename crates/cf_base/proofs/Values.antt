@@ -1,5 +1,5 @@
--- Finite maps: a function applied to each value keeps their number, a new key leaves the other values, and if each value is at most a limit, the sum is at most
--- their number times the limit.
+-- Finite maps: the empty map has no values; a function applied to each value keeps the empty map empty, and keeps the number of values; a new key leaves the
+-- other values; and if each value is at most a limit, the sum is at most their number times the limit.
 use Rattle.std.proofs.Common.{◌≡◌, ◌≢◌, ℕ, ◌+◌, ◌*◌, ◌≤◌, [], Some, None, map, arith, sym, ◌∙◌, ap}
 use Rattle.std.specs.Prelude.{sum_by, option_map}
 use Rattle.std.proofs.lemmas.List.{nil_from_length}

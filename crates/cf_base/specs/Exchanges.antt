@@ -1,4 +1,5 @@
--- Lists in which two ranges of n entries change places, one from a on, the other from b on.
+-- Two ranges of n numbers, one from a on, the other from b on, change places: which numbers are in a range, which number each becomes, and a list after its
+-- entries in the two ranges changed places.
 use Rattle.std.specs.Prelude.{ℕ, Bool, ◌+◌, ◌-◌, List, length, map, slice_index, if◌then◌else◌, nat_le, nat_lt, ◌&&◌}
 use Rattle.std.specs.List.{range_with_len}
 

@@ -1,4 +1,4 @@
--- Finite maps whose keys are numbers: a function applied to each value, and the map that a list of options represents.
+-- Finite maps whose keys are numbers: a function applied to each value, and the map that a list of options represents; the list of options without a value.
 use Rattle.std.specs.Prelude.{ℕ, ◌+◌, List, [], ◌∷◌, Option, Some, None, map, replicate}
 use Rattle.std.specs.Ordering.{nat_cmp}
 use Rattle.std.specs.FinMap.{FinMap, empty, insert, from_sorted, entries}

@@ -1,4 +1,4 @@
-//! The memory that opening a heap asks the allocator for (`BytesNeeded`).
+//! The memory that opening a heap or making a table asks the allocator for (`BytesNeeded`).
 ghost use Rattle.std.specs.Prelude.{◌≡◌, ◌+◌, ◌*◌, ◌^◌, ◌<◌, ◌≤◌};
 ghost use Rattle.cf_base.specs.Needed.{both, one_block, times};
 
@@ -23,7 +23,7 @@ impl BytesNeeded {
         }
     }
 
-    /// `BytesNeeded` of the blocks of `self`, `n` times over.
+    /// `BytesNeeded` of the blocks of `self`, `n` times over. `n` is at least 1, and no product may overflow its field.
     pub fn times(self, n: u32) -> BytesNeeded
         requires some { 1 ≤ n }
         requires few { n * self.blocks < 2 ^ 32 }
@@ -37,7 +37,7 @@ impl BytesNeeded {
         }
     }
 
-    /// `BytesNeeded` of the blocks of `self` and of `other` together.
+    /// `BytesNeeded` of the blocks of `self` and of `other` together. No sum may overflow its field.
     pub fn and(self, other: BytesNeeded) -> BytesNeeded
         requires few { self.blocks + other.blocks < 2 ^ 32 }
         requires fits { self.total + other.total < 2 ^ 64 }

@@ -14,7 +14,8 @@ pub fn numbers_below(alloc: Global, n: u32) -> Result<Vec<u32>, AllocError>
     numbers_from(alloc, 0, n)
 }
 
-/// The `n` numbers from `first` on, in rising order, in one block of 4 n bytes. Fails only if memory runs out.
+/// The `n` numbers from `first` on, in rising order, in one block of 4 n bytes. `first` plus `n` must be below 2^32.
+/// Fails only if memory runs out.
 pub fn numbers_from(alloc: Global, first: u32, n: u32) -> Result<Vec<u32>, AllocError>
     requires { first + n < 2 ^ 32 }
     ensures { IfOk result (λ v. v.items ≡ range_with_len first n) }

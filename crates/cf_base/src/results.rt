@@ -2,7 +2,8 @@
 //! source or sink.
 
 /// What a malloc returns: the number of the object's proxy. It stays the same when the object
-/// moves.
+/// moves. After a free a later malloc may return it again, so a caller must not use the handle of
+/// a freed object.
 #[derive(Clone, Copy, Debug, PartialEq, Eq)]
 pub struct Handle(pub u32);
 

@@ -1,4 +1,6 @@
--- What other crates' proofs may cite: numbers that are written and read again, bytes written one after the other, and how long the texts on a line are.
+-- What other crates' proofs may cite: which number a text spells, and where its digits end; bytes, lines and replies that are written, taken or counted one
+-- after the other, and the faults of the calls that do it; what may follow the bytes that were taken; and a line that texts are appended to, and how long these
+-- are.
 use Rattle.std.proofs.Common.{◌≡◌, ◌∙◌, ◌≤◌, ◌*◌, ◌&&◌, List, [], ◌∷◌, ℕ, Some, true, refl, ap, sym, length, arith}
 use Rattle.std.specs.List.{list_all}
 use Rattle.std.specs.Fmt.{decimal}

@@ -1,5 +1,5 @@
--- For `leading_number` and `number_of`, which read decimal digits one by one: their value after each digit, where they end, and when a text spells no
--- number: no digit, another byte, or more than 2^32 - 1.
+-- For `leading_number` and `number_of`, which read decimal digits one by one: their value after each digit, where they end, which number a text spells
+-- or begins with, and when it has none: no digit, another byte, or more than 2^32 - 1.
 use Rattle.std.proofs.Common.{◌≡◌, ◌∙◌, ◌<◌, ◌≤◌, ◌+◌, ◌-◌, ◌*◌, ◌&&◌, if◌then◌else◌, nat_le, not, Bool, List, ℕ, None, Some, true, false, refl, ap, sym, take}
 use Rattle.std.proofs.Common.{length, get_or, arith, inl, inr}
 use Rattle.std.proofs.Common.{Option, option_map}

@@ -1,5 +1,5 @@
--- Bytes that are written, taken or counted in two calls, one after the other, are those of both together; what a write says of the sink's faults; and what may
--- follow the bytes that were taken.
+-- Bytes that are written, taken or counted in two calls, one after the other, are those of both together; a call of no bytes; the faults of a source or sink
+-- over several calls of which only the last may fail; and what may follow the bytes that were taken.
 use Rattle.std.proofs.Common.{◌≡◌, ◌++◌, ◌∙◌, Bool, List, ℕ, Option, None, Some, true, false, refl, ap, sym, subst, ◌+◌, append_assoc, append-nil, take, drop, min, arith, inl, inr}
 use Rattle.std.proofs.Math.Seq.{take-add}
 use Rattle.std.proofs.lemmas.Bool.{cases_lt}

@@ -1,5 +1,5 @@
--- For crates that write replies: the bytes of a reply, each line after its lead; two writes, the second perhaps cut, as one; a line that texts were appended
--- to; and that a text that fits the line is appended.
+-- For crates that write replies, and for `push_field`: how many digits a number has; the bytes of a reply, each line after its lead; two writes, of which
+-- one may be cut, as one; a line that texts were appended to; and that a text that fits the line is appended.
 use Rattle.std.proofs.Common.{◌≡◌, ◌∙◌, ℕ, ◌+◌, ◌<◌, ◌≤◌, ◌^◌, ◌++◌, List, [], ◌∷◌, true, refl, ap, sym, append_assoc, append-nil, subst, arith, length, lit<}
 use Rattle.std.specs.Prelude.{Result, Ok, Err, decimal}
 use Rattle.std.specs.Result.{IsOk}

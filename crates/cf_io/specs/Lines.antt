@@ -1,4 +1,4 @@
--- The bytes of a reply's line that is being built, at most 9,000, and what appending a text (a push) does to them.
+-- The bytes of a line that is being built, of a reply or a script, at most 9,000; what appending a text (a push) does to them; and a word in hex digits.
 use Rattle.std.specs.Prelude.{◌≡◌, ◌<◌, ◌≤◌, ◌+◌, ◌++◌, ℕ, List, length, Result, Ok, Err}
 use Rattle.std.specs.Int.{w64, to_be_bytes}
 use Rattle.hex.specs.Hex.{encode_lower}

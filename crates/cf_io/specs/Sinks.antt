@@ -20,7 +20,7 @@ put_fails s bytes = is_due s.schedule || (s.room == 0 && not (length bytes == 0)
 abbrev pub put_count : MemSink → List ℕ → ℕ
 put_count s bytes = count_moved s.schedule (min (length bytes) s.room)
 
--- the result of the next call of the sink s, with these bytes: how many of them it writes; none if it fails
+-- the result of the next call of the sink s, with these bytes: how many of them it writes; `None` if it fails
 abbrev pub put_answer : MemSink → List ℕ → Option ℕ
 put_answer s bytes = if put_fails s bytes then None else Some (put_count s bytes)
 

@@ -55,7 +55,7 @@ sure_after s n = record { left = drop n s.left; given = more_given s.given n; ca
 abbrev pub mem_count : MemSource → ℕ → ℕ
 mem_count s room = count_moved s.schedule (min room (length s.left))
 
--- how many bytes the next call of the source s returns into a buffer of `room` bytes; none if it fails
+-- how many bytes the next call of the source s returns into a buffer of `room` bytes; `None` if it fails
 abbrev pub mem_answer : MemSource → ℕ → Option ℕ
 mem_answer s room = if is_due s.schedule then None else Some (mem_count s room)
 

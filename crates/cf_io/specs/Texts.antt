@@ -1,4 +1,4 @@
--- Replies as lists of lines, and the bytes that are written for them.
+-- Replies as lists of lines, and the bytes that are written for them; a text with a number after it.
 use Rattle.std.specs.Prelude.{ℕ, List, [], ◌∷◌, ◌++◌, decimal}
 
 -- a reply: its lines, without their line feeds

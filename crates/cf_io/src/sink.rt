@@ -5,7 +5,7 @@ use cf_base::Failed;
 
 /// What bytes are written to. A call may write only a prefix of the bytes that it is given.
 pub trait Sink {
-    /// The bytes written so far, none if they are not observable; how many calls of `put` failed;
+    /// The bytes written so far, `None` if they are not observable; how many calls of `put` failed;
     /// and whether the last one failed. The count never falls, and saturates at the last value of a
     /// u64.
     ghost state: { Self → SinkState };

@@ -5,7 +5,7 @@ use cf_base::Failed;
 
 /// What bytes are read from, chunk by chunk.
 pub trait Source {
-    /// The bytes left to read, none if they are not observable; how many bytes its calls have returned; how
+    /// The bytes left to read, `None` if they are not observable; how many bytes its calls have returned; how
     /// many calls of `take` were made, and how many failed; and whether the last one failed. The counts never
     /// fall, and saturate at the last value of a u64.
     ghost state: { Self → SourceState };

@@ -196,7 +196,8 @@ impl Source for LoopSource {
     }
 }
 
-/// For a source, copies the first n of `bytes` to the start of `buf`; the rest of `buf` stays.
+/// For a source, copies the first n of `bytes` to the start of `buf`; the rest of `buf` stays. Both
+/// must have at least n bytes.
 fn copy_first(bytes: &[u8], n: usize, buf: &mut [u8])
     requires some { n ≤ length bytes.now }
     requires room { n ≤ length buf.old }
@@ -206,7 +207,7 @@ fn copy_first(bytes: &[u8], n: usize, buf: &mut [u8])
 }
 
 /// For `LoopSource`, fills `buf` with the pattern over and over, beginning with the pattern's byte
-/// `at`. Returns the index of the pattern's byte that is next.
+/// `at`, which must exist. Returns the index of the pattern's byte that is next.
 fn fill_over(pattern: &[u8], at: usize, buf: &mut [u8]) -> usize
     requires { at < length pattern.now }
     ensures next { result ≡ (at + length buf.old) % length pattern.now }
@@ -227,7 +228,7 @@ fn fill_over(pattern: &[u8], at: usize, buf: &mut [u8]) -> usize
 }
 
 /// For `LoopSource`, copies n bytes of the pattern, from its index `from` on, into `buf` from index
-/// `to` on. The other bytes of `buf` stay.
+/// `to` on. The pattern and `buf` must have these bytes. The other bytes of `buf` stay.
 fn copy_part(pattern: &[u8], from: usize, n: usize, buf: &mut [u8], to: usize)
     requires some { from + n ≤ length pattern.now }
     requires room { to + n ≤ length buf.old }

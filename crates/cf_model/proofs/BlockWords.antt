@@ -1,5 +1,5 @@
--- For `an_order_leaves_one_outcome`, with blocks: the blocks, the objects in them and the free lists, whose links are word 1 of each free block, determine the
--- words of the region.
+-- With blocks: the blocks, the objects in them and the free lists, whose links are word 1 of each free block, determine the words of the region (for
+-- `an_order_leaves_one_outcome`). Word 1 of a free block is outside every used block; if it stays the same, so do the links.
 use Rattle.std.proofs.Common.{◌≡◌, ◌≢◌, ℕ, false, true, ◌+◌, ◌-◌, ◌<◌, ◌≤◌, List, [], ◌∷◌, Option, Some, None, length, get_or, arith, refl, sym, ◌∙◌, ap, subst}
 use Rattle.std.proofs.Common.{inl, inr}
 use Rattle.std.specs.Prelude.{◌⊎◌, IsSome}

@@ -1,4 +1,5 @@
--- For `calls_keep_the_blocks_of_others`: with a block table, the physical blocks of the other objects stay in a free or a resize, refused or not.
+-- For `calls_keep_the_blocks_of_others` and the crate `paged_heap`: with a block table, the physical blocks of the other objects, and the words in them, stay
+-- in a free or a resize, refused or not.
 use Rattle.std.proofs.Common.{◌≡◌, ◌≢◌, ℕ, ◌+◌, ◌*◌, ◌/◌, ◌%◌, ◌<◌, List, Some, length, get_or, arith, sym, ◌∙◌, subst, ap, refl}
 use Rattle.std.proofs.lemmas.Option.{same_Some as some_equal, same_Some as placed_equal}
 use Rattle.std.specs.FinMap.{get}

@@ -1,5 +1,5 @@
--- Lemmas that other crates' proofs may cite, re-exported: on empty heaps, on the causes of refusals, on what an order determines, and on blocks, their owners
--- and their words. Declares nothing.
+-- Lemmas that other crates' proofs may cite, re-exported: on empty heaps and their orders, on the rules with pages, on the causes of refusals, on the one
+-- outcome of a call and what an order determines, and on blocks, their lists, sizes, owners and words. Declares nothing.
 pub use Rattle.cf_model.proofs.BlockNeeds.{lawful, need_is_small}
 pub use Rattle.cf_model.proofs.Blocks.{blocks_after_free, blocks_after_refusal, blocks_after_resize}
 pub use Rattle.cf_model.proofs.EmptyHeaps.{empty_there, no_object, ordered_there, tiled_empty}

@@ -1,5 +1,5 @@
--- For `an_empty_heap_keeps_the_rules`: the state after opening a manager of each kind keeps the rules (`KeepsRules`), with an order and without one, and for
--- each kind there are such words.
+-- The state after opening a manager of each kind keeps the rules (`KeepsRules`), with an order and without one, and for each kind there are words with which it
+-- does: the law `an_empty_heap_keeps_the_rules`.
 use Rattle.std.proofs.Common.{◌≡◌, ℕ, zero, suc, true, false, ◌+◌, ◌*◌, ◌/◌, ◌-◌, ◌≤◌, List, [], ◌∷◌, Option, Some, None, length, get_or, replicate, arith, sym}
 use Rattle.std.proofs.Common.{◌∙◌, inl, inr, ap, refl}
 use Rattle.std.specs.Prelude.{IfSome, nat_eq}

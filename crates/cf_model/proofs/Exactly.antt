@@ -1,4 +1,5 @@
--- For `a_cause_is_always_refused`: a call that succeeds has no cause for a refusal, and a malloc has at most one.
+-- For `a_cause_is_always_refused`: a call that succeeds has no cause for a refusal, and a malloc has at most one. Also: no kind has both pages and blocks,
+-- and no number both an object and none.
 use Rattle.std.proofs.Common.{◌≡◌, ℕ, ◌+◌, ◌<◌, ◌≤◌, Some, None, length, arith, sym, ◌∙◌, subst, inl, inr, ap, refl}
 use Rattle.std.specs.FinMap.{get}
 use Rattle.cf_base.proofs.Maps.{found_once}

@@ -1,5 +1,6 @@
 -- For `an_order_leaves_one_outcome`: if a manager has an order, two outcomes of the same malloc, free or resize have equal results and states. So have two of
--- the same write, without an order too.
+-- the same write, without an order too. A manager has an order after a call if and only if it had one before; order, objects and blocks determine the words.
+-- The rules of a kind with pages include `KeepsPages`.
 use Rattle.std.proofs.Common.{◌≡◌, ℕ, ◌+◌, true, false, List, ◌∷◌, Option, Some, None, Result, Ok, Err, arith, length, refl, sym, ◌∙◌, ap, subst}
 use Rattle.std.specs.Prelude.{IfSome, IsSome, is_some, option_map, slice_index}
 use Rattle.std.specs.FinMap.{get, insert}

@@ -1,5 +1,5 @@
 -- For `a_promise_is_an_opening_order` and `an_empty_heap_keeps_the_rules`: the order after opening a manager lists exactly what its empty heap has free, with
--- pages and with blocks.
+-- pages and with blocks; and a manager that promises an order has this one after it opens.
 use Rattle.std.proofs.Common.{◌≡◌, ℕ, ◌^◌, ◌≤◌, ◌<◌, List, [], ◌∷◌, Option, Some, None, length, get_or, replicate, arith, sym, ◌∙◌, subst, inl, inr, ap, refl}
 use Rattle.std.specs.Prelude.{IfSome, IsSome, is_some}
 use Rattle.std.specs.List.{range_with_len}

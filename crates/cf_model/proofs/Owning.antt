@@ -1,4 +1,5 @@
--- For `blocks_stay_owned`: with blocks, a malloc and a free keep each object in a block of its own.
+-- With blocks, a malloc and a free keep each object in a block of its own (law `blocks_stay_owned`), and so does replacing an object's bytes by as many
+-- others, as a write does. Also (`no_one`): an option isn't both none and some.
 use Rattle.std.proofs.Common.{◌≡◌, ◌≢◌, ℕ, List, Option, Some, None, length, replicate, sym, ◌∙◌, subst, inl, inr, ap}
 use Rattle.std.proofs.lemmas.List.{length-replicate}
 use Rattle.std.proofs.lemmas.Bool.{cases_eq}

@@ -1,4 +1,4 @@
--- For `calls_are_the_steps_of_pages`: with pages, a malloc and a free that succeed are those of the page model (`PlacesObject`, `RemovesObject`).
+-- The law `calls_are_the_steps_of_pages`: with pages, a malloc and a free that succeed are those of the page model (`PlacesObject`, `RemovesObject`).
 use Rattle.std.proofs.Common.{ℕ, ap}
 use Rattle.cf_base.specs.declared.results.Freed.{Freed}
 use Rattle.page_model.specs.Steps.{PlacesObject, RemovesObject, Request}

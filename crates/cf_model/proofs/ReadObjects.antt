@@ -1,5 +1,6 @@
--- For `the_words_show_blocks_and_objects` and `a_carve_keeps_the_words`: with blocks, words and addresses determine the objects. After a malloc takes (carves)
--- a block from a free one, the words are those of the objects with the new one.
+-- For `the_words_show_blocks_and_objects` and `a_carve_keeps_the_words`: with blocks, the words determine the blocks, and words and addresses the objects.
+-- After a malloc takes (carves) a block from a free one, the words are those of the objects with the new one. Re-exports `fresh_word`: a new object's words
+-- after its header are 0.
 use Rattle.std.proofs.Common.{◌≡◌, ◌≢◌, ℕ, zero, suc, ◌+◌, ◌<◌, List, Option, Some, None, length, get_or, replicate, arith, sym, ◌∙◌, subst}
 use Rattle.std.proofs.Common.{inl, inr, ap, refl}
 use Rattle.std.specs.Prelude.{option_map}

@@ -1,5 +1,5 @@
 -- For `open_all`, which opens each manager of a list: a loop that changes one item after the other has changed the first i items (`Sweep`), stopped at one
--- (`Stops`), or changed all (`Pairwise`).
+-- (`Stops`), or changed all (`Pairwise`). Also (`on_err`): what always holds, holds if a result is an error.
 use Rattle.std.proofs.Common.{◌≡◌, ◌≢◌, ℕ, ◌+◌, ◌<◌, List, length, get_or, set, arith, sym, ◌∙◌, subst, inl, inr}
 use Rattle.std.proofs.lemmas.List.{get_or-set_same, get_or-set_other, length-set, get_or_default}
 use Rattle.std.proofs.lemmas.Bool.{cases_lt}

@@ -55,7 +55,7 @@ length_steps kind None = 1
 length_steps kind (Some bytes) = 1 + word_steps kind
 
 -- the exact steps of finding a physical block, by the object and the result: one for the proxy; if the handle is live two for the header and one for the class;
--- one for the entry of the block table
+-- if the slot has the block one for the entry of the block table
 abbrev pub mapped_block_steps : Option Placed → Option ℕ → ℕ
 mapped_block_steps None block = 1
 mapped_block_steps (Some x) None = 4

@@ -1,5 +1,5 @@
--- The exact steps of a call, computed from the state before it (`s` or `old`), the order `o` of that state, and the result. Each comment lists what the steps
--- pay for.
+-- The exact steps of a call, computed from the state before it (`s` or `old`) and the result: with pages also from the order `o` of that state, with blocks from
+-- the state `new` after the call. Each comment lists what the steps pay for.
 use Rattle.std.specs.Prelude.{ℕ, ◌+◌, ◌-◌, ◌*◌, ◌/◌, Option, None, Some, Result, Ok, Err, if◌then◌else◌, length, min, nat_eq, nat_lt}
 use Rattle.std.specs.FinMap.{get}
 use Rattle.cf_base.specs.declared.results.Freed.{Freed}

@@ -1,5 +1,5 @@
--- What a loop over a list does to its items, for `open_all`, which opens every manager of a list: `xs` is the list before it, `ys` the list after it or so far;
--- d and e are defaults of `slice_index_or`, never used.
+-- What a loop over a list does to its items, and an opening to a manager (`Opens`), for `open_all`, which opens every manager of a list. `xs` is the list
+-- before the loop, `ys` the list after it or so far; d and e are defaults of `slice_index_or`, never used.
 use Rattle.std.specs.Prelude.{◌≡◌, ℕ, ◌<◌, ◌≤◌, List, length, slice_index_or}
 use Rattle.cf_base.specs.declared.settings.Settings.{Settings}
 use Rattle.cf_model.specs.Rules.{KeepsRules}

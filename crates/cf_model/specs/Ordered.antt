@@ -1,5 +1,5 @@
--- What a manager with an order promises of each call: it uses what the order lists next, at a cost computed from states and result. A call leads from the state
--- `old` to `new` and from the order `was` to `now`, and returns `answer`.
+-- What a manager promises of each call: it neither adds nor removes an order; with an order, the call uses what the order lists next, at a cost computed from
+-- states and result. A call leads from the state `old` to `new` and from the order `was` to `now`, and returns `answer`.
 use Rattle.std.specs.Prelude.{◌≡◌, ℕ, ⊤, IfOk, IfSome, List, ◌∷◌, Option, None, Some, Result, is_some}
 use Rattle.cf_base.specs.declared.results.Freed.{Freed}
 use Rattle.cf_base.specs.declared.results.Handle.{Handle}

@@ -1,5 +1,6 @@
--- The rules that every open manager keeps (`KeepsRules`, at the end): settings in range, a sound arrangement or blocks that fill the region, words that are the
--- objects' image, and an order of what is free.
+-- The rules that every open manager keeps (`KeepsRules`, at the end): of its settings and bounds; of its objects, which are few enough, in a sound
+-- arrangement or in the used ones of the blocks that fill the region; of its words, which are the objects' image; of its block table; and of an order of what
+-- is free.
 use Rattle.std.specs.Prelude.{◌≡◌, ℕ, IfSome, IsTrue, ◌+◌, ◌*◌, ◌^◌, ◌≤◌, ◌<◌, List, [], Option, Some, None, length, nat_eq, slice_index}
 use Rattle.std.specs.List.{Contains, IsDistinct}
 use Rattle.std.specs.FinMap.{get, len}

@@ -1,5 +1,6 @@
 -- What contracts see of a manager, as one record (`HeapState`): its settings, its objects, its words, its block table or its blocks, its order, and the cost of
--- the last malloc, free or resize.
+-- the last malloc, free or resize. The state of a closed manager; the pages and classes of a state (`paging_in`); and its encoding, which a manager's `Model`
+-- requires.
 use Rattle.std.specs.Prelude.{ℕ, Bool, false, List, [], Option, Some, ◌*◌, refl}
 use Rattle.std.specs.FinMap as map
 use Rattle.std.specs.Coded.{Coded, code_by, coded×, coded_ℕ, coded_list, coded_bool, coded_option}

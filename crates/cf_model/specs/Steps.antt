@@ -1,5 +1,5 @@
--- What each call of a manager does, as a relation between the state `old` before it and the state `new` after it. `IsMallocStep`, `IsFreeStep`, `IsWriteStep`,
--- `IsReadAnswer` and `IsResizeStep` are the whole calls, with their refusals.
+-- What each call of a manager does, also its opening and its close, as a relation between the state `old` before it and the state `new` after it.
+-- `IsMallocStep`, `IsFreeStep`, `IsWriteStep`, `IsReadAnswer` and `IsResizeStep` are the whole calls, with their refusals.
 use Rattle.std.specs.Prelude.{◌≡◌, ◌≢◌, ℕ, ◌+◌, ◌*◌, ◌/◌, ◌≤◌, ◌<◌, List, [], Option, Some, None, Result, Ok, Err, ⊤, true, false, length, take, drop}
 use Rattle.std.specs.Prelude.{replicate, slice_index, option_map}
 use Rattle.std.specs.FinMap.{get, insert, remove, len, empty}
@@ -204,7 +204,8 @@ abbrev pub call_result : HeapState → ℕ → Placed → Option ℕ → CallRes
 call_result old h x moved = record { held = without old.held h x.place moved; moved = moved }
 
 -- A free of object h succeeds with the result `freed`: the object is removed, and the object that moved, if one did, gets the address of the removed one. All
--- objects but h keep their bytes, and all that did not move their address. The words, the order and the cost may change too.
+-- objects but h keep their bytes, and those that did not move keep their address. The block table, the blocks, the words, the order and the cost may
+-- change too.
 pub record FreesObject (old : HeapState) (h : ℕ) (freed : Freed) (new : HeapState) : Type 0 where
   pub object : Placed
   pub found : get old.held h ≡ Some object
@@ -226,7 +227,7 @@ pub record Position : Type 0 where
   pub number : ℕ
   pub from : ℕ
 
--- the object is live, but the `count` bytes from the position on go beyond its end
+-- the object is live, but `position.from` plus `count` exceeds the object's length
 pub record PassesEnd (s : HeapState) (position : Position) (count : ℕ) : Type 0 where
   pub object : Placed
   pub found : get s.held position.number ≡ Some object

@@ -1,6 +1,6 @@
-//! What the clauses of `Manager` imply together: on empty heaps, reads, refusals, blocks and their
-//! words, the page model, and the one outcome that an order leaves. The functions do nothing; each
-//! contract is a law.
+//! What the clauses of `Manager` imply together: on empty heaps, promises of an order, reads, frees,
+//! refusals, blocks and their words, the page model, and the one outcome that an order leaves. The
+//! functions do nothing; each contract is a law.
 ghost use Rattle.std.specs.Prelude.{◌≡◌, ◌≢◌, ℕ, ◌+◌, ◌<◌, ◌≤◌, IsSome, List, None, Option, Result, Some, length, replicate, slice_index};
 ghost use Rattle.std.specs.FinMap.{get, insert, remove};
 ghost use Rattle.cf_base.specs.declared.results.AccessFault.{AccessFault};
@@ -111,7 +111,8 @@ pub fn a_cause_is_always_refused()
 /// On managers with blocks, a malloc and a free keep each object in a block of its own, and each used block has an
 /// object. `m` are the objects before the call, `old` and `new` the blocks before and after it. `rule` is the free-list
 /// rule, and the region has `words` words. The malloc adds an object of n bytes under the unused number h at the
-/// address `place`, in a block as large as it needs (`IsCarvedTo`). The free removes object h, which is x.
+/// address `place`, in a block as large as it needs or one word more (`IsCarvedTo`). The free removes object h, which
+/// is x.
 pub fn blocks_stay_owned()
     ensures malloc { (rule : FreeLists) (words : ℕ) (m : Held) (old new : List Block) (h n place : ℕ)
         → IsTiling words old → AreOwned m old → get m h ≡ None

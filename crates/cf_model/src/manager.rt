@@ -1,4 +1,5 @@
-//! The trait `Manager`, which every memory manager implements, with the contract of each call.
+//! The trait `Manager`, which every memory manager implements, with the contract of each call; the step bounds of
+//! malloc, free and resize with pages, as constants; and the trait of a manager's own step bounds (`StepBounds`).
 ghost use Rattle.std.specs.Prelude.{◌≡◌, ◌+◌, ◌^◌, ◌≤◌, IfErr, IfOk, IsTrue, Option, OnOk, OnErr, is_some, length, slice_get};
 ghost use Rattle.std.specs.FinMap as map;
 ghost use Rattle.step_ledger.specs.Counting.{RoseAtMost, RoseBy};
@@ -60,7 +61,8 @@ pub trait StepBounds {
 ///
 /// A manager of kind `Moving` or `NonMoving` divides the region into pages, and pages into slots of
 /// size classes, by Compact-fit (2008). One of kind `Tlsf` or `HalfFit` divides it into blocks, by
-/// TLSF (2004) or Half-Fit (1995).
+/// TLSF (2004) or Half-Fit (1995). With a block table, which only a `NonMoving` one has, a free and a
+/// resize leave each other object in its physical blocks (clause `blocks`).
 ///
 /// A manager may promise an order (`HeapState`, field `order`), closed or open. Then the order determines each
 /// choice of a malloc, free or resize: the number, slot or block taken, and the object moved. The order and the
@@ -123,8 +125,8 @@ pub trait Manager: StepBounds + Drop {
         ensures blocks { BlocksStayIn (state self.old).kind (state self.old) h.0 (state self.new) };
 
     /// On any manager, writes bytes into an object from byte `at` on, and changes nothing else. Refused, in this order:
-    /// `Unknown` if the handle isn't live; `Range` if the bytes pass the end of the object. A refusal changes nothing.
-    /// At most 16 steps plus three for each word that holds at least one of the bytes.
+    /// `Unknown` if the handle isn't live; `Range` if `at` plus the number of bytes exceeds the object's length. A
+    /// refusal changes nothing. At most 16 steps plus three for each word that holds at least one of the bytes.
     fn write(
         &mut self,
         h: Handle,
@@ -211,8 +213,9 @@ pub trait Manager: StepBounds + Drop {
         requires { IsTrue (state self.now).is_open }
         ensures { result ≡ figures_in (state self.now) c };
 
-    /// A manager's figures of the whole heap. With blocks the call searches a free list for the largest block, so its
-    /// steps may grow with the number of free blocks; `usage` takes none.
+    /// A manager's figures of the whole heap. Only `StepBounds` bounds the steps of this call. With blocks the call
+    /// searches a free list for the largest block, so its steps may grow with the number of free blocks; `usage` takes
+    /// none.
     fn totals(&self, steps: &mut Steps) -> Totals
         requires { IsTrue (state self.now).is_open }
         ensures value { result ≡ totals_in (state self.now).kind (state self.now) }

@@ -1,4 +1,5 @@
--- What a call of the tool from a page does: the output of `cf_main` on a script that is given, in a buffer.
+-- What a call of the tool from a page does: it runs `cf_main`, with a manager of each kind, on a script that is given, and shows the output in a buffer, or
+-- shows nothing.
 use Rattle.std.specs.Prelude.{◌≡◌, ◌≢◌, ◌++◌, ◌∷◌, ◌⊎◌, ℕ, ℤ, pos, List, [], Option, Some, None, IsUtf8, length, drop, map, nat_le, if◌then◌else◌}
 use Rattle.clap.specs.Words.{Text}
 use Rattle.cf_base.specs.Status.{status_code}
@@ -16,8 +17,8 @@ use Rattle.cf_page.specs.ArgumentWords.{argument_words}
 abbrev pub all_kinds : List Kind
 all_kinds = Moving ∷ NonMoving ∷ Tlsf ∷ HalfFit ∷ []
 
--- `call` keeps the contract of `cf_main` for these arguments. It read the bytes `script`, its managers were never open before, and no device failed. If the
--- script is right for the mode, it was done, or memory ran out before any reply.
+-- `call` keeps the contract of `cf_main` for these arguments. Before it the source had the bytes `script`, the sink was empty, and the managers, one of each
+-- kind, were never open. No device failed. If the script is right for the mode, it was done, or memory ran out before any reply.
 pub record RunsScript (words : List Text) (script : List ℕ) (call : TopCall) : Type 0 where
   pub keeps : KeepsContract words call
   pub read : call.old.source.rest ≡ Some script

@@ -15,7 +15,7 @@ pub struct GrowingSink {
 }
 
 impl GrowingSink {
-    /// `GrowingSink`: an empty one, before its first call.
+    /// `GrowingSink`: an empty sink, before its first call.
     pub fn new(alloc: Global) -> GrowingSink
         ensures bytes { result.bytes.items ≡ [] }
         ensures faults { result.faults ≡ 0 }

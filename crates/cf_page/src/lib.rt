@@ -13,11 +13,12 @@ use crate::words::words_of;
 use cf_base::Status;
 use std::rt::Memory;
 
-/// Runs the tool on a closed manager of each kind. `lines` has its arguments, separated by line feeds, and `script`
-/// its standard input. Writes the output to the start of `out` and its length in bytes into `count`. Returns the
-/// exit status of `cf_main`, but 5 if the output is longer than `out`: then `out` stays as it was. Returns 2 also if
-/// `lines` are no UTF-8, and 6 if an allocation fails; then `count` is 0. `memory` is the kit's value for the
-/// memory of the process; a caller that is not in Rattle passes none.
+/// Runs the tool on a closed manager of each kind. `lines` has its arguments, separated by line feeds; empty `lines`
+/// are one empty argument, which is refused. `script` is its standard input. Writes the output to the start of `out`
+/// and its length in bytes into `count`. Returns the exit status of `cf_main`, but 5 if the output is longer than
+/// `out`: then `out` stays as it was. Returns 2 also if `lines` are no UTF-8, and 6 if an allocation fails; then
+/// `count` is 0. `memory` is the kit's value for the memory of the process; a caller that is not in Rattle passes
+/// none.
 #[unsafe(no_mangle)]
 pub extern "C" fn cf_page_run(
     memory: Memory,

@@ -59,8 +59,8 @@ fn add<H: Manager>(kind: Kind, managers: &mut Vec<H>, manager: H) -> Result<(), 
     }
 }
 
-/// For the page, runs the tool as `play` does, but on the given managers, one of each kind, which
-/// were never open.
+/// For the page, runs the tool as `play` does, but on the given managers: one of each kind, in the
+/// order of mode `compare`, which were never open.
 fn play_on<H: Manager>(
     memory: Memory,
     alloc: Global,

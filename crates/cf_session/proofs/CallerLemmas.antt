@@ -1,4 +1,4 @@
--- What other crates' proofs may cite, re-exported: the reply to a read, within its object or past the end; and that the replies to `p`, `walk` and `frag`
--- have the outcome `Other`, neither good nor refused. Declares nothing.
+-- What other crates' proofs may cite, re-exported: the replies to `p`, `walk` and `frag` have the outcome `Other`, neither good nor refused. Declares
+-- nothing.
 pub use Rattle.cf_session.proofs.Reporting.{word_other}
 pub use Rattle.cf_session.proofs.Reporting.{frag_other, pages_other, walk_other}

@@ -1,5 +1,5 @@
--- For `set_bound`, which does command `k`: its step with and without live objects; no id is live if and only if no object is. For `push_steps`: the line
--- that it builds is the reply to `steps`.
+-- For `set_bound`, which does command `k`: its step with and without live objects; no id is live if and only if no object is. For `build_steps_line`:
+-- the line that it builds is the reply to `steps`.
 use Rattle.std.proofs.Common.{Bool, ◌≡◌, ◌∙◌, ◌++◌, ℕ, true, false, List, Option, Some, None, refl, ap, sym, inl, inr, append_assoc, ◌⊎◌, codes, if◌then◌else◌, nat_eq, is_some}
 use Rattle.std.specs.Ordering.{nat_cmp}
 use Rattle.std.specs.FinMap.{get, len, empty, empty_of_len, get-empty, len-empty}
@@ -74,7 +74,7 @@ bound_refused session heap slot_words k going some =
       reply_is = ap (λ (o : Option ℕ). said (bound_text o)) (sym here);
     }
 
--- the line that `push_steps` appends field by field, with pages, is the text of the reply
+-- what `build_steps_line` appends to a line, field by field, with pages, is the text of the reply to `steps`
 pub steps_line : (k : Kind) (s : SessionState) (cost seen b m w : ℕ) (line after_cost after_bound after_moves after_words : List ℕ)
     → (k ≡ Moving) ⊎ (k ≡ NonMoving) → seen ≡ cost → b ≡ s.bound → m ≡ s.moves → w ≡ s.words
     → after_cost ≡ line ++ with_number (codes "steps last ") seen → after_bound ≡ after_cost ++ with_number (codes " bound ") b

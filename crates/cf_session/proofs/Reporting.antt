@@ -1,4 +1,5 @@
--- For `answer` and `queries.rt`: the reply to a command, whether built on a line or written, is that of the command.
+-- For `answer`, `apply_ref`, `queries.rt` and `reply.rt`: the reply to a command, whether built on a line or written, is that of the command, with its outcome;
+-- the result is an error if and only if the sink failed; and the run stays in progress.
 use Rattle.std.proofs.Common.{◌≡◌, ◌∙◌, ◌+◌, ◌<◌, ◌≤◌, ◌/◌, ◌%◌, ◌^◌, ◌++◌, ℕ, List, ◌∷◌, Option, Some, None, Err, option_map, length, take, drop, nat_eq, false, refl, sym, ap, arith, lit<, Bor, [], Result, Ok, map, ap₂, subst, append_assoc, codes, slice_index, le-leb, ne_eqb}
 use Rattle.std.specs.Int.{byte_at, bytes_high_first}
 use Rattle.std.proofs.Math.Nat.{mod-lt}

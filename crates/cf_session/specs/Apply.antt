@@ -1,5 +1,5 @@
 -- What `Session::apply` does: the command takes effect, and its reply is written, with its outcome as result (good, refused or other); or, if the sink
--- fails, a prefix is written.
+-- fails, a prefix is written. Re-exports the state of a run, and `LacksOne`: an allocation failed when the manager was opened.
 use Rattle.std.specs.Prelude.{◌≡◌, ℕ, ◌||◌, List, [], ◌∷◌, Option, Result, Ok, Err, codes, nat_eq, if◌then◌else◌}
 use Rattle.std.specs.List.{starts_with}
 use Rattle.std.specs.Str.{bytes_eq}

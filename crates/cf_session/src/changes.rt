@@ -1,6 +1,7 @@
 //! The commands that change objects or bounds: each calls the heap and returns the reply to print,
 //! `ok` if it was done. Each malloc, free or resize that calls the heap sets `counters.bound` to
-//! its step bound, which command `steps` prints.
+//! its step bound, which command `steps` prints. The heap must be open. All but `k` add to the
+//! count of `steps`, which must be at most 2^63.
 ghost use Rattle.std.specs.Prelude.{◌≡◌, ◌^◌, ◌≤◌, IsTrue, Err};
 ghost use Rattle.cf_session.specs.Records.{run_with, session_of};
 ghost use Rattle.cf_session.specs.Short.{short_text};
@@ -43,7 +44,8 @@ pub(crate) fn malloc<H: Manager>(
 }
 
 /// `f`: on a manager, frees the object of an id, which then isn't live. Counts the move if another
-/// object moved into the slot. The reply is `unknown` if the id isn't live.
+/// object moved into the slot. The reply is `unknown` if the id isn't live. The live ids must be
+/// those of the heap's objects (`AreTied`).
 pub(crate) fn free<H: Manager>(
     records: &mut Records,
     heap: &mut H,
@@ -138,6 +140,7 @@ fn resize_fault_reply(fault: ResizeFault) -> Short
 
 /// `k`: sets to `k` the bound of the class with slots of `slot_words` words, that is, how many of
 /// its pages may be partly full. The reply is `none` if an id is live or no class has such slots.
+/// The run must be in progress (`IsGoing`), and `k` from 1 to 64.
 pub(crate) fn set_bound<H: Manager>(
     records: &Records,
     heap: &mut H,

@@ -24,7 +24,9 @@ use step_ledger::Steps;
 /// `none`. Each line is passed to the sink as a whole. Returns the outcome of the reply. If the
 /// sink fails, the result is `Failed`: the command has taken effect, and a prefix of its reply was
 /// written. `line`, `buffer` and `text` are scratch: `line` for a line of any reply, and, for `r`
-/// alone, `buffer` for the bytes read and `text` for the line that shows them.
+/// alone, `buffer` of 4,096 bytes for the bytes read and `text` of 8,202 bytes for the line that
+/// shows them. The run must be in progress (`IsGoing`), the fields of `c` in the ranges of the
+/// grammar, the lead at most 8 bytes, and the count of `steps` at most 2^63.
 // All commands are in one match: if the compiler knows a caller's command, it inlines that branch alone.
 pub(crate) fn answer<H: Manager, K: Sink>(
     records: &mut Records,

@@ -1,7 +1,7 @@
 //! The commands that change nothing but the count of steps: `r`, `q`, `b`, `p` and `steps`. Each
 //! but `r` builds its reply in `line`, after the lead (in mode `compare` the kind's name and a
 //! space, else empty), or returns a short reply (`Short`); the caller writes it to the sink. `r`
-//! writes its reply itself.
+//! writes its reply itself. The heap must be open, and the lead has at most 8 bytes.
 ghost use Rattle.std.specs.Prelude.{◌≡◌, ◌^◌, ◌<◌, ◌≤◌, ◌++◌, IsTrue, codes, length, slice_get, take};
 ghost use Rattle.std.specs.FinMap as map;
 ghost use Rattle.cf_base.specs.declared.numbers.TheConstants.{CHUNK};
@@ -21,9 +21,10 @@ use cf_model::Manager;
 use step_ledger::Steps;
 
 /// `r`: writes to the sink `=` and `len` bytes of an id's object from byte `at` on, in hexadecimal;
-/// `unknown` if the id isn't live, `range` if the bytes would pass the end of the object. If the
-/// sink fails, the result is `Failed`, and a prefix of the reply was written. `buffer` and `text`
-/// are scratch, for the bytes and for the line.
+/// `unknown` if the id isn't live, `range` if `at` plus `len` exceeds the object's length. If the
+/// sink fails, the result is `Failed`, and a prefix of the reply was written. `buffer`, `text` and
+/// `line` are scratch: `buffer` has 4,096 bytes, for the bytes read, and `text` 8,202 bytes, for the
+/// reply with these bytes. `len` must be at most 4,096, and the count of `steps` at most 2^63.
 pub(crate) fn read<H: Manager, K: Sink>(
     records: &Records,
     heap: &H,
@@ -60,7 +61,7 @@ pub(crate) fn read<H: Manager, K: Sink>(
 }
 
 /// For `r`, fills the start of `text` with the lead, `=`, the bytes in hexadecimal and a line feed, and returns how
-/// many bytes of `text` these take.
+/// many bytes of `text` these take. `text` has 8,202 bytes, enough for a lead of 8 bytes and 4,096 bytes, the most.
 fn spell_bytes(text: &mut [u8], lead: &[u8], bytes: &[u8]) -> usize
     requires text { length text.old ≡ 8202 }
     requires few { length bytes.now ≤ CHUNK }
@@ -80,7 +81,7 @@ fn spell_bytes(text: &mut [u8], lead: &[u8], bytes: &[u8]) -> usize
 }
 
 /// `q`: builds the reply `at` and the address of an id's object, in words from the start of the
-/// region; `unknown` if the id isn't live.
+/// region (on the non-moving kind, of the virtual blocks); `unknown` if the id isn't live.
 pub(crate) fn place<H: Manager>(
     records: &Records,
     heap: &H,
@@ -107,9 +108,10 @@ pub(crate) fn place<H: Manager>(
     }
 }
 
-/// `b`: builds the reply `block` and the number of the physical block that holds block `i` (four
-/// words) of an id's object. `unknown` if the id isn't live; else `none` on any kind but the
-/// non-moving one; else `range` if the object has no block `i`.
+/// `b`: builds the reply `block` and the number of the physical block that holds block `i`, from 0,
+/// of the slot of an id's object; a block has four words. `unknown` if the id isn't live; else
+/// `none` on any kind but the non-moving one; else `range` if the slot has no block `i`. The live
+/// ids must be those of the heap's objects (`AreTied`).
 pub(crate) fn block<H: Manager>(
     records: &Records,
     heap: &H,

@@ -23,7 +23,8 @@ pub fn ended(written: Result<(), Failed>, outcome: Outcome) -> Result<Outcome, F
 }
 
 /// Writes a reply of one line to the sink: a short reply after the lead, or what `line` holds, which is the lead
-/// and the text. Returns its outcome, or `Failed` if the sink failed; then a prefix was written.
+/// and the text; `line` must have room for the line feed, which is added. Returns the reply's outcome, or
+/// `Failed` if the sink failed; then a prefix was written. The lead has at most 8 bytes.
 pub(crate) fn put_reply<K: Sink>(
     reply: OneLine,
     lead: &[u8],
@@ -41,9 +42,10 @@ pub(crate) fn put_reply<K: Sink>(
     }
 }
 
-/// Writes the lead (in mode `compare` the kind's name and a space, else empty) and a short reply to
-/// the sink, and returns the reply's outcome, or `Failed` if the sink failed; then a prefix was
-/// written. If the lead is empty, the text is not copied into `line`, which is scratch.
+/// Writes the lead (in mode `compare` the kind's name and a space, else empty), of at most 8 bytes,
+/// and a short reply to the sink, and returns the reply's outcome, or `Failed` if the sink failed;
+/// then a prefix was written. If the lead is empty, the text is not copied into `line`, which is
+/// scratch.
 pub(crate) fn put_short_line<K: Sink>(
     short: Short,
     lead: &[u8],

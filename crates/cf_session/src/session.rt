@@ -1,5 +1,6 @@
 //! `Session`: does the commands of a script on one manager and writes their replies. Each line
-//! begins with the lead (in mode `compare` the kind's name and a space, else empty).
+//! begins with the lead (in mode `compare` the kind's name and a space, else empty). It also shows
+//! how many objects and words frees and resizes moved, and the handle of an id.
 ghost use Rattle.std.specs.Prelude.{◌≡◌, ◌≤◌, IsTrue, IfOk, length};
 ghost use Rattle.std.specs.FinMap as map;
 ghost use Rattle.run_model.specs.Terms.{AreTied, fresh_session, IsGoing, IsWellFormed, KeepsRules, owned_command, SinkFailsIf};
@@ -57,8 +58,8 @@ impl Session {
         Session::for_library(rt.memory(), alloc)
     }
 
-    /// Does what `start` does, for code without a runtime value, as in a library for C: `memory`
-    /// makes the meter.
+    /// A `Session` in which no id is live, for code without a runtime value, as in a library for C:
+    /// `memory` makes its meter. Allocates as `start` does; fails only if memory runs out.
     pub fn for_library(memory: Memory, alloc: Global) -> Result<Session, OutOfMemory>
         ensures { IfOk result (λ s. s ≡ fresh_session) }
     {
@@ -75,7 +76,8 @@ impl Session {
     /// each line begins with `lead` and is passed to the sink as a whole. Returns the outcome of
     /// the reply. If the sink fails, the result is `Failed`: the command has taken effect, and a
     /// prefix of its reply was written. The heap must be open, its objects those that the ids name,
-    /// and with pages its cost within the session's step bound (`AreTied`).
+    /// and with pages its cost within the session's step bound (`AreTied`); so it is afterwards. The
+    /// fields of `c` must be in the ranges of the grammar, and the lead has at most 8 bytes.
     pub fn apply<H: Manager, K: Sink>(
         &mut self,
         heap: &mut H,
@@ -100,8 +102,9 @@ impl Session {
         self.apply_ref(heap, c.as_ref(), lead, out)
     }
 
-    /// Does what `Session::apply` does, for a command that borrows the bytes of a write. The run
-    /// must be in progress (`IsGoing`).
+    /// Does the command `c` as `Session::apply` does, but `c` borrows the bytes of a write. The run
+    /// must be in progress (`IsGoing`), as it is afterwards, the fields of `c` in the ranges of the
+    /// grammar, and the lead has at most 8 bytes.
     pub fn apply_ref<H: Manager, K: Sink>(
         &mut self,
         heap: &mut H,

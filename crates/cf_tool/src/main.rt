@@ -1,5 +1,6 @@
 //! The program: calls `cf_main` with the arguments, standard input and output, and one closed manager of each
-//! kind, and exits with the status that it returns. If that isn't `Done`, it prints a line on standard error.
+//! kind, and exits with the status that `cf_main` returns. If the arguments can't be read or memory runs out
+//! before that call, the status says so. If it isn't `Done`, the program prints a line on standard error.
 #![tactic(auto)]
 
 ghost use Rattle.std.specs.Prelude.{◌≡◌, option_map};
@@ -18,7 +19,8 @@ use std::process::ExitCode;
 use tlsf_heap::TlsfHeap;
 use top_call::cf_main;
 
-/// Returns the line that the program prints on standard error at this status, `None` at `Done`.
+/// Returns the line that the program prints on standard error at this status, without its line feed. `None`
+/// at `Done`.
 fn complaint(status: Status) -> Option<&'static str>
     ensures { option_map (λ text. text.now) result ≡ complaint_at status }
 {
@@ -68,8 +70,9 @@ fn run_all(rt: &HostRuntime, words: &[String]) -> Result<Status, AllocError> {
     Ok(cf_main(rt, alloc, words, &mut source, &mut sink, &mut managers))
 }
 
-/// Runs the tool, prints the line of its status on standard error unless the status is `Done`, and
-/// exits with the status.
+/// Reads the arguments and calls `cf_main` on them. Exits with the status that `cf_main` returns; with the error
+/// of `command_words` if that fails, with `OutOfMemory` if `run_all` fails. Unless the status is `Done`, prints
+/// the line of the status (`complaint`) on standard error.
 fn main(rt: HostRuntime) -> ExitCode {
     let status = match command_words(&rt) {
         Ok(words) => run_all(&rt, words.as_slice()).unwrap_or(Status::OutOfMemory),

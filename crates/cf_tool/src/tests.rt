@@ -1,7 +1,7 @@
-//! Tests of `cf_main` for what no script on the built program can show: managers that the caller
-//! passes in, sources and sinks that fail at a given call, memory, and the choice that arguments
-//! make. `checks/documents` and `checks/one_output` test the replies. This file has the helpers
-//! that its modules share, and a test of a script without end.
+//! Tests of what no script on the built program can show: managers that the caller of `cf_main`
+//! passes in, sources and sinks that fail at a given call, the memory that heaps ask for, and the
+//! choice that arguments make. `checks/documents` and `checks/one_output` test the replies. This
+//! file has the helpers that its modules share, and a test of a script without end.
 mod arguments;
 mod faults;
 mod managers;
@@ -22,7 +22,7 @@ use step_ledger::Meter;
 use tlsf_heap::TlsfHeap;
 use top_call::cf_main;
 
-/// How many bytes a sink of these tests can hold.
+/// How many bytes a sink of these tests has room for, more than any of these tests writes.
 const ROOM: usize = 65_536;
 
 /// Returns the arguments of a command line: the program's name, then these words.
@@ -152,7 +152,8 @@ fn answered_without_end(rt: &HostRuntime) -> Result<OutputOn, Fail> {
     Ok(OutputOn { left, sink })
 }
 
-/// A script has at most 268,435,455 bytes. This one leads to the status `TooLong` and to no output.
+/// A script may have at most 268,435,455 bytes. A script without end leads to the status `TooLong` and to no
+/// output.
 #[test]
 fn a_script_with_no_end_is_too_long(rt: HostRuntime) -> Result<(), Fail> {
     let got = answered_without_end(&rt)?;

@@ -1,5 +1,5 @@
--- For `push` and `unlink`, in which a page list is a ring of nodes linked both ways: one ring after a write to other nodes, after a node joins it, and after
--- one leaves it.
+-- For `push` and `unlink`, in which a page list is a ring of nodes linked both ways: the list that the links give; the links of a node of the ring lead to
+-- nodes of the ring; and one ring after a write to other nodes, after a node joins it, and after one leaves it.
 use Rattle.std.proofs.Common.{◌≡◌, ◌≢◌, ℕ, ◌<◌, List, [], ◌∷◌, length, get_or, set, arith, refl, sym, ◌∙◌, ap, inl, inr}
 use Rattle.std.specs.Prelude.{nat_eq}
 use Rattle.std.specs.List.{Contains, IsDistinct}

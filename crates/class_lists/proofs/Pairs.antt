@@ -1,4 +1,5 @@
--- For `Counts`, the lengths of the page lists: two lists of counts, by turns, as one list, and what setting one of the counts does to it.
+-- For `Counts`, the lengths of the page lists: two lists of counts, by turns, as one list: its length, what it has at each position, what setting one of the
+-- counts does to it, and that it is zeros if both are.
 use Rattle.std.proofs.Common.{◌≡◌, ℕ, zero, suc, ◌+◌, ◌*◌, ◌<◌, List, [], ◌∷◌, length, get_or, set, drop, replicate, arith, refl, ◌∙◌, ap}
 use Rattle.class_lists.specs.declared.Which.{Which}
 use Rattle.class_lists.specs.declared.Which.TheVariants.{Full, NotFull}

@@ -1,5 +1,5 @@
--- For `push` and `unlink`, in which each page list is a ring of linked nodes: all rings after a page joins one or leaves one. They stay linked, and no page is
--- in two.
+-- For the calls of `ClassLists`, in which each page list is a ring of linked nodes: the lists that the links give, and all rings after a page joins one or
+-- leaves one. They stay linked, their nodes are in range, and no page is in two.
 use Rattle.std.proofs.Common.{◌≡◌, ◌≢◌, ℕ, zero, suc, ◌+◌, ◌-◌, ◌<◌, List, [], ◌∷◌, length, get_or, set, arith, refl, sym, ◌∙◌, ap, inl, inr}
 use Rattle.std.specs.Prelude.{nat_eq}
 use Rattle.std.specs.List.{Contains, IsDistinct}

@@ -1,4 +1,5 @@
--- For the calls of `ClassLists`: the lists that its fields represent, and what each call does to them.
+-- For the calls of `ClassLists`: the lists that its fields represent, with the class that a list's number determines; what each call finds in these lists, and
+-- what it does to them.
 use Rattle.std.proofs.Common.{◌≡◌, ◌≢◌, ℕ, zero, suc, ◌+◌, ◌-◌, ◌*◌, ◌/◌, ◌%◌, ◌<◌, ◌≤◌, List, [], ◌∷◌, Some, None, length, get_or, set, replicate, arith, refl}
 use Rattle.std.proofs.Common.{sym, ◌∙◌, ap, subst, inl, inr, zero-add}
 use Rattle.std.specs.Prelude.{◌^◌, slice_get}

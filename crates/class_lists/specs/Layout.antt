@@ -1,5 +1,5 @@
--- How the lists are linked: as rings of nodes. Each page is a node; after the pages each list has a node of its own, through which its ring goes. No public
--- clause cites this module.
+-- How the lists are linked, as rings of nodes; the lists that the links represent; and when links are valid: they form rings, and no page is in two. Each page
+-- is a node; after the pages each list has a node of its own, through which its ring goes. No public clause cites this module.
 use Rattle.std.specs.Prelude.{◌≡◌, ℕ, zero, suc, ◌+◌, ◌*◌, ◌/◌, ◌^◌, ◌<◌, List, [], ◌∷◌, length, slice_index, slice_index_or, nat_eq}
 use Rattle.std.specs.List.{Contains, IsDistinct}
 use Rattle.class_lists.specs.PageLists.{PageLists}

@@ -1,4 +1,5 @@
--- What contracts see of `ClassLists`: for each class a list of its full pages and one of its partly full pages.
+-- What contracts see of `ClassLists`: for each class a list of its full pages and one of its partly full pages; the rule that no page is in two; and how one
+-- list changes.
 use Rattle.std.specs.Prelude.{◌≡◌, ◌≢◌, ℕ, ◌+◌, ◌*◌, ◌<◌, ◌==◌, ◌⊎◌, List, [], replicate, slice_index_or, slice_set, nat_eq, not, refl}
 use Rattle.std.specs.List.{Contains, IsDistinct, filter}
 use Rattle.std.specs.Coded.{Coded, code_by, coded×, coded_ℕ, coded_list}
@@ -16,7 +17,7 @@ abbrev pub list_number : ℕ → Which → ℕ
 list_number c Full = 2 * c
 list_number c NotFull = 2 * c + 1
 
--- the pages of the list `which` of class c, the head first
+-- the pages of the list `which` of class c, the head first; none if there is no such class
 abbrev pub pages_in : PageLists → ℕ → Which → List ℕ
 pages_in v c which = slice_index_or v.lists (list_number c which) []
 
@@ -41,7 +42,8 @@ abbrev pub KeepsOthers : PageLists → PageLists → ℕ → Which → Type 0
 KeepsOthers old new c which =
     (d : ℕ) (other : Which) → (d ≢ c) ⊎ (other ≢ which) → pages_in new d other ≡ pages_in old d other
 
--- each page in a list is one of the pages, and each list with a page is one of a class; no page is in two lists, or twice in one
+-- each page in a list is one of the `pages` pages, and only lists of the `classes` classes have pages; no page is in two lists, or
+-- twice in one
 pub record AreApart (v : PageLists) : Type 0 where
   pub page : (c : ℕ) (which : Which) (page : ℕ) → Contains (pages_in v c which) page → page < v.pages
   pub class : (c : ℕ) (which : Which) (page : ℕ) → Contains (pages_in v c which) page → c < v.classes

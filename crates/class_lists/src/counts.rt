@@ -9,6 +9,7 @@ use std::marker::Model;
 
 /// The lengths of the two lists of each class. Contracts see one list of counts, in which each
 /// class has two neighbouring entries: its full pages, then its partly full ones (`list_number`).
+/// Calls take only classes that have counts.
 #[derive(Drop)]
 pub(crate) struct Counts {
     /// By class, the number of full pages.

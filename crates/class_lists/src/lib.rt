@@ -27,7 +27,7 @@ pub enum Which {
 }
 
 /// Two lists of pages for each class, one for each `Which`. No page is in two lists, or twice in
-/// one.
+/// one. Calls take only the classes and pages for which the lists were made.
 #[derive(Drop)]
 pub struct ClassLists {
     // A list is a ring: its own node, then the nodes of its pages in order.
@@ -83,7 +83,7 @@ impl ClassLists {
         Ok(ClassLists { links, lens, pages })
     }
 
-    /// The memory that new page lists ask for.
+    /// The memory that new page lists of `classes` classes for `pages` pages ask for.
     pub fn bytes_needed(classes: u32, pages: u32) -> BytesNeeded
         ensures { result ≡ list_bytes classes pages }
     {
@@ -183,7 +183,8 @@ impl Links {
     }
 }
 
-/// The number of the list `which` of class `c` among all lists.
+/// The number of the list `which` of class `c` among all lists: 2 c for the full pages, 2 c + 1 for
+/// the partly full ones. Both must fit 32 bits.
 fn number_of(c: u32, which: Which) -> u32
     requires { 2 * c + 1 < 2 ^ 32 }
     ensures { result ≡ list_number c which }

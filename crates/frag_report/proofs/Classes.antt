@@ -1,5 +1,5 @@
--- For `put_classes`, which writes the lines of `walk`, one for each class with live objects: the lines of the classes below c, then that of c, written whole
--- or cut by a failed sink.
+-- The lines of `walk`, one for each class with live objects, as the report is written: some lines and then more, or those of the classes below c and then that
+-- of c, written whole or cut by a failed sink; and which classes there are.
 use Rattle.std.proofs.Common.{◌≡◌, ◌∙◌, ℕ, zero, suc, ◌+◌, ◌-◌, ◌<◌, ◌++◌, List, [], ◌∷◌, Bool, true, false, cond, Option, refl, ap, sym, arith}
 use Rattle.std.proofs.Common.{◌≤◌, Some, None, inl, inr, nat_lt}
 use Rattle.std.proofs.lemmas.Bool.{cases_lt}

@@ -1,4 +1,5 @@
--- The lines of `walk` on a heap with pages, as they are written one after the other. `p` is the pages and classes, `m` the objects by number, `c` a class.
+-- The lines of `walk` on a heap with pages, as they are written one after the other, and the totals that its last line shows. `p` is the pages and classes, `m`
+-- the objects by the numbers of their proxies, `c` a class.
 use Rattle.std.specs.Prelude.{ℕ, List, [], map, filter, not, nat_eq, if◌then◌else◌}
 use Rattle.std.specs.List.{range_with_len}
 use Rattle.cf_base.specs.declared.results.Figures.{Figures}

@@ -1,7 +1,8 @@
-//! The reports of commands `walk` and `frag`. Each line begins with `lead`: in mode `compare` the
-//! name of the manager's kind and a space, else no bytes. Each line is built in `line`, which is
-//! scratch, and passed to the sink `out` as a whole. If the sink fails, the result is `Failed`, and
-//! a prefix of the report was written. `walk` may add to the count `steps`, `frag` does not.
+//! The reports of commands `walk` and `frag`. The heap must be open. Each line begins with `lead`, of
+//! at most 8 bytes: in mode `compare` the name of the manager's kind and a space, else no bytes. Each
+//! line is built in `line`, which is scratch, and passed to the sink `out` as a whole. If the sink
+//! fails, the result is `Failed`, and a prefix of the report was written. `walk` may add to the count
+//! `steps`, `frag` does not.
 ghost use Rattle.std.specs.Prelude.{◌≡◌, ◌≤◌, IsTrue, length};
 ghost use Rattle.cf_io.specs.Feeds.{Writes};
 ghost use Rattle.cf_model.specs.Answers.{classes_in, totals_in};

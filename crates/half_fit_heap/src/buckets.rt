@@ -5,9 +5,9 @@ ghost use Rattle.block_model.proofs.CallerLemmas.{half_fit_lawful};
 use block_model::half_fit;
 use tag_blocks::Buckets;
 
-/// Half-Fit (1995): a free list for each power of two, for the blocks of at least that many words
-/// and less than twice as many. The search for a block of `need` words begins at the first list in
-/// which every block has at least `need` words.
+/// The free-list rule of Half-Fit (1995): a list for each power of two, for the blocks of at least
+/// that many words and less than twice as many. The search for a block of `need` words begins at
+/// the first list in which every block has at least `need` words.
 #[derive(Drop)]
 pub struct HalfFitBuckets;
 

@@ -1,5 +1,5 @@
--- What other crates' proofs may cite, re-exported: the number fields of an image, its objects by rising id, the pages that they need, and what a load did by
--- the source's bytes. Declares nothing.
+-- What other crates' proofs may cite, re-exported: the number fields and the settings of an image, its objects by rising id, their bytes as read from the heap,
+-- the pages that they need, and what a load did by the source's bytes. Declares nothing.
 pub use Rattle.heap_image.proofs.Chunks.{chunk_is, object_length}
 pub use Rattle.heap_image.proofs.Encoded.{AreBelow, below_end, below_none, below_some, needed_added, needed_more}
 pub use Rattle.heap_image.proofs.Listing.{listed_all, listed_end, listed_none, listed_some}

@@ -1,4 +1,5 @@
--- For `length_of`, which reads an object's length from the heap's words: the word at its address is the header, with the length in the upper half.
+-- For `length_of`, which reads an object's length from the heap's words: the word at its address is the header, with the length in the upper half. A manager of
+-- kind Moving keeps the rules of pages, for `LivesLemmas` too.
 use Rattle.std.proofs.Common.{◌≡◌, ℕ, ◌/◌, ◌^◌, ◌<◌, List, Some, None, length, get_or, arith, sym, ◌∙◌, ap, subst}
 use Rattle.std.specs.Prelude.{option_map, slice_get}
 use Rattle.std.proofs.lemmas.Option.{slice_get-get_or}

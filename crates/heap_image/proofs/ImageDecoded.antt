@@ -1,4 +1,5 @@
--- For the law `an_image_is_read_back`: the image of settings and objects, decoded field by field, has these settings and these objects.
+-- The image of settings and objects, decoded field by field, has these settings and these objects (laws `an_image_is_read_back` and
+-- `an_image_determines_its_objects`). How each field decodes, for the proofs of a load too.
 use Rattle.std.proofs.Common.{◌≡◌, ◌∙◌, ◌++◌, ◌+◌, ◌*◌, ◌/◌, ◌%◌, ◌≤◌, ◌<◌, ◌^◌, ℕ, zero, suc, true, List, [], Option, Some, None}
 use Rattle.std.proofs.Common.{length, refl, ap, sym, arith, append_assoc}
 use Rattle.std.proofs.Common.{length-append}

@@ -1,5 +1,5 @@
--- For the laws `live_objects_have_an_image` and `equal_objects_have_one_image`: the live objects of a moving heap need no more pages than it has, so they
--- have an image; equal objects have the same one.
+-- For the laws `live_objects_have_an_image` and `equal_objects_have_one_image`: the live objects of a moving heap need no more pages than it has, whatever the
+-- bounds, so they have an image; equal objects have the same one. The bytes under an id are those of the object that its number names.
 use Rattle.std.proofs.Common.{◌≡◌, ◌∙◌, ◌+◌, ◌*◌, ◌≤◌, ℕ, List, Option, Some, None, length, refl, ap, sym, subst, arith}
 use Rattle.std.specs.Prelude.{option_map}
 use Rattle.std.specs.List.{range_with_len}

@@ -1,5 +1,5 @@
 -- For `load` and `load_objects`: from how reading the settings and then the objects ended to what the whole load did: all loaded, a rule broken, the source
--- failed, or memory ran out.
+-- failed, or memory ran out. A manager that was just opened has the settings and no objects.
 use Rattle.std.proofs.Common.{◌≡◌, ◌∙◌, ◌++◌, ℕ, Bool, true, false, List, [], Option, Some, None, refl, ap, sym, subst, append-nil}
 use Rattle.std.specs.Prelude.{Result, Ok, Err}
 use Rattle.std.specs.FinMap.{empty, get, get-empty}

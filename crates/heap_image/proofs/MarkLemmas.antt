@@ -1,5 +1,5 @@
--- For `read_settings` and the functions below it, which read the first 16 bytes of an image: the mark and the settings were read, or one breaks a rule, is
--- cut, or the source failed. T and U decode bytes.
+-- For `load`, `read_settings` and the functions below it, which read the first 16 bytes of an image: the mark and the settings were read, or one breaks a rule,
+-- is cut, or the source failed. T and U decode bytes.
 use Rattle.std.proofs.Common.{◌≡◌, ◌∙◌, ◌++◌, ◌+◌, ◌≤◌, ◌<◌, ℕ, Bool, true, false, List, None, length, take, refl, ap, sym, arith}
 use Rattle.std.proofs.Common.{append_assoc, inr, length-append}
 use Rattle.std.specs.Prelude.{Result, Ok, Err, if◌then◌else◌, nat_lt}

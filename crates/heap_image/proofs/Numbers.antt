@@ -1,5 +1,5 @@
--- Fields of an image that are numbers of two or four bytes: the length of an entry and of the header; a number that was written is read back; a whole field decodes to its number, a cut one is marked
--- as cut.
+-- Fields of an image that are numbers of two or four bytes: a number that was written is read back, and bytes that were read are written back; a whole field
+-- decodes to its number, a cut one as cut. The length of such a field, of an entry and of the header.
 use Rattle.std.proofs.Common.{◌≡◌, ◌∙◌, ◌+◌, ◌++◌, ◌<◌, ◌^◌, ℕ, Bool, true, false, List, length, take, drop, refl, ap, sym, arith, get_or}
 use Rattle.std.specs.Prelude.{nat_lt, if◌then◌else◌}
 use Rattle.std.specs.Int.{Width, w16, w32, byte_len}

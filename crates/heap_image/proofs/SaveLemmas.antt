@@ -1,5 +1,5 @@
--- For `save`: the 20 bytes of the header and then the entries, id, length and bytes of each object, are the image of the live objects, or a prefix of it if
--- the sink fails.
+-- For `save` and `put_object`: the 20 bytes of the header and then the entries, id, length and bytes of each object, are the image of the live objects, or a
+-- prefix of it if the sink fails. There are as many live ids as live handles, for `StepLemmas` too.
 use Rattle.std.proofs.Common.{◌≡◌, ◌∙◌, ◌++◌, ◌*◌, ℕ, List, [], length, ap, sym, append_assoc}
 use Rattle.std.specs.Prelude.{Result, Err, Ok}
 use Rattle.std.specs.FinMap.{entries, len}

@@ -1,5 +1,5 @@
--- For `read_page_bytes` and `read_proxies`, which read numbers of an image: if `Settings::check` refuses the numbers read so far, the last one breaks a
--- rule.
+-- For `read_page_bytes` and `read_proxies`, which read numbers of an image: if `Settings::check` refuses the numbers read so far, the last one breaks a rule;
+-- if it accepts them, none does.
 use Rattle.std.proofs.Common.{◌≡◌, ◌∙◌, ◌*◌, ℕ, Bool, true, false, Option, Some, None, refl, ap}
 use Rattle.std.specs.Prelude.{◌&&◌, if◌then◌else◌, nat_le}
 use Rattle.cf_base.specs.Limits.{is_page_bytes, is_within}

@@ -1,5 +1,5 @@
--- For `make_object`, `write_object_bytes` and `free_object`: what the calls of a `Namer` do to the objects by id if every bound is 1; a malloc succeeds if and
--- only if its object fits.
+-- For `make_object`, `write_object_bytes` and `free_object`: what the calls of a `Namer` do to the objects by id and to the session's counters if every bound
+-- is 1; a malloc succeeds if and only if its object fits.
 use Rattle.std.proofs.Common.{◌≡◌, ◌∙◌, ◌+◌, ◌*◌, ◌≤◌, ◌<◌, ℕ, Bool, true, false, List, Some, None, refl, ap, sym, subst, arith, inl, inr}
 use Rattle.std.specs.Prelude.{◌&&◌, cond, nat_eq, Result, Ok, Err, is_ok, nat_le, replicate, ◌↔◌}
 use Rattle.std.specs.Bool.{OnFalse, OnTrue}

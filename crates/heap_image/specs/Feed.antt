@@ -1,4 +1,4 @@
--- What a source shows before and after bytes are read from it. Clauses call it `had` before and `left` after.
+-- What a source shows before and after bytes are read from it, and whether it failed. Clauses call the source `had` before and `left` after.
 use Rattle.std.specs.Prelude.{◌≡◌, ℕ, Bool, true, false, List, length, Option, Result, Ok, Err}
 use Rattle.cf_io.specs.Feeds.{HasGiven, SourceState, preceded}
 use Rattle.heap_image.specs.declared.fault.LoadFault.{LoadFault}

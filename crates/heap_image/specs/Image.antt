@@ -1,4 +1,4 @@
--- The bytes of a heap image: 20 bytes with the mark, the settings but k and the number of objects; then an entry for each object, by rising id.
+-- The bytes of a heap image: 20 bytes with the mark, the settings (but not k) and the number of objects; then an entry for each object, by rising id.
 use Rattle.std.specs.Prelude.{ℕ, List, [], ◌∷◌, ◌++◌, codes, length}
 use Rattle.std.specs.Int.{Width, w16, w32, from_le_bytes, to_le_bytes}
 use Rattle.std.specs.FinMap.{entries, len}

@@ -1,4 +1,4 @@
--- What `load` claims, by its result: which bytes it took, and which objects the heap then holds.
+-- What holds during a load (`IsLoading`), and what `load` claims, by its result: which bytes it took, and which objects the heap then holds.
 use Rattle.std.specs.Prelude.{◌≡◌, ℕ, Bool, true, false, List, [], ◌∷◌, ◌++◌, length, Option, Some, None, Result, Ok, Err}
 use Rattle.cf_base.specs.Settings.{Profile, profile_of}
 use Rattle.cf_base.specs.declared.kind.Kind.TheVariants.{Moving}

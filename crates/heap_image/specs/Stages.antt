@@ -1,6 +1,6 @@
--- The stages of a load: what each function that reads a field, the settings or an entry claims. In all definitions `had` and `left` are the source before and
--- after that function, and `taken` is the bytes that it took. `reading` decodes the bytes of an image from the first of these on, as a function of `Decoded`,
--- and t is its result. No public clause cites this module.
+-- The stages of a load: what each function that reads a field, the settings or an entry claims, and the run after it (`LeadsTo`). `had` and `left` are the
+-- source before and after that function, and `taken` is the bytes that it took. `reading` decodes the bytes of an image from the first of these on, as a
+-- function of `Decoded`, and t is its result. No public clause cites this module.
 use Rattle.std.specs.Prelude.{◌≡◌, ◌<◌, ◌++◌, ℕ, Bool, true, false, List, length, Option, None, Some, Result, Ok, Err}
 use Rattle.std.specs.Int.{Width, byte_len}
 use Rattle.std.specs.FinMap.{empty}

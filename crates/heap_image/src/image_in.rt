@@ -24,10 +24,10 @@ use id_table::Namer;
 /// Loads an image into a heap of kind Moving, whatever chunks the source returns, and returns the
 /// image's settings, with the bound 1. `names` must have no live id before.
 ///
-/// After `Ok` the heap is open with these settings and holds the image's objects, `names` maps
+/// After `Ok` the heap is open with these settings and holds exactly the image's objects, `names` maps
 /// their ids to handles, and the source is at its end. Fails with `Read` only if the source failed;
 /// the bytes that the source returned before break no rule. Fails with `Bad` if the bytes are not
-/// an image; it takes no byte past the field that breaks a rule, or one past the image. After
+/// an image, and takes no byte past the field that breaks a rule, or only one past the image. After
 /// `Read` or `Bad` the heap is unchanged if the settings were not read, and else holds the objects
 /// of the whole entries that were read. Fails with `OutOfMemory` only when it opens the heap, after
 /// the 16 bytes of the mark and the settings; then the heap is closed. Clause `counts` shows how
@@ -60,8 +60,9 @@ pub fn load<S: Source, H: Manager, N: Namer>(
 }
 
 /// Reads the number of objects at byte 16 of the image, then that many entries, and makes their
-/// objects in an open heap without objects. Checks that the source then ends. Fails with `Bad` or
-/// `Read` as `load` does; a number of objects above `proxies` is `Bad`.
+/// objects. Checks that the source then ends. The load must be in progress (`IsLoading`) and the heap
+/// without objects; `proxies` are those of the heap, at most 65,536. Fails with `Bad` or `Read` as
+/// `load` does; a number of objects above `proxies` is `Bad`.
 fn load_objects<S: Source, H: Manager, N: Namer>(
     source: &mut S,
     heap: &mut H,
@@ -87,8 +88,9 @@ fn load_objects<S: Source, H: Manager, N: Namer>(
     load_entries(source, heap, names, count)
 }
 
-/// Reads `count` entries, from byte 20 of the image on, and makes their objects in an open heap
-/// without objects. Checks that the source then ends. Fails with `Bad` or `Read` as `load` does.
+/// Reads `count` entries, from byte 20 of the image on, and makes their objects. Checks that the
+/// source then ends. The load must be in progress (`IsLoading`), the heap without objects, and
+/// `count` at most its proxies, which are at most 65,536. Fails with `Bad` or `Read` as `load` does.
 fn load_entries<S: Source, H: Manager, N: Namer>(
     source: &mut S,
     heap: &mut H,

@@ -1,5 +1,6 @@
-//! Saves a heap: writes its settings but k and its live objects as an image. `meter` counts the
-//! steps of the heap's calls; the functions reset it.
+//! Saves a heap: writes its settings but k and its live objects as an image. Also reads the length of
+//! an object from the heap (`length_of`). `meter` counts the steps of the heap's calls; the functions
+//! reset it.
 ghost use Rattle.std.specs.Prelude.{◌≡◌, ◌<◌, ◌*◌, IsTrue, Some, length};
 ghost use Rattle.std.specs.FinMap as map;
 ghost use Rattle.cf_base.specs.declared.kind.Kind.TheVariants.{Moving};
@@ -47,9 +48,10 @@ impl ObjectWriter for Entries {
     }
 }
 
-/// Writes the image of a heap of kind Moving: a mark, the settings `s` but k and the number of live
-/// objects, then the objects by rising id, each with its id, its length and its bytes. `names` maps
-/// the ids to handles. Returns `Failed` only if the sink failed; then a prefix of the image was
+/// Writes the image of a heap of kind Moving: a mark, the settings `s` (but not k), the number of
+/// live objects, then the objects by rising id, each with its id, its length and its bytes. The heap
+/// must be open with the settings `s`, and `names` map the ids to the handles of its objects, one id
+/// for each (`AreTied`). Returns `Failed` only if the sink failed; then a prefix of the image was
 /// written.
 pub fn save<H: Manager, N: Namer, K: Sink>(
     s: &Settings,
@@ -93,8 +95,8 @@ fn put_header<K: Sink>(s: &Settings, live: u32, line: &mut Line, out: &mut K) ->
     put_all(out, line.bytes())
 }
 
-/// For an image or its script, the length in bytes of the live object with the handle `h`: the
-/// upper half of its header, the word at its address.
+/// For an image or its script, the length in bytes of the live object with the handle `h` in an open
+/// heap of kind Moving: the upper half of its header, the word at its address.
 pub fn length_of<H: Manager>(heap: &H, h: Handle, meter: &mut Meter) -> u32
     requires moving { (H.state heap.now).kind ≡ Moving }
     requires open { IsTrue (H.state heap.now).is_open }
@@ -113,9 +115,9 @@ pub fn length_of<H: Manager>(heap: &H, h: Handle, meter: &mut Meter) -> u32
     (header >> 32) as u32
 }
 
-/// For an image, writes the `n` bytes of the live object with the handle `h`, at most 4,096 at a
-/// time, through `buffer`. Returns `Failed` only if the sink failed; then a prefix of the bytes was
-/// written.
+/// For an image, writes the `n` bytes of the live object with the handle `h` in an open heap, at
+/// most 4,096 at a time, through `buffer`, which has 4,096 bytes. Returns `Failed` only if the sink
+/// failed; then a prefix of the bytes was written.
 fn put_bytes<H: Manager, K: Sink>(
     heap: &H,
     h: Handle,

@@ -1,8 +1,8 @@
 //! Heap images: `save` writes the settings but k and the live objects of a heap as bytes, and
 //! `load` opens a heap with these settings and bound 1 and makes the objects again. Equal settings
 //! and objects by id have equal images. `put_objects` visits the live objects by rising id, and
-//! writes each in the format of an `ObjectWriter`. The ids are those of a `Namer`: a session of a
-//! script, or the `Names` of another program.
+//! writes each in the format of an `ObjectWriter`; `length_of` reads an object's length. The ids
+//! are those of a `Namer`: a session of a script, or the `Names` of another program.
 #![tactic(auto)]
 
 mod fault;

@@ -1,5 +1,7 @@
 //! Reads the entries of an image and makes their objects, by calls of a `Namer`. An object whose bytes
-//! can't all be read is freed again.
+//! can't all be read is freed again. All functions require a load in progress (`IsLoading`). A `buffer` must
+//! have 4,096 bytes. To make an object, its id must not be live and a proxy must be unused. Clauses `counts`,
+//! `stopped` and `freed` show how the step bound and the moves that `names` stores change.
 ghost use Rattle.std.specs.Prelude.{◌≡◌, ◌+◌, ◌<◌, ◌≤◌, ◌^◌, ℕ, List, Some, None, Err, OnErr, OnOk, true, length, replicate};
 ghost use Rattle.std.specs.Bool.{OnFalse, OnTrue};
 ghost use Rattle.std.specs.FinMap as map;
@@ -29,9 +31,10 @@ pub(crate) struct Entry {
 }
 
 /// Reads the next entry of the image's source and makes its object. An id below `next` breaks a
-/// rule; `at` is the offset of the entry in the image, and `buffer` takes up to 4,096 bytes of the
-/// object at a time. Fails with `Bad` if a field breaks a rule or is cut by the end, and with
-/// `Read` if the source failed; then the heap holds the same objects as before.
+/// rule, and no id from `next` on is live before; `at`, less than 2 ^ 60, is the offset of the entry
+/// in the image, and `buffer` takes up to 4,096 bytes of the object at a time. Fails with `Bad` if a
+/// field breaks a rule or is cut by the end, and with `Read` if the source failed; then the heap
+/// holds the same objects as before.
 ///
 /// In clause `entry`, `go` is any function that decodes the bytes after the entry.
 pub(crate) fn read_entry<S: Source, H: Manager, N: Namer>(
@@ -66,8 +69,8 @@ pub(crate) fn read_entry<S: Source, H: Manager, N: Namer>(
 }
 
 /// Reads the length and the bytes of an entry's object, which follow its `id`, and makes the object.
-/// The other parameters are those of `read_entry`, such as `at`, the offset of the entry. Fails as
-/// `read_entry` does.
+/// `id` must be at least `next`. The other parameters are those of `read_entry`, such as `at`, the
+/// offset of the entry. Fails as `read_entry` does.
 fn read_object<S: Source, H: Manager, N: Namer>(
     source: &mut S,
     heap: &mut H,
@@ -104,8 +107,8 @@ fn read_object<S: Source, H: Manager, N: Namer>(
     }
 }
 
-/// While loading, makes an object of `n` zero bytes under the id. Returns false, and makes none, if it doesn't fit a
-/// page, or if all objects with it need more pages than the heap has.
+/// While loading, makes an object of `n` zero bytes under the id. Returns false, and makes none, if the object and its
+/// header don't fit a page, or if all objects with the new one need more pages than the heap has.
 fn make_object<H: Manager, N: Namer>(heap: &mut H, names: &mut N, id: u16, n: u32) -> bool
     requires loading { IsLoading (run_at (N.state names.old) (H.state heap.old)) }
     requires fresh { map.get (live_objects (run_at (N.state names.old) (H.state heap.old))) id ≡ None }
@@ -163,7 +166,8 @@ fn fill_object<S: Source, H: Manager, N: Namer>(
     Ok(())
 }
 
-/// While loading, writes these bytes into the object of an id, from byte `at` of the object on.
+/// While loading, writes these bytes, 1 to 4,096, into the live object of an id, from byte `at` of the object
+/// on. They must not pass the object's end.
 fn write_object_bytes<H: Manager, N: Namer>(
     heap: &mut H,
     names: &mut N,

@@ -24,8 +24,8 @@ pub trait ObjectWriter {
     /// The bytes that are written for an object, by its id and its bytes.
     ghost text: { ℕ → List ℕ → List ℕ };
 
-    /// `ObjectWriter`: writes the live object with the handle `h`, whose id is `id`. `buffer` takes up to 4,096 of its
-    /// bytes at a time, in `line` other output is put together, and `meter` counts the steps of the heap's calls.
+    /// `ObjectWriter`: writes the live object with the handle `h` in the open heap; its id is `id`. `buffer`, of 4,096
+    /// bytes, takes parts of the object, `line` is for other output, and `meter` counts the steps of the heap's calls.
     /// Returns `Failed` only if the sink failed; then a prefix of the object's text was written.
     fn put_object<H: Manager, K: Sink>(
         &self,
@@ -45,9 +45,10 @@ pub trait ObjectWriter {
             → Writes (K.state out.old) (text id x.bytes) result (K.state out.new) };
 }
 
-/// Writes the live objects of the heap one after another, by rising id, each with the writer. `names` maps
-/// the ids to handles; `line` and `meter` are passed to the writer. Returns `Failed` only if the sink failed;
-/// then a prefix of all the objects' texts was written.
+/// Writes the live objects of the open heap of kind Moving one after another, by rising id, each with the
+/// writer. `names` maps the ids to the handles of the objects, one id for each (`AreTied`); `line` and `meter`
+/// are passed to the writer. Returns `Failed` only if the sink failed; then a prefix of all the objects' texts
+/// was written.
 pub fn put_objects<W: ObjectWriter, H: Manager, N: Namer, K: Sink>(
     writer: &W,
     heap: &H,

@@ -64,7 +64,7 @@ fn read_pages<S: Source>(source: &mut S) -> Result<Settings, LoadFault>
 }
 
 /// Reads the bytes of a page at byte 8 of the image, then the proxies, and returns the settings; `pages` was
-/// read before them. Fails as `read_settings` does.
+/// read before them, and is 1 to 4,096. Fails as `read_settings` does.
 fn read_page_bytes<S: Source>(source: &mut S, pages: u32) -> Result<Settings, LoadFault>
     requires pages { IsTrue (is_within 1 4096 pages) }
     ensures settings { ReadsSettingsOrStops 8 (page_bytes_decoded pages) (feed_of (S.state source.old)) result (feed_of (S.state source.new)) }
@@ -81,7 +81,7 @@ fn read_page_bytes<S: Source>(source: &mut S, pages: u32) -> Result<Settings, Lo
 }
 
 /// Reads the number of proxies at byte 12 of the image, and returns the settings; `pages` and
-/// `page_bytes` were read before. Fails as `read_settings` does.
+/// `page_bytes` were read before, and are in range. Fails as `read_settings` does.
 fn read_proxies<S: Source>(
     source: &mut S,
     pages: u32,

@@ -1,4 +1,5 @@
--- For `Held::open`: a closed manager that is opened has no objects, uses all in the opening order, and has counted 0 steps (`IsFreshHeap`).
+-- For `Held::open`: a closed manager that is opened has no objects, uses its pages or blocks in the opening order, and has counted 0 steps; C's handles are
+-- those of a new heap (`IsFreshHeap`).
 use Rattle.std.proofs.Common.{◌≡◌, ap, refl}
 use Rattle.std.specs.Prelude.{ℕ, List, IsSome}
 use Rattle.cf_base.specs.Settings.{profile_of}

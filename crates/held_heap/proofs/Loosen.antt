@@ -1,4 +1,5 @@
--- In memory a `Held` of the moving manager is its fields, a `LooseHeld`, whose heap is valid and shows the state of the `Held` (`Fits`). Who owns the one may own the other, at the same place.
+-- In memory a `Held` of the moving manager is its fields, a `LooseHeld`, whose heap is valid and open (`Fits`). Who owns the `Held` may own the `LooseHeld`
+-- instead, at the same place, and the reverse.
 use Rattle.std.proofs.Common.{◌≡◌, ℕ, List, [], ◌∷◌, refl, sym, ap, ◌∙◌, subst}
 use seplogic.Ra.Ura.{Ura}
 use base.Fraction.{full_share}

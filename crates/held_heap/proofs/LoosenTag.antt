@@ -1,5 +1,5 @@
--- In memory a `Held` of a manager with blocks is its fields, a `LooseTag`, whose heap is valid and shows the state of the `Held` (`Fits`). Who owns the one may own the other, at the same place. Each type on the way down to the
--- heads of the free lists has an invariant; it is opened and closed in turn.
+-- In memory a `Held` of a manager with blocks is its fields, a `LooseTag`, whose heap is valid and open (`Fits`). Who owns the `Held` may own the `LooseTag`
+-- instead, at the same place, and the reverse. Each type on the way down to the heads of the free lists has an invariant, which is opened and closed in turn.
 use Rattle.std.proofs.Common.{◌≡◌, ℕ, List, [], ◌∷◌, refl, sym, ap, ◌∙◌, subst, Option, Some, None}
 use seplogic.Ra.Ura.{Ura}
 use base.Fraction.{full_share}

@@ -1,4 +1,5 @@
--- For `no_call_within_the_needs_lacks_space`: the calls of C are calls of the manager, or leave its heap as it is.
+-- For `no_call_within_the_needs_lacks_space`: the calls of C are calls of the manager, or leave its heap as it is; so a malloc or resize within the needs is
+-- not refused for lack of space.
 use Rattle.std.proofs.Common.{◌≡◌, ◌≢◌, ℕ, ℤ, pos, ◌/◌, ◌≤◌, ◌++◌, List, [], ◌∷◌, None, Some, Option, Bool, true, false, replicate, arith, ap, refl, sym, ◌∙◌, subst}
 use Rattle.std.proofs.lemmas.Bool.{eqb-true}
 use Rattle.std.specs.Prelude.{Result, Ok, Err, if◌then◌else◌, nat_eq, nat_lt}

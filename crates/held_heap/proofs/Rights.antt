@@ -1,5 +1,6 @@
--- What a caller in C may do with the words of a region that a `Loan` owns. It owns them (`words_lie`), so it may read them, and write bytes of live objects: then it owns the words of the heap's state after that
--- write, and by the law `bytes_are_written` what makes the heap whole again is that of this state. So it owns the `Loan` with this state, and may pass it to the next call. No function cites the law.
+-- What a caller in C may do with the words of a region that a `Loan` owns. It owns them (`words_lie`), so it may read them, and write bytes of live objects:
+-- then it owns the words of the heap's state after that write, and by the law `bytes_are_written` what makes the heap whole again is that of this state. So it
+-- owns the `Loan` with this state, and may pass it to the next call. No function cites the law.
 use Rattle.std.proofs.Common.{◌≡◌, ℕ, ◌+◌, ◌/◌, ◌%◌, ◌≤◌, List, length, refl, sym, ap, ◌∙◌, subst, Option, Some, None, arith}
 use Rattle.std.proofs.lemmas.Bool.{false≢true}
 use Rattle.std.specs.Prelude.{IsTrue, is_some}

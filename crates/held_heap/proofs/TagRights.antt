@@ -1,4 +1,5 @@
--- `Rights` for the managers with blocks: what a caller in C may do with the words of a region that a `HeapBlock` of `tlsf.rt` or `half.rt` owns apart. No function cites the law `bytes_are_written`.
+-- `Rights` for the managers with blocks: what a caller in C may do with the words of a region that a `Lent` of `tlsf.rt` or `half.rt` owns. No function cites
+-- the law `bytes_are_written`.
 use Rattle.std.proofs.Common.{◌≡◌, ℕ, ◌+◌, ◌/◌, ◌%◌, ◌≤◌, List, length, refl, sym, ap, ◌∙◌, subst, Option, Some, None}
 use Rattle.std.proofs.lemmas.Bool.{false≢true}
 use Rattle.std.specs.Prelude.{IsTrue}

@@ -7,8 +7,8 @@ use Rattle.c_base.specs.CallerHeap.{CallerHeap, Closed, Opened, Lent}
 use Rattle.held_heap.specs.Calls.{IsFreshHeap}
 use Rattle.held_heap.specs.HeldState.{HeldState}
 
--- An open with these settings: pages, bytes of a page, bound k, and proxies. On a heap that is open already it returns 8 (`OPEN`), on a lent one 9 (`LENT`),
--- and changes nothing.
+-- A call that opens a heap of this kind with these settings: pages, bytes of a page, bound k, and proxies. On a closed heap it does what `IsOpening` says. On
+-- one that is open already it returns 8 (`OPEN`), on a lent one 9 (`LENT`), and changes nothing.
 abbrev pub IsOpenCall : Kind → CallerHeap HeldState → ℕ → ℕ → ℕ → ℕ → ℤ → CallerHeap HeldState → Type 0
 IsOpenCall kind (Closed last) pages page_bytes k proxies code new =
     IsOpening (setting_fault pages page_bytes k proxies) (IsFreshHeap kind (profile_from pages page_bytes k proxies) last) last code new

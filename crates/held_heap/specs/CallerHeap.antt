@@ -1,4 +1,4 @@
--- What a caller in C has for a heap of one manager.
+-- What a caller in C has for a heap of one manager once it is closed.
 use Rattle.c_base.specs.CallerHeap.{CallerHeap, closed_with}
 use Rattle.c_base.specs.Handles.{largest}
 use Rattle.held_heap.specs.HeldState.{HeldState}

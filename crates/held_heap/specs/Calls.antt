@@ -1,5 +1,6 @@
--- For `Held`: what a call of a C library (others are in `Bound`, `Slots` and `Walk`) does to an open heap with its step count (`old`, `new`) and to the caller's
--- number, structure or buffer (`before`, `after`), and the `code` that it returns.
+-- For `Held`: the heap just opened (`IsFreshHeap`), and what a call of a C library (others are in `Bound`, `Slots` and `Walk`) does to an open heap with its
+-- step count (`old`, `new`) and to the caller's number, structure or buffer (`before`, `after`), and the `code` that it returns. `answer` is the result of the
+-- manager's call, whose steps, counted from 0, are `new.steps`, and `most` has the manager's own step bounds.
 use Rattle.std.specs.Prelude.{◌≡◌, ℕ, ℤ, pos, List, Option, Some, Result, Ok, Err, length}
 use Rattle.cf_base.specs.Settings.{Profile}
 use Rattle.cf_base.specs.declared.results.Handle.{Handle}
@@ -31,7 +32,7 @@ use Rattle.c_base.specs.declared.results.NphResized.{NphResized}
 use Rattle.c_base.specs.declared.results.NphHeapTotals.{NphHeapTotals}
 
 -- `new` is a heap that was just opened with the settings p: it has no objects, its pages, numbers and blocks are in the opening order, its count of steps is 0, its handles
--- are larger than `last` or begin at 0 if too few are larger (`AreFirstHandles`), and it has counted nothing else
+-- are larger than `last` or begin at 0 if too few are larger (`AreFirstHandles`), and its counts are those of the opening
 pub record IsFreshHeap (kind : Kind) (p : Profile) (last : ℕ) (new : HeldState) : Type 0 where
   pub words : IsOpeningWords kind p new.heap.words
   pub whole : new.heap ≡ ordered_heap kind p new.heap.words (Some (opening_order kind p))
@@ -40,8 +41,7 @@ pub record IsFreshHeap (kind : Kind) (p : Profile) (last : ℕ) (new : HeldState
   pub handles : AreFirstHandles p.proxies last new.handles
   pub counts : new.counts ≡ opening_counts (free_left new.heap)
 
--- A malloc of `bytes` bytes. Its steps are the cost that the new heap records. Here and below `answer` is the result of the manager's call, whose steps, counted
--- from 0, are `new.steps`, and `most` has the manager's own step bounds.
+-- a malloc of `bytes` bytes; the steps of the call are the cost that the new heap records
 pub record IsMallocCall (most : Option Bounds) (old : HeldState) (bytes before : ℕ) (code : ℤ) (after : ℕ) (new : HeldState) : Type 0 where
   pub answer : Result Handle Refusal
   pub by_code : code ≡ malloc_code answer
@@ -54,7 +54,7 @@ pub record IsMallocCall (most : Option Bounds) (old : HeldState) (bytes before :
   pub same : new.handles ≡ old.handles
   pub counts : new.counts ≡ malloc_counts old.counts answer new.heap
 
--- a free of the object that `handle` names, which is given up if the free succeeds; its steps are the cost that the new heap records
+-- a free of the object that `handle` names; if it succeeds, the number of the object gets its next handle; the steps of the call are the cost that the new heap records
 pub record IsFreeCall (most : Option Bounds) (old : HeldState) (handle : ℕ) (before : NphFreed) (code : ℤ) (after : NphFreed) (new : HeldState) : Type 0 where
   pub answer : Result Freed NotLive
   pub by_code : code ≡ free_code answer
@@ -73,7 +73,7 @@ resized_shown handles before (Ok done) =
     record { old_slot_words = done.old_slot_words; slot_words = done.slot_words; moved = moved_handle handles done.moved }
 resized_shown handles before (Err e) = before
 
--- a resize of the object that `handle` names to `bytes` bytes; with pages its steps are the cost that the new heap records
+-- a resize of the object that `handle` names to `bytes` bytes; with pages the steps of the call are the cost that the new heap records
 pub record IsResizeCall (most : Option Bounds) (old : HeldState) (handle bytes : ℕ) (before : NphResized) (code : ℤ) (after : NphResized) (new : HeldState) : Type 0 where
   pub answer : Result Resized ResizeFault
   pub by_code : code ≡ resize_code answer

@@ -14,7 +14,7 @@ use Rattle.cf_model.specs.State.{HeapState, paging_in}
 use Rattle.page_model.specs.Arrangement.{free_pages}
 use Rattle.c_base.specs.declared.results.NphCounted.{NphCounted}
 
--- the free pages; with blocks, the bytes outside used blocks
+-- how many pages are free; with blocks, how many bytes are outside used blocks
 abbrev pub free_left : HeapState → ℕ
 free_left s = elim (family_of s.kind) [ paged ↦ free_pages (paging_in s) s.held | tiled ↦ (usage_in s.kind s).held - (usage_in s.kind s).taken ]
 
@@ -22,19 +22,20 @@ free_left s = elim (family_of s.kind) [ paged ↦ free_pages (paging_in s) s.hel
 abbrev pub asked_in : HeapState → ℕ
 asked_in s = (usage_in s.kind s).asked
 
--- the counts of a heap that was just opened, with so much free
+-- the counts of a heap that was just opened, with `free` free pages, or with blocks `free` bytes outside used blocks
 abbrev pub opening_counts : ℕ → NphCounted
 opening_counts free = record { most_asked = 0; least_free = free; moves = 0; unknown = 0; size = 0; proxy = 0; space = 0 }
 
--- one more, but at most the largest number of 64 bits
+-- the count after n: n + 1, but at most the largest number of 64 bits
 abbrev pub next_count : ℕ → ℕ
 next_count n = min (n + 1) (2 ^ 64 - 1)
 
--- after a call that left the heap s: the most bytes asked for and the least free
+-- the counts c after a call that left the heap s: `most_asked` is raised to the bytes asked for in s, if these are more, and `least_free` lowered to what is
+-- free in s (`free_left`), if that is less
 abbrev pub with_peaks : NphCounted → HeapState → NphCounted
 with_peaks c s = record c { most_asked = max c.most_asked (asked_in s); least_free = min c.least_free (free_left s) }
 
--- after a call that moved this object, if any
+-- the counts after a call that moved this object: one more move; unchanged if it moved none
 abbrev pub counted_move : NphCounted → Option Handle → NphCounted
 counted_move c (Some h) = record c { moves = next_count c.moves }
 counted_move c None = c

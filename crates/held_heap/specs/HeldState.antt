@@ -1,4 +1,5 @@
--- For `Held`, an open heap with the step count of its last call and the handles that C has: its state, as contracts see it.
+-- For `Held`, an open heap with the steps of its last call that counts any, the handles that C has, and what it counted since its opening: its state, as
+-- contracts see it. Also that a manager is open and of a kind (`IsOpenOfKind`).
 use Rattle.std.specs.Prelude.{◌≡◌, ℕ, List, IsTrue, refl}
 use Rattle.std.specs.Coded.{Coded, code_by, coded×, coded_list, coded_ℕ}
 use Rattle.c_base.specs.contracts.results.NphCounted as counts
@@ -11,7 +12,8 @@ pub record IsOpenOfKind (of_kind : Kind) (s : HeapState) : Type 0 where
   pub open_now : IsTrue s.is_open
   pub kind : s.kind ≡ of_kind
 
--- the state of the heap; the steps of the last call that counts them; the handle of each number; and what is counted from the opening on
+-- the state of a `Held`: that of its heap; the steps of its last call that counts them, 0 at first; C's handles, by the number of the object; and what the heap
+-- has counted since its opening
 pub record HeldState : Type 0 where
   pub heap : HeapState
   pub steps : ℕ

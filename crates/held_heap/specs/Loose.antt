@@ -1,4 +1,5 @@
--- `LooseHeld`, the fields of an open heap of the moving manager with its step count: its words, other words in their place, and which of them is a `Held`, with which state.
+-- For `LooseHeld`, the fields of a `Held` of the moving manager: the words of the region, the same fields with other words in the region, the state of a `Held`
+-- with these fields, and when the fields are those of a `Held` (`Fits`). Together these say how a `Held` lends its words (`lending`).
 use Rattle.std.specs.Prelude.{ℕ, List, Option, Some, None, length}
 use Rattle.cf_base.specs.declared.kind.Kind.TheVariants.{Moving}
 use Rattle.region.specs.Lending.{with_words}
@@ -18,10 +19,12 @@ loose_words a = region_in a.heap.inner
 abbrev pub region_all : OpenHeap → List ℕ → OpenHeap
 region_all h ws = record h { region = with_words h.region 0 (length h.region) ws }
 
+-- what a manager holds, an open heap or none, with the words ws in its region
 abbrev pub inner_all : Option OpenHeap → List ℕ → Option OpenHeap
 inner_all None ws = None
 inner_all (Some h) ws = Some (region_all h ws)
 
+-- the fields a with the words ws in the region of the heap
 abbrev pub held_all : LooseHeld → List ℕ → LooseHeld
 held_all a ws = record a { heap = record a.heap { inner = inner_all a.heap.inner ws } }
 
@@ -34,6 +37,6 @@ pub record Fits (a : LooseHeld) : Type 0 where
   pub valid : IsValidIn Moving a.heap.inner
   pub open_now : IsOpenOfKind Moving (state_in Moving a.heap.inner)
 
--- the loan of the words of a `Held`
+-- how a `Held` of the moving manager lends its words: its words, its fields and its largest handle
 abbrev pub lending : Lending HeldState LooseHeld
 lending = record { words = λ h. h.heap.words; with_words = held_all; fits = Fits; state = loose_state_of; last = λ h. largest h.handles }

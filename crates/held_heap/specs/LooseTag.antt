@@ -1,4 +1,6 @@
--- `LooseTag`, the fields of an open heap with blocks and of its step count: its words, other words in their place, and for each free-list rule which of them is a `Held`, with which state.
+-- For `LooseTag`, the fields of a `Held` over a manager with blocks: the words of the region, the same fields with other words in the region, the state that
+-- the fields show, and for each free-list rule (`Rule`) when the fields are those of a `Held` (`Fits`). Together these say how a `Held` lends its words
+-- (`lending`).
 use Rattle.std.specs.Prelude.{ℕ, List, [], Option, Some, None, length}
 use Rattle.cf_base.specs.declared.kind.Kind.{Kind}
 use Rattle.region.specs.Lending.{with_words}
@@ -22,39 +24,46 @@ pub record Rule : Type 0 where
   pub lists : FreeLists
   pub count : ℕ
 
--- the words of the region; none if the heap is closed
+-- the words of the region of what a manager holds, an open heap or none; no words if none
 abbrev pub tag_region_in : Option LooseOpen → List ℕ
 tag_region_in None = []
 tag_region_in (Some h) = h.blocks.region
 
+-- the words of the region of the heap with the fields a; none if it is closed
 abbrev pub loose_words : LooseTag → List ℕ
 loose_words a = tag_region_in a.heap.inner
 
--- the heap with the words ws in its region
+-- the blocks with the words ws in their region
 abbrev pub blocks_all : LooseBlocks → List ℕ → LooseBlocks
 blocks_all t ws = record t { region = with_words t.region 0 (length t.region) ws }
 
+-- the open heap with the words ws in its region
 abbrev pub open_all : LooseOpen → List ℕ → LooseOpen
 open_all h ws = record h { blocks = blocks_all h.blocks ws }
 
+-- what a manager holds, an open heap or none, with the words ws in its region
 abbrev pub inner_all : Option LooseOpen → List ℕ → Option LooseOpen
 inner_all None ws = None
 inner_all (Some h) ws = Some (open_all h ws)
 
+-- the fields a with the words ws in the region of the heap
 abbrev pub held_all : LooseTag → List ℕ → LooseTag
 held_all a ws = record a { heap = record a.heap { inner = inner_all a.heap.inner ws } }
 
--- the blocks and the heap that these fields show
+-- the blocks that these fields show
 abbrev pub seen_blocks : LooseBlocks → Tagged
 seen_blocks t = record { words = t.region; blocks = blocks_of t.region; lists = lists_of t.region t.heads.addresses }
 
+-- the open heap that these fields show
 abbrev pub seen_heap : LooseOpen → Heap
 seen_heap h = record { settings = h.settings; tagged = seen_blocks h.blocks; proxies = h.proxies; asked = h.asked; used_words = h.used_words; cost = h.cost }
 
+-- the heap that the fields of an open heap show, if there are any
 abbrev pub seen_in : Option LooseOpen → Option Heap
 seen_in None = None
 seen_in (Some h) = Some (seen_heap h)
 
+-- the state of a manager of this kind that holds these fields of an open heap, or none
 abbrev pub state_seen : Kind → Option LooseOpen → HeapState
 state_seen kind o = tag_state_in kind (seen_in o)
 
@@ -83,6 +92,6 @@ pub record Fits (rule : Rule) (a : LooseTag) : Type 0 where
   pub rules : IsKeptIn rule.kind (seen_in a.heap.inner)
   pub open_now : IsOpenOfKind rule.kind (state_seen rule.kind a.heap.inner)
 
--- the loan of the words of a `Held`
+-- how a `Held` over a manager with this free-list rule lends its words: its words, its fields and its largest handle
 abbrev pub lending : Rule → Lending HeldState LooseTag
 lending rule = record { words = λ h. h.heap.words; with_words = held_all; fits = Fits rule; state = loose_state_of rule.kind; last = λ h. largest h.handles }

@@ -1,5 +1,5 @@
--- For `moving.rt`: the type of an open heap of the moving manager (`Held`) in the kit's logic of memory. The kit generates `the_row`, the type of a struct, and
--- `ghosts`, the ghost members of a trait's implementation.
+-- For `moving.rt`: the types of an open heap of the moving manager (`Held`) and of its fields in the kit's logic of memory, and the manager's step bounds. The
+-- kit generates `the_row`, the type of a struct, and `ghosts`, the ghost members of a trait's implementation.
 use denote.RattleType.{RattleType}
 use Rattle.std.specs.Prelude.{Option, Some}
 use Rattle.cf_base.specs.declared.kind.Kind.TheVariants.{Moving}
@@ -23,7 +23,7 @@ open_heap = held.the_row
     (manager.ghosts the_row page_kind.ghosts manager.no_dict mapping.ghosts manager.no_dict)
     (step_bounds.ghosts the_row page_kind.ghosts step_bounds.no_dict mapping.ghosts step_bounds.no_dict)
 
--- its fields
+-- the fields of an open heap of the moving manager, `LooseHeld`
 abbrev pub loose_heap : RattleType
 loose_heap = loose.the_row
 

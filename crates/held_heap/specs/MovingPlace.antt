@@ -1,4 +1,5 @@
--- For `NphHeap` of `moving.rt`, the struct that a caller in C has for its heap: the `LendableHeap` that it is in memory.
+-- For `NphHeap` of `moving.rt`, the struct that a caller in C has for its heap: the `LendableHeap` that it is in memory, the heap in it, and a borrow of the
+-- one as the other.
 use Rattle.std.specs.Borrow.{Fml, Lends, MutBor}
 use Rattle.c_base.specs.CallerHeap.{CallerHeap}
 use Rattle.c_base.specs.Place as base
@@ -11,7 +12,7 @@ use Rattle.held_heap.specs.contracts.moving.NphHeap.{the_row}
 use Rattle.held_heap.specs.declared.loose.LooseHeld.{LooseHeld}
 use Rattle.held_heap.specs.declared.moving.NphHeap.{NphHeap}
 
--- the `LendableHeap` that the struct is
+-- the `LendableHeap` that the struct is in memory, field by field
 abbrev pub inner_of : NphHeap → LendableHeap HeldState LooseHeld
 inner_of n = record {
   place = record { at = n.place.at; held = n.place.held };
@@ -24,7 +25,7 @@ inner_of n = record {
   same = n.same;
 }
 
--- the struct that a `LendableHeap` is
+-- the struct that a `LendableHeap` is in memory, field by field
 abbrev pub outer_of : LendableHeap HeldState LooseHeld → NphHeap
 outer_of h = record {
   place = record { at = h.place.at; held = h.place.held };

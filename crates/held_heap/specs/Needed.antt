@@ -10,7 +10,7 @@ use Rattle.tag_heap.specs.Needed.{tag_bytes}
 use Rattle.c_base.specs.Needed.{AreNeeded, IsOfHandles}
 use Rattle.c_base.specs.declared.results.NphNeeded.{NphNeeded}
 
--- what an open manager of each kind asks for
+-- the memory that an open manager of each kind asks for, without its `Held`
 abbrev pub manager_bytes : Kind → Profile → BytesNeeded
 manager_bytes Moving p = paged_bytes Moving p
 manager_bytes NonMoving p = paged_bytes NonMoving p
@@ -24,11 +24,11 @@ held_size NonMoving = 1528
 held_size Tlsf = 512
 held_size HalfFit = 512
 
--- the manager, the handles of `count` numbers, and the block of the open heap
+-- the memory of an open heap: that of its manager, a block for the handles of `count` numbers, 4 bytes each, and the block of the `Held`
 abbrev pub held_bytes : Kind → Profile → ℕ → BytesNeeded
 held_bytes kind p count = both (manager_bytes kind p) (both (one_block (4 * count)) (one_block (held_size kind)))
 
--- what opening a heap with the settings p asks for
+-- these numbers are the memory that opening a heap with the settings p asks for
 abbrev pub IsHeldBytes : Kind → Profile → BytesNeeded → Type 0
 IsHeldBytes kind p = IsOfHandles p.proxies (held_bytes kind p)
 

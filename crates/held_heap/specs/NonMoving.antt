@@ -1,5 +1,5 @@
--- For `nonmoving.rt`: the type of an open heap of the non-moving manager (`Held`) in the kit's logic of memory. The kit generates `the_row`, the type of a
--- struct, and `ghosts`, the ghost members of a trait's implementation.
+-- For `nonmoving.rt`: the type of an open heap of the non-moving manager (`Held`) in the kit's logic of memory, and the manager's step bounds. The kit
+-- generates `the_row`, the type of a struct, and `ghosts`, the ghost members of a trait's implementation.
 use denote.RattleType.{RattleType}
 use Rattle.std.specs.Prelude.{Option, Some}
 use Rattle.cf_base.specs.declared.kind.Kind.TheVariants.{NonMoving}

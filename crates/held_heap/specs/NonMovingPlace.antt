@@ -1,4 +1,5 @@
--- For `NphHeap` of `nonmoving.rt`, the struct that a caller in C has for its heap: the heap that it owns, and the struct when a borrow of that heap ends.
+-- For `NphHeap` of `nonmoving.rt`, the struct that a caller in C has for its heap: the heap that it owns, and the struct when a borrow of that heap ends. For
+-- `Place`: the `HeapBlock` that it is in memory, and a borrow of the one as the other.
 use denote.RawPtr.{null_ptr}
 use Rattle.std.specs.Prelude.{Some, None, refl, true}
 use Rattle.std.specs.Borrow.{Fml, Lends, MutBor}
@@ -21,10 +22,11 @@ heap_in n = heap_of n.place.held None null_ptr n.last
 abbrev pub LendsNonMoving : MutBor NphHeap → MutBor HeldState → Fml
 LendsNonMoving s r = Lends the_row open_heap s r (λ h. record { place = record { at = s.now.place.at; held = Some h }; last = s.now.last; is_open = true; shown = refl })
 
--- the `HeapBlock` that a `Place` is in memory, and the `Place` that a `HeapBlock` is
+-- the `HeapBlock` that a `Place` is in memory, field by field
 abbrev pub inner_of : Place → HeapBlock HeldState
 inner_of p = record { at = p.at; held = p.held }
 
+-- the `Place` that a `HeapBlock` is in memory, field by field
 abbrev pub outer_of : HeapBlock HeldState → Place
 outer_of b = record { at = b.at; held = b.held }
 

@@ -32,7 +32,7 @@ pub record AreLeastPages (layout : Layout) (page_bytes : ℕ) (needs : List Need
       → CanBeRefused p (KeepsTo needs) empty
   pub proxies : declared_in_all needs ≤ 65536
 
--- a refusal: its cause, the first that holds, and code, with the caller's number before and after
+-- a refused call for the pages of a program: its cause, the first that holds, and the code of the cause; the caller's number stays
 pub record IsPagesRefusal (page_bytes k : ℕ) (needs : List Need) (code : ℤ) (before after : ℕ) : Type 0 where
   pub cause : NeedsFault
   pub fault : HasFault page_bytes k needs cause

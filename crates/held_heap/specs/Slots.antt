@@ -1,4 +1,4 @@
--- For `Held`: the words of an object's slot or block, before a free clears them, and over a manager with pages the class of a length.
+-- For `Held`: how many words the slot or block of a live object has, and over a manager with pages the class of a length.
 use Rattle.std.specs.Prelude.{◌≡◌, ℕ, ℤ, Option, option_map}
 use Rattle.std.specs.FinMap.{get}
 use Rattle.cf_base.specs.Classes.{class_of}

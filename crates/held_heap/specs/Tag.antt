@@ -1,5 +1,5 @@
--- For `tlsf.rt` and `half.rt`: the type of an open heap with blocks (`Held`) in the kit's logic of memory, for each free-list rule. The kit generates `the_row`,
--- the type of a struct, and `ghosts`, the ghost members of a trait's implementation.
+-- For `tlsf.rt` and `half.rt`: for each free-list rule the types of an open heap with blocks (`Held`) and of its fields in the kit's logic of memory; and the
+-- managers' step bounds. The kit generates `the_row`, the type of a struct, and `ghosts`, the ghost members of a trait's implementation.
 use denote.RattleType.{RattleType}
 use Rattle.std.specs.Prelude.{Option, Some}
 use Rattle.cf_model.specs.Bounds.{Bounds}
@@ -27,7 +27,7 @@ module _ (R : RattleType) (P : policy.Ghosts R.Denot) (B : buckets.Ghosts R.Deno
       (manager.ghosts R P manager.no_dict B manager.no_dict manager.no_dict)
       (step_bounds.ghosts R P step_bounds.no_dict B step_bounds.no_dict step_bounds.no_dict)
 
--- its fields
+-- the fields of an open heap with blocks, `LooseTag`
 abbrev pub loose_heap : RattleType
 loose_heap = loose.the_row
 

@@ -1,4 +1,4 @@
--- For `Held`: a walk over the live objects, by rising number.
+-- For `Held`: a walk over the live objects, by rising number, and its steps.
 use Rattle.std.specs.Prelude.{◌≡◌, ℕ, ℤ, pos, ◌+◌, ◌-◌, ◌<◌, ◌≤◌, Option, Some, None, if◌then◌else◌, length, nat_eq, option_map}
 use Rattle.std.specs.FinMap.{get}
 use Rattle.cf_base.specs.declared.results.Handle.{Handle}

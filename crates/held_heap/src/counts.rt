@@ -17,8 +17,9 @@ pub(crate) fn count(n: &mut u64)
     *n = n.saturating_add(1);
 }
 
-/// For C, raises `most_asked` to the bytes that the heap's live objects ask for, if these are more,
-/// and lowers `least_free` to what is free, if that is less.
+/// For C, raises `most_asked` to the bytes that the live objects of an open heap asked for, if
+/// these are more. Lowers `least_free` to the number of free pages, or with blocks to the bytes
+/// outside used blocks, if that is less (`free_left`).
 pub(crate) fn count_peaks<H: OfKind>(heap: &H, counts: &mut NphCounted)
     requires { IsOpenOfKind H.of_kind (H.state heap.now) }
     ensures { counts.new ≡ with_peaks counts.old (H.state heap.now) }
@@ -42,7 +43,8 @@ pub(crate) fn count_move(counts: &mut NphCounted, moved: Option<Handle>)
     }
 }
 
-/// After a resize that succeeded, counts for C the peaks and a move (`count_peaks`, `count_move`).
+/// For C, counts a resize that succeeded: the peaks, and a move if another object moved
+/// (`count_peaks`, `count_move`).
 pub(crate) fn count_resized<H: OfKind>(heap: &H, counts: &mut NphCounted, moved: Option<Handle>)
     requires { IsOpenOfKind H.of_kind (H.state heap.now) }
     ensures { counts.new ≡ counted_move (with_peaks counts.old (H.state heap.now)) moved }

@@ -1,5 +1,5 @@
-//! `NphHeap` for the Half-Fit manager: a `LendableHeap` in types that C may see. Each manager has such a file, since an export
-//! takes no type parameters.
+//! `NphHeap` for the Half-Fit manager: a `LendableHeap` of `c_base`, and its fields, in types that C may see. Each
+//! manager has such a file, since an export takes no type parameters.
 ghost use Rattle.std.specs.Prelude.{◌≡◌, Option};
 ghost use Rattle.std.specs.Borrow.{sem};
 ghost use Rattle.std.specs.Coded.{coded_option};
@@ -83,7 +83,8 @@ impl NphHeap {
     ghost use Rattle.held_heap.specs.Needed.{IsNeededCall};
     ghost use Rattle.held_heap.specs.HalfPlace.{LendsInner, heap_in, inner_of};
 
-    /// Borrows the `LendableHeap` that this Half-Fit heap is in memory.
+    /// Borrows this Half-Fit `NphHeap` as a `LendableHeap`: both are the same bytes in memory. When
+    /// the borrow ends, the `NphHeap` is what the borrow leaves (`writes_back`).
     pub fn inner(&mut self) -> &mut LendableHeap<Open, LooseTag>
         ensures* writes_back { sem 𝓛 (LendsInner self.entry result) }
         ensures value { result.now ≡ inner_of self.old }

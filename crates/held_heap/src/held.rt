@@ -1,4 +1,4 @@
-//! `Held`: an open heap of any manager with the step count of its last call and the handles that C has, for a C
+//! `Held`: an open heap of any manager with the steps of its last call that counts any, and the handles that C has, for a C
 //! library. Each call returns a code, and writes its other results through references.
 ghost use Rattle.std.specs.Prelude.{◌≡◌, IfSome, IsSome};
 ghost use Rattle.cf_base.specs.Settings.{profile_of};
@@ -17,11 +17,13 @@ use std::marker::Model;
 use std::rt::Memory;
 use step_ledger::Meter;
 
-/// An open heap, the steps of its last call that counts any, C's handle of each object's number,
-/// and what the heap has counted since its opening. A call on a stale handle is a call on the
+/// An open heap of a manager (the held manager), the steps of its last call that counts any, C's
+/// handle of each object's number, and what the heap has counted since its opening. A handle is
+/// stale if it is not the one that its number has now. A call on a stale handle is a call on the
 /// number `NONE`, which is never live. Lending, returning, `figures`, `counts`, `set_bound` and
-/// `last_steps` count no steps, and leave `steps` unchanged. Each other call makes a ledger of its
-/// own from `memory`, so that the compiler keeps the count in a register.
+/// `last_steps` count no steps, and leave `steps` unchanged. Each other call sets `steps` to the
+/// steps that it took. It counts them on a ledger of its own, made from `memory`, so that the
+/// compiler keeps the count in a register.
 #[derive(Drop)]
 pub struct Held<H: OfKind> {
     pub(crate) heap: H,
@@ -154,7 +156,8 @@ impl<H: OfKind> Held<H> {
     }
 
     /// Writes the bytes into an object of the held manager, from its byte `at` on. Returns `DONE`; `UNKNOWN` if the
-    /// handle isn't live, or `RANGE` if the bytes pass the object's end, and then no object changes.
+    /// handle isn't live, or `RANGE` if `at` plus the number of bytes exceeds the object's length, and then no object
+    /// changes.
     pub fn write(&mut self, handle: u32, at: u32, bytes: &[u8]) -> i32
         ensures { IsWriteCall H.most self.old handle at bytes.now result self.new }
     {
@@ -169,7 +172,8 @@ impl<H: OfKind> Held<H> {
     }
 
     /// Fills `out` with the bytes of an object of the held manager, from its byte `at` on. Returns `DONE`; `UNKNOWN` if
-    /// the handle isn't live, or `RANGE` if the bytes pass the object's end, and then `out` is unchanged.
+    /// the handle isn't live, or `RANGE` if `at` plus the length of `out` exceeds the object's length, and then `out`
+    /// is unchanged.
     pub fn read(&mut self, handle: u32, at: u32, out: &mut [u8]) -> i32
         ensures { IsReadCall H.most self.old handle at out.old result out.new self.new }
     {
@@ -219,8 +223,7 @@ impl<H: OfKind> Held<H> {
         }
     }
 
-    /// Returns the code that the held manager's malloc of `bytes` bytes would return now; makes no object. Its own
-    /// steps are those of the last call then.
+    /// Returns the code that the held manager's malloc of `bytes` bytes would return now; makes no object.
     pub fn has_room(&mut self, bytes: u32) -> i32
         ensures { IsRoomCall H.most self.old bytes result self.new }
     {
@@ -282,7 +285,7 @@ impl<H: OfKind> Held<H> {
         DONE
     }
 
-    /// Returns the largest of a held manager's handles.
+    /// Returns the largest handle that a number of a held manager has, with or without an object.
     pub(crate) fn last_handle(&self) -> u32
         ensures { result ≡ largest self.now.handles }
     {

@@ -1,5 +1,6 @@
 //! What the contracts of `Held` imply together, of the handles that C has and of a heap with as many pages as a program
-//! needs. The functions do nothing; each contract is a law.
+//! needs. The functions do nothing; each contract is a law. The second and the third assume of the heap what the first
+//! proves after each call (`KeepsHandles`).
 ghost use Rattle.std.specs.Prelude.{◌≡◌, ◌≢◌, ◌/◌, ◌≤◌, ℕ, ℤ, List, None, Option, Some, length, pos, replicate};
 ghost use Rattle.std.specs.FinMap.{get, insert};
 ghost use Rattle.cf_base.specs.Settings.{Profile};
@@ -45,10 +46,10 @@ pub fn a_malloc_gives_a_new_handle()
         → KeepsHandles old → IsNewHandle old after new }
 {}
 
-/// On a held manager, a free, resize, write, read, or call for the length or address with a stale
-/// handle, which is not the one that its number has, returns 4 (`UNKNOWN`) and leaves the caller's
-/// number, structure or buffer unchanged. A write also leaves the heap unchanged, and a free the
-/// handles and all of the heap but its cost.
+/// A call on a held manager with a stale handle, which is not the one that its number has now,
+/// returns 4 (`UNKNOWN`) and leaves the caller's number, structure or buffer unchanged: a free,
+/// resize, write, read, or call for the length or address. A write also leaves the heap unchanged,
+/// and a free the handles and all of the heap but its cost.
 pub fn a_stale_handle_is_refused()
     ensures free { (most : Option Bounds) (old new : HeldState) (handle : ℕ) (before after : NphFreed) (code : ℤ)
         → IsFreeCall most old handle before code after new → KeepsHandles old → number_in old.handles handle ≡ none
@@ -70,10 +71,10 @@ pub fn a_stale_handle_is_refused()
         → (code ≡ pos 4) × (after ≡ before) }
 {}
 
-/// A malloc or a resize that would leave a heap's objects within a program's needs does not return
-/// 3 (`SPACE`). The heap was opened with pages of `page_bytes` bytes, at least as many as
-/// `nph_pages_needed` writes for the needs, and after each call so far its objects were within
-/// them, whatever bounds the calls set.
+/// A malloc or a resize that would leave the objects of a heap with pages within a program's needs
+/// does not return 3 (`SPACE`). The heap was opened with pages of `page_bytes` bytes, at least as
+/// many as `nph_pages_needed` writes for the needs, and after each call so far its objects were
+/// within them, whatever bounds the calls set.
 pub fn no_call_within_the_needs_lacks_space()
     ensures malloc { (kind : Kind) (p : Profile) (last page_bytes pages : ℕ) (needs : List Need) (most : Option Bounds)
         (first old new : HeldState) (calls : List CCall) (bytes before after : ℕ) (code : ℤ)

@@ -1,6 +1,6 @@
 //! `LooseHeld`: an open heap of the moving manager with its step count, as `Held` has it, field by field, but with no
 //! invariant. A `Held` is a `LooseHeld` whose heap is valid, in the same memory; so the words of its region can be
-//! borrowed all at once.
+//! borrowed all at once, for a loan (`Lendable`).
 ghost use Rattle.std.specs.Prelude.{◌≡◌, IsSome, refl};
 ghost use Rattle.c_base.specs.Lending.{AreOf, IsFit};
 ghost use Rattle.std.specs.Borrow.{sem};
@@ -37,7 +37,8 @@ pub struct LooseHeld {
     pub(crate) counts: NphCounted,
 }
 
-/// For a loan, borrows all words of the moving heap's region.
+/// For a loan, borrows all words of the moving heap's region. When the borrow ends, the region has
+/// the words as they then are.
 fn all_of(heap: &mut OpenHeap, memory: Memory) -> &mut [u64]
     ensures* writes_back { sem 𝓛 (LendsAllOf heap.entry result) }
     ensures value { result.now ≡ heap.old.region }
@@ -47,7 +48,8 @@ fn all_of(heap: &mut OpenHeap, memory: Memory) -> &mut [u64]
     heap.region.payload_mut(0, n, meter.steps())
 }
 
-/// For a loan, borrows all words of the region of a moving heap that is open.
+/// For a loan, borrows all words of the region of a moving heap that is open. When the borrow ends,
+/// the region has the words as they then are.
 fn all_in(inner: &mut Option<OpenHeap>, memory: Memory) -> &mut [u64]
     requires open { IsSome inner.old }
     ensures* writes_back { sem 𝓛 (LendsAllIn inner.entry result) }

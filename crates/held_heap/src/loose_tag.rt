@@ -1,6 +1,6 @@
 //! `LooseTag`: an open heap with blocks and its step count, as `Held` has it, field by field, but with no invariant. A
-//! `Held` of TLSF or Half-Fit is a `LooseTag` whose heap is valid, in the same memory; so the words of its region can be
-//! borrowed all at once.
+//! `Held` of TLSF or Half-Fit is a `LooseTag` whose heap is valid, in the same memory; so the words of its region can
+//! be borrowed all at once, for a loan (`Lendable`).
 ghost use Rattle.std.specs.Prelude.{◌≡◌, IsSome, refl};
 ghost use Rattle.c_base.specs.Lending.{AreOf, IsFit};
 ghost use Rattle.std.specs.Borrow.{sem};
@@ -67,7 +67,8 @@ pub struct LooseTag {
     pub(crate) counts: NphCounted,
 }
 
-/// For a loan, borrows all words of the blocks' region.
+/// For a loan, borrows all words of the blocks' region. When the borrow ends, the region has the
+/// words as they then are.
 fn all_of_blocks(blocks: &mut LooseBlocks, memory: Memory) -> &mut [u64]
     ensures* writes_back { sem 𝓛 (LendsAllOfBlocks blocks.entry result) }
     ensures value { result.now ≡ blocks.old.region }
@@ -77,7 +78,8 @@ fn all_of_blocks(blocks: &mut LooseBlocks, memory: Memory) -> &mut [u64]
     blocks.region.payload_mut(0, n, meter.steps())
 }
 
-/// For a loan, borrows all words of an open heap with blocks.
+/// For a loan, borrows all words of the region that the blocks of an open heap have. When the
+/// borrow ends, the region has the words as they then are.
 fn all_of_open(heap: &mut LooseOpen, memory: Memory) -> &mut [u64]
     ensures* writes_back { sem 𝓛 (LendsAllOfOpen heap.entry result) }
     ensures value { result.now ≡ heap.old.blocks.region }
@@ -85,7 +87,8 @@ fn all_of_open(heap: &mut LooseOpen, memory: Memory) -> &mut [u64]
     all_of_blocks(&mut heap.blocks, memory)
 }
 
-/// For a loan, borrows all words of the region of a heap with blocks that is open.
+/// For a loan, borrows all words of the region of a heap with blocks that is open. When the borrow
+/// ends, the region has the words as they then are.
 fn all_in(inner: &mut Option<LooseOpen>, memory: Memory) -> &mut [u64]
     requires open { IsSome inner.old }
     ensures* writes_back { sem 𝓛 (LendsAllIn inner.entry result) }

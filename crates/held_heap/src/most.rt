@@ -20,7 +20,8 @@ pub fn kind(kind: Kind) -> u32
     }
 }
 
-/// For a step bound, in how many blocks of four words the n words from word i on are.
+/// For a step bound, how many blocks of four words hold the `n` words from word `i` on. `i + n` is
+/// below `2^62`.
 fn blocks_of(i: u64, n: u64) -> u64
     requires { i + n < 2 ^ 62 }
     ensures { result ≡ blocks_of i n }
@@ -64,7 +65,7 @@ pub fn most_free(kind: Kind, slot_words: u32) -> u64
 }
 
 /// The most steps of a resize to `bytes` bytes, from a slot of `old` words to one of `new` words.
-/// With blocks a resize is always refused.
+/// With blocks a resize is always refused, after at most 1 step.
 pub fn most_resize(kind: Kind, bytes: u32, old: u32, new: u32) -> u64
     ensures { IsMostResize (bounds_of kind) bytes old new result }
 {

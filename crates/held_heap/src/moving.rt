@@ -1,5 +1,5 @@
-//! `NphHeap` for the moving manager: a `LendableHeap` in types that C may see. Each manager has such a file, since an export
-//! takes no type parameters.
+//! `NphHeap` for the moving manager: a `LendableHeap` of `c_base`, and its fields, in types that C may see. Each
+//! manager has such a file, since an export takes no type parameters.
 ghost use Rattle.std.specs.Prelude.{◌≡◌, Option};
 ghost use Rattle.std.specs.Borrow.{sem};
 ghost use Rattle.std.specs.Coded.{coded_option};
@@ -82,7 +82,8 @@ impl NphHeap {
     ghost use Rattle.held_heap.specs.Needed.{IsNeededCall};
     ghost use Rattle.held_heap.specs.MovingPlace.{LendsInner, heap_in, inner_of};
 
-    /// Borrows the `LendableHeap` that this moving heap is in memory.
+    /// Borrows this moving `NphHeap` as a `LendableHeap`: both are the same bytes in memory. When
+    /// the borrow ends, the `NphHeap` is what the borrow leaves (`writes_back`).
     pub fn inner(&mut self) -> &mut LendableHeap<Open, LooseHeld>
         ensures* writes_back { sem 𝓛 (LendsInner self.entry result) }
         ensures value { result.now ≡ inner_of self.old }

@@ -41,7 +41,8 @@ unsafe impl Send for Place {}
 impl Place {
     ghost use Rattle.held_heap.specs.NonMovingPlace.{LendsInner, inner_of};
 
-    /// Borrows the `HeapBlock` that this `Place` is in memory.
+    /// Borrows this `Place` as a `HeapBlock`: both are the same bytes in memory. When the borrow
+    /// ends, the `Place` is what the borrow leaves (`writes_back`).
     fn inner(&mut self) -> &mut HeapBlock<Open>
         ensures* writes_back { sem 𝓛 (LendsInner self.entry result) }
         ensures value { result.now ≡ inner_of self.old }

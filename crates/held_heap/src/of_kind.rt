@@ -13,9 +13,9 @@ use paged_heap::{PageKind, PagedHeap};
 use step_ledger::Steps;
 use tag_heap::{FitPolicy, TagHeap};
 
-/// A manager whose type fixes its kind.
+/// A manager whose type fixes its kind. The calls below need an open heap, of that kind.
 pub trait OfKind: Manager {
-    /// The kind of every manager of this type.
+    /// The kind of the managers of this type.
     ghost of_kind: { Kind };
 
     /// For C's counts, how many pages are free; with blocks, the bytes outside used blocks. Costs

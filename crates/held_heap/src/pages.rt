@@ -10,7 +10,10 @@ use sizing::{Need, NeedsFault};
 /// Writes into `pages` the least number of pages of `page_bytes` bytes, with slots of this layout,
 /// with which no call of a program is refused for space while it keeps to its `needs`
 /// (`pages_needed` of `sizing`). `k` must be in its range, 1 to 64, and has no other effect.
-/// Returns `DONE`, or the code of the refusal, and then `pages` is unchanged.
+/// Returns `DONE`, or the code of the first cause that holds, in the order of `NeedsFault`:
+/// `ENTRIES`, `PAGE_BYTES` or `BOUND`, `SIZE` (an entry of `needs`, even of count 0, has a length
+/// that doesn't fit a page with a header) or `PROXIES` (the needs are more than 65,536 objects).
+/// After a refusal `pages` is unchanged.
 pub fn pages_needed(layout: Layout, page_bytes: u32, k: u32, needs: &[Need], pages: &mut u32) -> i32
     ensures { IsPagesCall layout page_bytes k needs.now result pages.old pages.new }
 {

@@ -1,5 +1,5 @@
-//! Calls of an open heap for a caller in C that plans a call: how many words an object's slot or
-//! block has, and with pages the class of a length.
+//! Calls of `Held`, an open heap of a manager (the held manager), for a caller in C that plans a
+//! call: how many words an object's slot or block has, and with pages the class of a length.
 ghost use Rattle.held_heap.specs.Slots.{IsClassCall, IsSlotWordsCall};
 
 use crate::held::Held;

@@ -10,8 +10,8 @@ use cf_base::Handle;
 use cf_model::Manager;
 use step_ledger::{Meter, Steps};
 
-/// For a walk, the first live object whose number is at least `from` and below `count`. Costs one step for each number
-/// that it looks at.
+/// For a walk, the first live object of an open heap whose number is at least `from` and below `count`; none if there
+/// is no such object. Costs one step for each number that the call looks at.
 fn next_live<H: Manager>(heap: &H, from: u32, count: u32, steps: &mut Steps) -> Option<Handle>
     requires open { IsTrue (H.state heap.now).is_open }
     ensures found { IsNextLive (H.state heap.now).held from count result }
@@ -27,9 +27,9 @@ fn next_live<H: Manager>(heap: &H, from: u32, count: u32, steps: &mut Steps) -> 
 
 impl<H: OfKind> Held<H> {
     /// Writes the handle of the next live object after that of `handle` into `next`, by rising
-    /// number; of the first one if `handle` is `NONE`. After the last one it writes `NONE`. Takes
-    /// one step for each number that it looks at, that of `handle` included. Returns `DONE`, or
-    /// `UNKNOWN` if the handle isn't live; then `next` is unchanged.
+    /// number; of the first one if `handle` is `NONE`. After the last one the call writes `NONE`.
+    /// It takes one step for each number that it looks at, that of `handle` included. Returns
+    /// `DONE`, or `UNKNOWN` if the handle isn't live; then `next` is unchanged.
     pub fn next(&mut self, handle: u32, next: &mut u32) -> i32
         ensures { IsNextCall self.old handle next.old result next.new self.new }
     {

@@ -1,5 +1,5 @@
--- What other crates' proofs may cite, re-exported: ids stay tied to the objects that they name, what objects by id are, and when a malloc is refused if every
--- bound is 1. Declares nothing.
+-- What other crates' proofs may cite, re-exported: ids stay tied to the objects that they name, what objects (or other values) by id are, when a malloc is
+-- refused if every bound is 1, and the facts of `Naming` about costs, writes and runs. Declares nothing.
 pub use Rattle.id_table.proofs.Ties.{clash, none_tied, tied_less, tied_more, tied_same}
 pub use Rattle.id_table.proofs.Naming.{costs_at_most, costs_nothing, counted_ids, going_inside, names_of_held, names_of_objects, no_fault}
 pub use Rattle.id_table.proofs.Needs.{LacksByNeed, refused_by_need}

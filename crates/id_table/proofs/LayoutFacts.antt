@@ -1,5 +1,6 @@
--- For the calls of `IdTable`, a list with one entry for each id: how a change of an entry changes the map from live ids to handles that the list represents,
--- and the count of live ids.
+-- For the calls of `IdTable`, a list with one entry for each id: the entry of an id is what the map from live ids to handles, which the list represents, has
+-- for it; how a change of an entry changes this map and the count of live ids; when this count is 0; and that a new table and one with a changed entry are
+-- valid.
 use Rattle.std.proofs.Common.{◌≡◌, ◌∙◌, ℕ, zero, suc, ◌+◌, ◌-◌, ◌<◌, ◌≤◌, Bool, true, false, List, length, get_or, set}
 use Rattle.std.proofs.Common.{Option, Some, None, refl, ap, sym, arith, inl, inr}
 use Rattle.std.specs.Prelude.{◌↔◌, IsTrue, cond, IsSome, is_some, nat_eq, not}

@@ -1,5 +1,6 @@
--- Ids are tied to objects with their addresses if and only if they are tied to the bytes alone; counting keeps the ids; a call without cost is within each
--- bound; and a write within an object has no fault.
+-- Ids are tied to objects with their addresses if and only if they are tied to the bytes alone; counting keeps the ids; a cost is within a bound
+-- (`CostsAtMost`) with blocks always, with pages if it is at most the bound, so always if it is 0; a write within an object has no fault; and a run is in
+-- progress with any session state equal to its own.
 use Rattle.std.proofs.Common.{◌≡◌, ◌≤◌, ℕ, ◌+◌, Option, Some, None, length, ap, sym, ◌∙◌, refl, arith, subst}
 use Rattle.std.specs.Prelude.{option_map}
 use Rattle.std.specs.FinMap.{get}
@@ -41,7 +42,7 @@ module _ (ids : Ids) (m : Held) where
     all = λ q x is. names.all q x.bytes (bytes_held m q x is);
   }
 
--- names in a session that is a run in progress are one too, if they are the session's
+-- if a session state equals that of a run in progress, the run with it is in progress too
 pub going_inside : (inside session : SessionState) (heap : HeapState) → inside ≡ session → IsGoing (run_at session heap) → IsGoing (run_at inside heap)
 going_inside inside session heap same going = subst (λ (s : SessionState). IsGoing (run_at s heap)) (sym same) going
 

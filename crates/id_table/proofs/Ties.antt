@@ -1,4 +1,5 @@
--- For proofs about sessions: ids stay tied to the objects (`AreTiedTo`) when an object is made, freed or changed.
+-- For proofs about sessions: ids stay tied to the objects (`AreTiedTo`) when an object is made, freed or changed; without ids and objects they are tied. Also
+-- (`clash`): a look-up doesn't both find a value and find none.
 use Rattle.std.proofs.Common.{◌≡◌, ℕ, Some, None, sym, ◌∙◌, ap, inl, inr}
 use Rattle.std.specs.Prelude.{Option}
 use Rattle.std.proofs.lemmas.Bool.{cases_eq}

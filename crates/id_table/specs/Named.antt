@@ -1,4 +1,5 @@
--- What the calls of a `Namer` do, and when a manager lacks a proxy or pages. In each record `old` is the state of the run before the call, `new` after it.
+-- What the calls of a `Namer` do, when a named object has so many bytes, and when a manager lacks a proxy or pages. In each record `old` is the state of the
+-- run before the call, `new` after it.
 use Rattle.std.specs.Prelude.{◌≡◌, ℕ, Bool, ◌⊎◌, ◌<◌, ◌≤◌, List, length, Some, Result, Ok, Err, is_ok}
 use Rattle.std.specs.FinMap.{get, insert, len, remove}
 use Rattle.cf_base.specs.declared.results.Freed.{Freed}

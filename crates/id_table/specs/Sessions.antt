@@ -1,5 +1,6 @@
--- The state of a session, the state of a run (a session and its manager), and what is always true of a run in progress. A session is what names the objects of
--- a manager by ids: that of a script, or that of another program (trait `Namer`).
+-- The state of a session, and how it counts the objects that calls move; the state of a run (a session and its manager), what is always true of a run in
+-- progress, and a run whose manager could not open. A session is what names the objects of a manager by ids: that of a script, or that of another program
+-- (trait `Namer`).
 use Rattle.std.specs.Prelude.{◌≡◌, ℕ, ◌+◌, ◌-◌, ◌^◌, ◌≤◌, ⊤, Option, Some, None, min, refl, IsTrue}
 use Rattle.std.specs.FinMap as map
 use Rattle.std.specs.Coded.{Coded, code_by, coded×, coded_ℕ}
@@ -50,7 +51,8 @@ run_at session heap = record { session = session; heap = heap }
 abbrev pub CostsAtMost : Kind → ℕ → ℕ → Type 0
 CostsAtMost kind cost n = elim (family_of kind) [ paged ↦ cost ≤ n | tiled ↦ ⊤ ]
 
--- each live id names one live object, and each live object has one id; with pages the steps of the last call are within the session's step bound
+-- each live id names one live object, and each live object has one id; with pages the steps of the last malloc, free or resize are at most the session's step
+-- bound
 pub record AreTied (session : SessionState) (heap : HeapState) : Type 0 where
   pub ids : AreTiedTo session.ids heap.held
   pub cost : CostsAtMost heap.kind heap.cost session.bound

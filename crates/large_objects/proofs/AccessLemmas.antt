@@ -1,5 +1,5 @@
--- For the loops of `read_long` and `write_long`, which go part by part: the next bytes are in one part, and after each turn the first bytes of the call are
--- read, or are written into the object.
+-- The loops of `read_long` and `write_long`, which go part by part: the next bytes are in one part, whose index fits 32 bits, and after each turn the first
+-- bytes of the call are read, or are written into the object. The heap keeps its settings and rules (`StaysKept`); by these its inner manager is ready.
 use Rattle.std.proofs.Common.{◌≡◌, ℕ, ◌+◌, ◌*◌, ◌/◌, ◌%◌, ◌^◌, ◌<◌, ◌≤◌, List, [], ◌∷◌, ◌++◌}
 use Rattle.std.proofs.Common.{Some, length, take, drop, arith, sym, ◌∙◌, ap, refl, subst, length-append, length-drop}
 use Rattle.std.proofs.Math.Nat.{div-add-mod, lt_of_mul-lt-mul_left, mod-lt}

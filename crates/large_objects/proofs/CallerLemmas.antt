@@ -1,5 +1,5 @@
--- What other crates' proofs may cite, re-exported: what the calls of the inner manager do to its objects, and how the objects that are made of these
--- change with them. Declares nothing.
+-- What other crates' proofs may cite, re-exported: what the calls of the inner manager do to its objects, and how the objects that are made of these change
+-- with them; room for inner objects; writes part by part; and what a heap without objects keeps. Declares nothing.
 pub use Rattle.large_objects.proofs.AccessLemmas.{inside_part, is_ready, next_write, so_far_more, then_kept, wrote_all, wrote_nothing}
 pub use Rattle.large_objects.proofs.Gathering.{all_gathered}
 pub use Rattle.large_objects.proofs.GrowLemmas.{grows_first, grows_more, inner_beside, part_named, place_in_spine, room_for_part, room_for_short}

@@ -1,4 +1,5 @@
--- The steps of the calls of an inner manager that it can't refuse, from its own bounds and its order; and sums of such steps over the parts of an object.
+-- The steps of the calls of an inner manager that it can't refuse, from its own bounds and its order; that it does accesses within a live object; and sums of
+-- such steps over the parts of an object.
 use Rattle.std.proofs.Common.{◌≡◌, ℕ, ◌+◌, ◌-◌, ◌*◌, ◌/◌, ◌%◌, ◌^◌, ◌<◌, ◌≤◌, Bool, true, false, min, List, Some, None, length, arith, sym, ◌∙◌, ap, refl, subst, inl, inr}
 use Rattle.std.specs.Prelude.{Option, Result, Ok, Err, ◌&&◌, if◌then◌else◌, is_some, nat_eq, sum_by}
 use Rattle.std.proofs.Math.Nat.{div-add-mod, mod-lt}

@@ -1,5 +1,5 @@
--- For `pages_with`, which counts the pages that a new object would need in all: how many of its inner objects (itself, or its spine and parts) are in the
--- classes that the loop has passed, and these classes' pages.
+-- For `pages_with`, which counts the pages that a new object would need in all: how many of its inner objects (itself, or its spine and parts) fit a slot
+-- (`count_inner_objects_within`), and are in the classes that the loop has passed; and these classes' pages.
 use Rattle.std.proofs.Common.{◌≡◌, ℕ, zero, suc, ◌+◌, ◌-◌, ◌*◌, ◌/◌, ◌<◌, ◌≤◌, Bool, false}
 use Rattle.std.proofs.Common.{List, [], ◌∷◌, ◌++◌, get_or, replicate, arith, ◌∙◌, ap, refl, inl, inr}
 use Rattle.std.specs.Prelude.{count_by, sum_by, nat_eq, nat_le, nat_lt}

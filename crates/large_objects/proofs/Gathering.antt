@@ -1,5 +1,5 @@
--- The bytes of each object can be gathered from its inner objects; and after a malloc, free or write the number of inner objects in each class (`AreInnerCounted`)
--- and the table of lengths (`AreLengths`) are right.
+-- The bytes of each object can be gathered from its inner objects. A malloc makes, and a free removes, exactly the inner objects of its object; after these and
+-- a write the counts of inner objects (`AreInnerCounted`) and the table of lengths (`AreLengths`) are right.
 use Rattle.std.proofs.Common.{◌≡◌, ◌≢◌, ℕ, zero, suc, ◌+◌, ◌-◌, ◌*◌, ◌<◌, ◌≤◌, List, [], ◌∷◌, ◌++◌}
 use Rattle.std.proofs.Common.{Some, None, length, get_or, set, drop, replicate, arith, sym, ◌∙◌, ap, refl, inl, inr, length-drop}
 use Rattle.std.specs.Prelude.{Option, nat_eq, option_map, sum_by}

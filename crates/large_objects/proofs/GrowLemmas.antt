@@ -1,5 +1,5 @@
--- A malloc of a long object that has room: the spine is made, then part by part, each named in the spine. There is room for each in turn, and the invariant
--- of the loop of `make_long` holds (`IsGrowing`).
+-- A malloc of an object that has room: there is room for the one inner object of a short object. For a long one the spine is made, then part by part, each
+-- named in the spine; there is room for each in turn, other inner objects keep their bytes, and the invariant of the loop of `make_long` holds (`IsGrowing`).
 use Rattle.std.proofs.Common.{◌≡◌, ◌≢◌, ℕ, suc, ◌+◌, ◌-◌, ◌*◌, ◌^◌, ◌<◌, ◌≤◌, List, [], ◌∷◌, ◌++◌}
 use Rattle.std.proofs.Common.{Some, None, length, get_or, take, replicate, arith, sym, ◌∙◌, ap, refl, subst, inl, inr}
 use Rattle.std.specs.Prelude.{◌⊎◌, Option, nat_eq, sum_by}

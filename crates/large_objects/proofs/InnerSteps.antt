@@ -1,5 +1,5 @@
 -- What the calls of a *ready* inner manager (open, with pages and every bound 1) do to its objects: it refuses no malloc that has room, no free of a live
--- object, and no access within an object.
+-- object, and no access within an object, and stays ready, with the same pages and classes. It keeps the rules of pages. Its lengths and handles are small.
 use Rattle.std.proofs.Common.{◌≡◌, ℕ, ◌+◌, ◌*◌, ◌^◌, ◌<◌, ◌≤◌, List, Some, None, true, length, take, drop, arith, sym, ◌∙◌, ap, refl, subst}
 use Rattle.std.specs.Prelude.{Result, Ok, Err, is_some}
 use Rattle.std.proofs.lemmas.Option.{same_Some}

@@ -1,5 +1,5 @@
--- For each call of a heap of long objects, by its fields: what the call may rely on, that the invariant and the rules hold after a malloc, free or write, and
--- the cause for which a malloc is refused.
+-- For each call of a heap of long objects, by its fields: what the call may rely on, its steps by the state that contracts see; that the invariant and the
+-- rules hold after a malloc, free or write, which does what its contract says; and for which cause a malloc is refused, and when for none.
 use Rattle.std.proofs.Common.{◌≡◌, ℕ, ◌+◌, ◌*◌, ◌^◌, ◌<◌, ◌≤◌, Bool, true, List, Some, None, length}
 use Rattle.std.proofs.Common.{get_or, set, take, drop, replicate, arith, sym, ◌∙◌, ap, refl, subst, inl, inr}
 use Rattle.std.specs.Prelude.{Option, IsTrue, is_some, option_map}

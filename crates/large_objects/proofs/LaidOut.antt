@@ -1,5 +1,6 @@
 -- When an object is made, freed or written, the inner objects are still exactly the short objects, the spines and the parts of the heap's objects
--- (`AreLaidOut`).
+-- (`AreLaidOut`). By this each object's handle, spine and parts are live. Also the definitions of the inner objects of one object, and of a new one
+-- (`IsInnerOf`, `IsNew`).
 use Rattle.std.proofs.Common.{◌≡◌, ◌≢◌, ℕ, ◌<◌, ◌≤◌, List, Some, None, length, arith, sym, ◌∙◌, ap, refl, inl, inr}
 use Rattle.std.specs.Prelude.{◌⊎◌, Option}
 use Rattle.std.proofs.lemmas.Bool.{cases_eq, cases_lt}

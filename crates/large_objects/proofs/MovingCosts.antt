@@ -1,4 +1,5 @@
--- The steps of calls on long objects over a moving manager, as sums over their parts.
+-- The steps of calls on long objects over a moving manager, from the numbers of parts, of words, and of inner objects that share their pages: at most two of a
+-- long object do.
 use Rattle.std.proofs.Common.{◌≡◌, ℕ, Bool, true, false, zero, suc, ◌+◌, ◌-◌, ◌*◌, ◌/◌, ◌%◌, ◌<◌, ◌≤◌, min, arith, ◌∙◌, ap, refl, inl, inr}
 use Rattle.std.specs.Prelude.{if◌then◌else◌, nat_eq, sum_by}
 use Rattle.std.specs.List.{range_with_len}

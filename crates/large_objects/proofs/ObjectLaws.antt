@@ -1,4 +1,5 @@
--- The causes of refusals exclude one another, the pages in use follow from the objects, and writes are read back: for the laws of long objects.
+-- For the laws of long objects: the causes of refusals exclude one another and success, the pages in use follow from the objects, and a write is read back and
+-- changes no other object.
 use Rattle.std.proofs.Common.{◌≡◌, ◌≢◌, ℕ, List, Some, None, length, take, drop, arith, sym, ◌∙◌, ap, refl, inl, inr}
 use Rattle.std.proofs.lemmas.Option.{same_Some}
 use Rattle.std.specs.FinMap.{get}

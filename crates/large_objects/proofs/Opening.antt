@@ -1,4 +1,5 @@
--- For `open_heap`: a heap of long objects that was just opened, with no object and the bound 1 in each class, satisfies its invariant and keeps its rules.
+-- A heap of long objects that was just opened (`open_heap`), with no object and the bound 1 in each class, satisfies its invariant and keeps its rules. A page
+-- has more words than its header.
 use Rattle.std.proofs.Common.{◌≡◌, ℕ, zero, suc, ◌-◌, ◌*◌, ◌<◌, ◌≤◌, true, List, Some, None, length, get_or, arith, sym, ◌∙◌, ap, refl, subst, inl, inr}
 use Rattle.std.specs.Prelude.{IsTrue, Option, sum_by, option_map}
 use Rattle.std.proofs.lemmas.Bool.{cases_lt, false≢true}

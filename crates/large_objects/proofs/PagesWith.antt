@@ -1,5 +1,5 @@
--- For `pages_with`, the loop that adds up, class by class, the pages that all inner objects and those of a new object need: the sum after each class, and
--- that it fits 64 bits.
+-- For `pages_with`, the loop that adds up, class by class, the pages that all inner objects and those of a new object need: what each turn requires, the sum
+-- after it, and that the sum fits 64 bits. An object of n bytes has at most n + 3 inner objects.
 use Rattle.std.proofs.Common.{◌≡◌, ℕ, ◌+◌, ◌-◌, ◌*◌, ◌/◌, ◌%◌, ◌^◌, ◌<◌, ◌≤◌, Bool, true, false, List, Some, length, min, arith, sym, ◌∙◌, ap, refl, inl, inr}
 use Rattle.std.specs.Prelude.{count_by, nat_eq, nat_le}
 use Rattle.std.proofs.lemmas.Bool.{cases_lt}

@@ -1,5 +1,5 @@
--- If there is room for all inner objects of an object, there are pages for each; and how the number of inner objects, in all and in each class, changes with
--- the objects.
+-- If there is room for all inner objects of an object, there are pages for each, and a part fits a page; how the number of inner objects, in all and in each
+-- class, changes with the objects; and the pages that all need are the same by the inner objects and by the objects.
 use Rattle.std.proofs.Common.{◌≡◌, ℕ, ◌+◌, ◌≤◌, List, Some, None, length, take, arith, ap}
 use Rattle.std.specs.Prelude.{nat_eq}
 use Rattle.std.proofs.lemmas.List.Sums.{sum_by-take-le}

@@ -1,5 +1,5 @@
 -- A free of a long object: part by part, each found by its handle in the spine, and then the spine. The invariant of the loop of `release_parts` holds
--- (`IsShrinking`).
+-- (`IsShrinking`), and the steps are those that its parts and its spine take. The parts are few. Without one of its objects a map has one fewer.
 use Rattle.std.proofs.Common.{◌≡◌, ℕ, suc, ◌+◌, ◌*◌, ◌^◌, ◌<◌, ◌≤◌, List, Some, get_or, length, drop, arith, sym, ◌∙◌, ap, refl, subst, inl, inr, length-drop}
 use Rattle.std.specs.Prelude.{nat_eq}
 use Rattle.std.proofs.lemmas.Bool.{cases_eq}

@@ -1,4 +1,5 @@
--- Sums over the lengths of objects, and of their inner objects, after one object is added, removed or rewritten.
+-- Sums over the lengths of objects, and of their inner objects, after one object is added, removed or rewritten; and sums over the first lengths of a list,
+-- with one more.
 use Rattle.std.proofs.Common.{◌≡◌, ℕ, ◌+◌, ◌<◌, List, [], ◌∷◌, Some, None, length, get_or, take, arith, ap, refl}
 use Rattle.std.specs.Prelude.{sum_by}
 use Rattle.std.specs.FinMap.{get, insert, remove}

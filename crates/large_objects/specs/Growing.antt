@@ -1,5 +1,6 @@
--- An inner manager in the middle of a malloc of a long object, with some parts made. In all definitions u is the bytes of a whole part, n those of the
--- object, h the handle of its spine. No public clause cites this module.
+-- The malloc of an object, by its inner objects: the room that it needs, an inner manager in the middle of it, with some parts of a long object made, and what
+-- it made. u is the bytes of a whole part. If not said otherwise, n is the bytes of the object, and h the handle of its spine. No public clause cites this
+-- module.
 use Rattle.std.specs.Prelude.{◌≡◌, ◌≢◌, ℕ, ◌+◌, ◌*◌, ◌^◌, ◌≤◌, ◌<◌, ◌⊎◌, List, Some, None, length, take, replicate, sum_by}
 use Rattle.std.specs.FinMap.{get, insert, len}
 use Rattle.std.specs.Int.{to_le_bytes, w32}
@@ -14,7 +15,7 @@ use Rattle.large_objects.specs.LargeSteps.{FitsSpine}
 use Rattle.large_objects.specs.InnerObjects.{in_class, length_sum, inner_lengths, whole_part_bytes, part_length, part_count}
 
 -- the inner manager s is ready (`IsReadyInner`: open, with its rules, with pages, every bound 1), and has the proxies and the pages for all inner objects of one
--- more object of n bytes
+-- more object of n bytes, which fits a page, or whose spine does
 pub record HasObjectRoom (u n : ℕ) (s : HeapState) : Type 0 where
   pub ready : IsReadyInner s
   pub part_bytes : u ≡ whole_part_bytes s.profile

@@ -1,5 +1,5 @@
--- What the calls of an inner manager do that it can't refuse, since there is room or the object is live: `old` is the manager before the call, `new` after
--- it, and q the handle of the inner object. No public clause cites this module.
+-- The calls of an inner manager that it can't refuse, since there is room or the object is live: what they require and what they do. `old` is the manager
+-- before the call, `new` after it, and q the handle of the inner object. No public clause cites this module.
 use Rattle.std.specs.Prelude.{◌≡◌, ℕ, IsTrue, ◌+◌, ◌^◌, ◌≤◌, ◌<◌, List, Some, None, length, replicate}
 use Rattle.std.specs.FinMap.{get, insert, remove, len}
 use Rattle.cf_base.specs.Classes.{need}

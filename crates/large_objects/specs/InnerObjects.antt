@@ -1,5 +1,5 @@
--- The inner objects of an object (itself if it fits a page, else a spine and parts): their lengths, their number in a class, and the pages they need. In all
--- definitions u is the bytes of a whole part.
+-- The inner objects of an object (itself if it fits a page, else a spine and parts): their lengths, their number in all and in a class, and the pages they
+-- need; and sums over the lengths of objects, or of their inner objects. In all definitions u is the bytes of a whole part.
 use Rattle.std.specs.Prelude.{ℕ, ◌+◌, ◌-◌, ◌*◌, List, [], ◌∷◌, ◌++◌, length, replicate, count_by, sum_by, nat_eq, nat_le, min, if◌then◌else◌}
 use Rattle.std.specs.FinMap.{values}
 use Rattle.cf_base.specs.Settings.{Profile}

@@ -1,4 +1,5 @@
--- The state of a heap of long objects, and the rules that its inner objects keep.
+-- The state of a heap of long objects, the handles in its spines, the bytes of an inner object that was looked up and of a part, and the rules that the inner
+-- manager and its objects keep.
 use Rattle.std.specs.Prelude.{◌≡◌, ℕ, Bool, IsTrue, ◌*◌, ◌<◌, ◌≤◌, List, [], Option, Some, None, length, take, drop, refl}
 use Rattle.std.specs.Coded.{Coded, code_by, coded×, coded_ℕ, coded_list, coded_bool}
 use Rattle.std.specs.FinMap as map
@@ -71,8 +72,8 @@ pub record AreInnerCounted (p : Paging) (u : ℕ) (large inner : Objects) : Type
   pub each : (c : ℕ) → live p inner c ≡ inner_live p u large c
   pub sums : (f : ℕ → ℕ) → length_sum f inner ≡ inner_sum f u large
 
--- What an open heap of long objects keeps: its inner manager is open, with pages, and each of its classes has the bound 1; and the inner objects are those
--- of its objects.
+-- What an open heap of long objects keeps: its inner manager is open, keeps the rules of managers, has pages, and the bound 1 in each class; the inner objects
+-- are those of the heap's objects, and their numbers follow from the lengths of these.
 pub record KeepsParts (s : LargeState) : Type 0 where
   pub opened : IsTrue s.inner.is_open
   pub rules : KeepsRules s.inner

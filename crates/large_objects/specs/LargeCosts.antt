@@ -1,4 +1,5 @@
--- How many steps the calls of a heap of long objects take, from those of its inner manager. In all definitions u is the bytes of a whole part.
+-- How many steps the calls of an inner manager take, and those of a heap of long objects over it. Also the numbers that the steps depend on: of slots on a
+-- page, of parts that an access touches, of words of slots, and of inner objects that share their pages. In all definitions u is the bytes of a whole part.
 use Rattle.std.specs.Prelude.{◌≡◌, ℕ, Bool, ◌&&◌, ◌+◌, ◌-◌, ◌*◌, ◌/◌, ◌^◌, ◌≤◌, Option, Some, None, Result, Ok, Err, if◌then◌else◌, is_some, length, min, nat_eq, nat_le}
 use Rattle.std.specs.Prelude.{sum_by}
 use Rattle.std.specs.FinMap.{get}
@@ -31,16 +32,16 @@ pub record InnerCosts : Type 0 where
   pub free : ℕ → ℕ → ℕ
   pub access : ℕ → ℕ → ℕ
 
--- the exact steps of a malloc in order whose slot is a page of its own: it takes a free page, since none with one slot is partly full
+-- the exact steps of a malloc by a manager that promises an order, if the slot is a page of its own: a free page is taken, as no page of one slot is partly full
 abbrev pub page_malloc_steps : Kind → ℕ
 page_malloc_steps kind = 3 + word_steps kind + new_page_steps
 
--- those of a free of such a slot of s words: it clears the slot and empties the page, and no object moves
+-- the exact steps of a free, by such a manager, of a slot of s words that is a page of its own: the slot is cleared and the page empty, and no object moves
 abbrev pub page_free_steps : Kind → ℕ → ℕ
 page_free_steps kind s = 5 + word_steps kind + (wipe_steps kind s + drop_steps 1 1)
 
--- The steps c follow from a manager's own bounds b, and its totals take no step. If it promises an order (`ordered`), those of a slot that is a page of its own
--- follow from the order.
+-- The steps c follow from a manager's own bounds b: a malloc or free has at least as many in c as in b, an access exactly as many, and the manager's totals
+-- take no step. If the manager promises an order (`ordered`), the steps of a slot that is a page of its own follow from the order instead.
 pub record FollowFrom (kind : Kind) (ordered : Bool) (b : Bounds) (c : InnerCosts) : Type 0 where
   pub malloc : (k : ℕ) (h : Handle) → (if ordered && nat_eq k 1 then page_malloc_steps kind else b.malloc (Ok h)) ≤ c.malloc k
   pub free : (k : ℕ) (freed : Freed)
@@ -61,7 +62,8 @@ moving_costs = record {
   access = λ from count. 2 + words_touched from count;
 }
 
--- those of a non-moving one; of an access three, and one for each word and for each block of four words that has one of its bytes
+-- the steps of calls of a non-moving manager that promises an order; of an access three, and one for each word and for each block of four words that has one
+-- of its bytes
 abbrev pub nonmoving_costs : InnerCosts
 nonmoving_costs = record {
   malloc = λ k. if nat_eq k 1 then 16 else 18;
@@ -81,31 +83,32 @@ first_count count = if nat_le count (2 ^ 62) then count else 0
 abbrev pub handle_steps : InnerCosts → ℕ → ℕ
 handle_steps c i = c.access (4 * i) 4
 
--- a malloc, and a free, of an inner object of n bytes
+-- the most steps of a malloc of an inner object of n bytes
 abbrev pub inner_malloc_steps : InnerCosts → Paging → ℕ → ℕ
 inner_malloc_steps c p n = c.malloc (slots_with p n)
 
+-- the most steps of a free of an inner object of n bytes
 abbrev pub inner_free_steps : InnerCosts → Paging → ℕ → ℕ
 inner_free_steps c p n = c.free (slots_with p n) (slot_for p n)
 
--- making the parts of an object of n bytes: for each an object, and its handle in the spine
+-- the most steps of making the parts of an object of n bytes: for each those of a malloc, and of writing its handle into the spine
 abbrev pub parts_malloc_steps : InnerCosts → Paging → ℕ → ℕ → ℕ
 parts_malloc_steps c p u n = sum_by (λ i. inner_malloc_steps c p (part_length u n i) + handle_steps c i) (range_with_len 0 (part_count u n))
 
--- freeing the parts of an object of n bytes: for each its handle in the spine, and an object
+-- the most steps of freeing the parts of an object of n bytes: for each those of reading its handle in the spine, and of a free
 abbrev pub parts_free_steps : InnerCosts → Paging → ℕ → ℕ → ℕ
 parts_free_steps c p u n = sum_by (λ i. handle_steps c i + inner_free_steps c p (part_length u n i)) (range_with_len 0 (part_count u n))
 
--- a malloc of n bytes: one object if it fits a page, else a spine and the parts
+-- the most steps of a malloc of an object of n bytes: those of one inner object if it fits a page, else those of its spine and its parts
 abbrev pub object_malloc_steps : InnerCosts → Paging → ℕ → ℕ → ℕ
 object_malloc_steps c p u n = if nat_le n u then inner_malloc_steps c p n else inner_malloc_steps c p (spine_bytes u n) + parts_malloc_steps c p u n
 
--- a free of an object of n bytes: one object if it fits a page, else the parts and the spine
+-- the most steps of a free of an object of n bytes: those of one inner object if it fits a page, else those of its parts and its spine
 abbrev pub object_free_steps : InnerCosts → Paging → ℕ → ℕ → ℕ
 object_free_steps c p u n =
     if nat_le n u then inner_free_steps c p n else parts_free_steps c p u n + inner_free_steps c p (spine_bytes u n)
 
--- the bytes of part i that are among the `count` bytes from byte `at` of the object on
+-- how many bytes of part i are among the `count` bytes from byte `at` of the object on
 abbrev pub bytes_in_part : ℕ → ℕ → ℕ → ℕ → ℕ
 bytes_in_part u at count i = min u (at + count - u * i) - (at - u * i)
 
@@ -113,12 +116,13 @@ bytes_in_part u at count i = min u (at + count - u * i) - (at - u * i)
 abbrev pub parts_touched : ℕ → ℕ → ℕ → ℕ
 parts_touched u at count = if nat_eq count 0 then 0 else (at + count - 1) / u + 1 - at / u
 
--- an access of `count` bytes of an object longer than a page, from byte `at` on: for each part that has one of them, its handle in the spine and its bytes
+-- the steps of an access of `count` bytes of an object longer than a page, from byte `at` on: for each part that has one of them, those of reading its handle
+-- in the spine, and of the access to its bytes
 abbrev pub parts_access_steps : InnerCosts → ℕ → ℕ → ℕ → ℕ
 parts_access_steps c u at count =
     sum_by (λ i. handle_steps c i + c.access (at - u * i) (bytes_in_part u at count i)) (range_with_len (at / u) (parts_touched u at count))
 
--- an access of `count` bytes of an object of n bytes, from byte `at` on: one call if the object fits a page, else part by part
+-- the steps of an access of `count` bytes of an object of n bytes, from byte `at` on: one call if the object fits a page, else part by part
 abbrev pub object_access_steps : InnerCosts → ℕ → ℕ → ℕ → ℕ → ℕ
 object_access_steps c u n at count = if nat_le n u then c.access at count else parts_access_steps c u at count
 

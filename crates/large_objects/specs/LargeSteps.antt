@@ -1,5 +1,6 @@
--- What each call of a heap of long objects does: `old` is its state before the call, `new` after it. A `position` names an object by its handle (`number`)
--- and the byte from which the call reads or writes (`from`).
+-- What each call of a heap of long objects does, when there is room for a malloc, why a call is refused, and which bytes an object or a part must have for an
+-- access. `old` is the state before the call, `new` after it. A `position` names an object by its handle (`number`) and the byte from which the call reads or
+-- writes (`from`).
 use Rattle.std.specs.Prelude.{◌≡◌, ℕ, ◌+◌, ◌*◌, ◌≤◌, ◌<◌, ◌⊎◌, true, false, List, Some, None, Result, Ok, Err, length, take, drop, replicate}
 use Rattle.std.specs.FinMap.{get, insert, remove, empty}
 use Rattle.cf_base.specs.declared.results.AccessFault.{AccessFault}

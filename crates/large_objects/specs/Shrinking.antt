@@ -1,5 +1,6 @@
--- An inner manager in the middle of a free of a long object: some of its parts are freed. In all definitions u is the bytes of a whole part, and n
--- those of the object; h is the handle of its spine. No public clause cites this module.
+-- The free of an object, by its inner objects: those that must be live before, an inner manager in the middle of it, with some parts of a long object
+-- freed, and what it freed. In all definitions u is the bytes of a whole part, and n those of the object; h is the handle of the object, which is that of
+-- its spine if it has one. No public clause cites this module.
 use Rattle.std.specs.Prelude.{◌≡◌, ◌≢◌, ℕ, ◌+◌, ◌<◌, ◌≤◌, ◌⊎◌, List, Some, None, length, take, drop, sum_by}
 use Rattle.std.specs.FinMap.{get, remove, len}
 use Rattle.page_model.specs.Arrangement.{live}

@@ -1,5 +1,7 @@
 //! Reads and writes of an object's bytes in a heap of long objects: by one call of the manager
-//! under it if the object fits a page, else part by part.
+//! under it if the object fits a page, else part by part. Each function requires that the heap is
+//! open, that the object has the bytes, and a count of steps of at most 2 ^ 62 (for one part,
+//! 2 ^ 63 - 68).
 ghost use Rattle.std.specs.Prelude.{◌≡◌, ◌+◌, ◌*◌, ◌<◌, ◌≤◌, ◌^◌, ℕ, List, Some, IsTrue, length, take, drop};
 ghost use Rattle.step_ledger.specs.Counting.{RoseAtMost};
 ghost use Rattle.std.specs.FinMap.{get};
@@ -26,8 +28,8 @@ impl<H: Manager> LargeHeap<H> {
         write_inner(&mut self.inner, h, at, bytes, steps);
     }
 
-    /// Writes `bytes` into the parts of the live object h, which is longer than a page, from byte `at`
-    /// of the object on.
+    /// Writes `bytes`, fewer than 2 ^ 32, into the parts of the live object h, which is longer than a
+    /// page, from byte `at` of the object on.
     pub(crate) fn write_long(&mut self, h: Handle, at: u32, bytes: &[u8], steps: &mut Steps)
         requires open { IsTrue self.old.is_open }
         requires has { HasLong self.old h.0 at (length bytes.now) }
@@ -75,8 +77,8 @@ impl<H: Manager> LargeHeap<H> {
         read_inner(&self.inner, h, at, out, steps);
     }
 
-    /// Fills `out` with bytes from the parts of the live object h, which is longer than a page, from byte
-    /// `at` of the object on.
+    /// Fills `out`, of fewer than 2 ^ 32 bytes, with bytes from the parts of the live object h, which is
+    /// longer than a page, from byte `at` of the object on.
     pub(crate) fn read_long(&self, h: Handle, at: u32, out: &mut [u8], steps: &mut Steps)
         requires open { IsTrue self.now.is_open }
         requires has { HasLong self.now h.0 at (length out.old) }

@@ -1,6 +1,8 @@
-//! The number and the lengths of an object's inner objects (itself if it fits a page, else its
-//! spine and parts), and whether its spine fits a page, computed from its length. In all functions
-//! `part_bytes` is the bytes of a whole part, the largest object that fits a page.
+//! What the inner objects of an object are, computed from the object's length: how many parts, the
+//! bytes of each, how many inner objects, how many of these need at most a given number of words,
+//! and whether the spine fits a page. An object that fits a page is its own inner object; a longer
+//! one has a spine and parts. `part_bytes`, at least 1, is the bytes of a whole part, the largest
+//! object that fits a page.
 ghost use Rattle.std.specs.Prelude.{◌≡◌, ◌<◌, ◌*◌, ◌↔◌, IsTrue, cond, count_by, length, nat_le};
 ghost use Rattle.cf_base.specs.Classes.{need};
 ghost use Rattle.large_objects.specs.LargeSteps.{FitsSpine};
@@ -60,8 +62,8 @@ fn count_if(count: u32, yes: bool) -> u64
     if yes { count as u64 } else { 0 }
 }
 
-/// Of the inner objects of an object of `bytes` bytes, the number of those that need at most `words` words
-/// each, with their header.
+/// The number of the inner objects of an object of `bytes` bytes that need at most `words` words each, with
+/// their header. The object or its spine must fit a page.
 pub(crate) fn count_inner_objects_within(bytes: u32, part_bytes: u32, words: u32) -> u64
     requires some { 0 < part_bytes }
     requires fits { FitsSpine part_bytes bytes }

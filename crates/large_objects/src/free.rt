@@ -1,5 +1,7 @@
 //! Frees the inner objects of an object: the object itself if it fits a page, else its parts and then its
-//! spine. In all functions `part_bytes` is the bytes of a whole part, the largest object that fits a page.
+//! spine. `part_bytes`, at least 1, is the bytes of a whole part, the largest object that fits a page.
+//! Each function requires that the manager is ready (`IsReadyInner`), that these inner objects are live, and
+//! a count of steps of at most 2 ^ 62 (for one part, 2 ^ 63 - 68).
 ghost use Rattle.std.specs.Prelude.{◌≡◌, ℕ, ◌+◌, ◌*◌, ◌<◌, ◌≤◌, ◌^◌, List, Some, length};
 ghost use Rattle.std.specs.FinMap.{get};
 ghost use Rattle.step_ledger.specs.Counting.{RoseAtMost};

@@ -22,12 +22,13 @@ use std::marker::Model;
 use step_ledger::{Meter, Steps};
 
 /// Objects that may be longer than a page, over an inner manager with pages. An object that fits a
-/// page is one inner object; a longer one is a spine and its parts. The handle of an object is that
-/// of this inner object or of the spine.
+/// page with its header is one inner object; a longer one is a spine and its parts. The handle of an
+/// object is that of this inner object or of the spine.
 ///
-/// The calls `malloc`, `free`, `write` and `read` add their steps to the meter's count, and first
-/// reset a count above 2 ^ 62. If the inner manager has step bounds of its own, their clauses
-/// `steps` give these steps from the steps of its calls (`InnerCosts`).
+/// Of the methods with `self`, all but `inner`, `is_open` and `open_heap` require an open heap. The
+/// calls `malloc`, `free`, `write` and `read` add their steps to the meter's count, and first reset
+/// a count above 2 ^ 62. If the inner manager has step bounds of its own, the clauses `steps` of
+/// these calls give or bound their steps by those of the manager's calls (`InnerCosts`).
 #[derive(Drop)]
 pub struct LargeHeap<H: Manager> {
     alloc: Global,
@@ -74,7 +75,8 @@ impl<H: Manager> LargeHeap<H> {
     }
 
     /// The memory that `LargeHeap::open_heap` asks for, if the inner manager asks for `inner` with these settings. The
-    /// bytes of the `LargeHeap` itself, which its owner keeps, aren't counted.
+    /// bytes of the `LargeHeap` itself, which its owner keeps, aren't counted. `inner` must have less than 2 ^ 31
+    /// blocks and 2 ^ 63 bytes.
     pub fn bytes_needed(inner: BytesNeeded, s: &Settings) -> BytesNeeded
         requires few { inner.blocks < 2 ^ 31 }
         requires fits { inner.total < 2 ^ 63 }
@@ -153,9 +155,9 @@ impl<H: Manager> LargeHeap<H> {
         }
     }
 
-    /// Removes an object, and its spine and parts if it is longer than a page. It fails with
+    /// Removes an object, and its spine and parts if it is longer than a page. Fails with
     /// `NotLive` if the handle isn't that of an object, for instance if it is that of a part, and
-    /// then removes nothing. First resets a meter above 2 ^ 62. If the inner manager has step
+    /// then the heap is unchanged. First resets a meter above 2 ^ 62. If the inner manager has step
     /// bounds, takes at most the steps of a free for each inner object, and of a read of four bytes
     /// for each part; none if refused.
     pub fn free(&mut self, h: Handle, meter: &mut Meter) -> Result<(), NotLive>
@@ -175,12 +177,11 @@ impl<H: Manager> LargeHeap<H> {
         }
     }
 
-    /// Writes bytes into an object, long or short, from byte `at` on; no other object changes. It
-    /// fails with `Unknown` if the handle isn't that of an object, with `Range` if the bytes pass
-    /// the object's end, and then writes nothing. First resets a meter above 2 ^ 62. If the inner
-    /// manager has step bounds, takes exactly the steps of one write for a short object; for a long
-    /// one those of a read of four bytes and of a write for each part that gets bytes; none if
-    /// refused.
+    /// Writes bytes into an object, long or short, from byte `at` on; no other object changes. Fails with `Unknown` if
+    /// the handle isn't that of an object, with `Range` if `at` plus their number exceeds the object's length; then
+    /// the heap is unchanged. First resets a meter above 2 ^ 62. If the inner manager has step bounds, takes exactly
+    /// the steps of one write for a short object; for a long one those of a read of four bytes and of a write for each
+    /// part that gets bytes; none if refused.
     pub fn write(
         &mut self,
         h: Handle,
@@ -208,10 +209,10 @@ impl<H: Manager> LargeHeap<H> {
         }
     }
 
-    /// Fills `out` with bytes of an object, long or short, from byte `at` on. It fails with
-    /// `Unknown` if the handle isn't that of an object, with `Range` if the bytes pass the object's
-    /// end, and then leaves `out` unchanged. First resets a meter above 2 ^ 62. If the inner
-    /// manager has step bounds, takes exactly as many steps as a write of these bytes.
+    /// Fills `out` with bytes of an object, long or short, from byte `at` on. Fails with `Unknown` if the handle isn't
+    /// that of an object, with `Range` if `at` plus their number exceeds the object's length, and then leaves `out`
+    /// unchanged. First resets a meter above 2 ^ 62. If the inner manager has step bounds, takes exactly as many steps
+    /// as a write of these bytes.
     pub fn read(
         &self,
         h: Handle,
@@ -239,7 +240,8 @@ impl<H: Manager> LargeHeap<H> {
         }
     }
 
-    /// `LargeHeap`: makes an object of `bytes` zero bytes, for which the heap has room, and returns its handle.
+    /// `LargeHeap`: makes an object of `bytes` zero bytes, for which the heap has room, and returns its handle. The
+    /// count of steps must be at most 2 ^ 62.
     fn make_object(&mut self, bytes: u32, steps: &mut Steps) -> Handle
         requires open { IsTrue self.old.is_open }
         requires room { HasLargeRoom self.old bytes }
@@ -254,7 +256,7 @@ impl<H: Manager> LargeHeap<H> {
         h
     }
 
-    /// Frees the live long or short object h, which has `bytes` bytes.
+    /// Frees the live object h, long or short, which has `bytes` bytes. The steps before must be at most 2 ^ 62.
     fn release_object(&mut self, h: Handle, bytes: u32, steps: &mut Steps)
         requires open { IsTrue self.old.is_open }
         requires found { option_map length (get self.old.objects h.0) ≡ Some bytes }
@@ -268,7 +270,7 @@ impl<H: Manager> LargeHeap<H> {
         self.lengths[h.0 as usize] = None;
     }
 
-    /// The length of a long or short object in bytes; none if the handle isn't that of an object. It counts no step.
+    /// The length of a long or short object in bytes; none if the handle isn't that of an object. Counts no step.
     pub fn length_of(&self, h: Handle) -> Option<u32>
         requires { IsTrue self.now.is_open }
         ensures value { result ≡ option_map length (get self.now.objects h.0) }
@@ -280,8 +282,9 @@ impl<H: Manager> LargeHeap<H> {
         }
     }
 
-    /// Checks that the long or short object h has `count` bytes from byte `at` on, and returns its length in bytes. It
-    /// fails with `Unknown` if the handle isn't that of an object, with `Range` if the bytes pass the object's end.
+    /// The length in bytes of the object h, long or short, if the object has `count` bytes from byte `at` on. Fails
+    /// with `Unknown` if h isn't the handle of an object, with `Range` if `at` plus their number exceeds the object's
+    /// length.
     fn length_for(&self, h: Handle, at: u32, count: usize) -> Result<u32, AccessFault>
         requires { IsTrue self.now.is_open }
         ensures found { IfOk result (λ n. option_map length (get self.now.objects h.0) ≡ Some n) }

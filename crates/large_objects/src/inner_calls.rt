@@ -1,6 +1,7 @@
 //! Calls that the manager under a heap of long objects (the inner manager, with its inner objects)
 //! can't refuse: each function requires that there is room, or that the inner object is live and
-//! has the bytes. Clause `few` of each bounds its steps for every manager. Clause `steps` has the
+//! has the bytes, that the manager is ready (`IsReadyInner`), and a count of steps of at most
+//! 2 ^ 63. Clause `few` of each bounds its steps for every manager. Clause `steps` has the
 //! exact steps of a read or write, and a closer bound for a malloc or free: from the manager's own
 //! bounds, if it has some, and from the order, if it promises one.
 ghost use Rattle.std.specs.Prelude.{◌≡◌, ℕ, ◌+◌, ◌^◌, ◌≤◌, List, Some, length, take, drop};

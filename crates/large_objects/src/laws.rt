@@ -36,15 +36,16 @@ pub fn pages_in_use_are_those_of_the_inner_objects()
 {}
 
 /// An object of n bytes is cut into as few parts of at most u bytes as possible: if each part had u
-/// bytes, they would have at least n bytes (clause `enough`) and fewer than n + u (`few`).
+/// bytes, they would have at least n bytes (clause `enough`) and fewer than n + u (`few`). Here u is
+/// at least 1.
 pub fn parts_are_as_many_as_needed()
     ensures enough { (u n : ℕ) → 0 < u → n ≤ u * part_count u n }
     ensures few { (u n : ℕ) → 0 < u → u * part_count u n < n + u }
 {}
 
-/// In a heap of long objects, clause `same`: after a write to any object, a read of the same number
-/// of bytes from the same position returns the written bytes. Clause `others`: a write changes no
-/// other object.
+/// In a heap of long objects, clause `same`: right after a write to any object, a read of the same
+/// number of bytes from the same position returns the written bytes. Clause `others`: a write
+/// changes no other object.
 pub fn what_is_written_is_read()
     ensures same { (old new : LargeState) (position : Position) (bytes out : List ℕ)
         → WritesLarge old position bytes new → ReadsLarge new position (length bytes) out → out ≡ bytes }

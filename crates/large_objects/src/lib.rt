@@ -1,5 +1,6 @@
 //! Objects longer than a page, over any manager with pages. Such an object has a spine, which holds the
-//! handles of its parts. A whole part is the largest object that fits a page.
+//! handles of its parts. A whole part is the largest object that fits a page. Also laws of the
+//! heap of such objects (`LargeHeap`).
 #![tactic(auto)]
 
 mod access;

@@ -1,5 +1,7 @@
-//! Makes the inner objects of a new object: one if it fits a page, else a spine and its parts. In all
-//! functions `part_bytes` is the bytes of a whole part, the largest object that fits a page.
+//! Makes the inner objects of a new object: one if it fits a page, else a spine and its parts. `part_bytes`,
+//! at least 1, is the bytes of a whole part, the largest object that fits a page. Each function requires
+//! that the manager is ready (`IsReadyInner`) and has room, and a count of steps of at most 2 ^ 62 (for one
+//! part, 2 ^ 63 - 64).
 ghost use Rattle.std.specs.Prelude.{◌≡◌, ◌+◌, ◌*◌, ◌<◌, ◌≤◌, ◌^◌};
 ghost use Rattle.step_ledger.specs.Counting.{RoseAtMost};
 ghost use Rattle.cf_model.specs.State.{paging_in};
@@ -54,8 +56,8 @@ fn make_long<H: Manager>(inner: &mut H, bytes: u32, part_bytes: u32, steps: &mut
     spine
 }
 
-/// Makes a part of `bytes` zero bytes, and writes its handle into place i of the spine: the spine's
-/// four bytes from byte 4 i on.
+/// Makes a part of `bytes` zero bytes, and writes its handle into place i of the live spine: the
+/// four bytes from byte 4 i on, which the spine must have.
 fn make_part<H: Manager>(inner: &mut H, spine: Handle, i: u32, bytes: u32, steps: &mut Steps)
     requires ready { IsReadyInner (H.state inner.old) }
     requires room { HasInnerRoom (H.state inner.old) bytes }

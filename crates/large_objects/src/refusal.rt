@@ -1,6 +1,6 @@
 //! Why a heap of long objects refuses a malloc, found before anything changes. `Space` is found
 //! by a count of the pages that the old objects and the new one need, with their spines and parts.
-//! In all functions `part_bytes` is the bytes of the largest object that fits a page.
+//! `part_bytes`, at least 1, is the bytes of the largest object that fits a page.
 ghost use Rattle.std.specs.Prelude.{◌≡◌, ◌+◌, ◌<◌, IsTrue};
 ghost use Rattle.std.specs.Option.{MatchOption};
 ghost use Rattle.page_model.specs.Arrangement.{live, pages_for};
@@ -43,7 +43,8 @@ impl<H: Manager> LargeHeap<H> {
 }
 
 /// The number of pages that all inner objects and those of one more object of `bytes` bytes need. A class needs
-/// its number of inner objects divided by the slots of a page, rounded up.
+/// its number of inner objects divided by the slots of a page, rounded up. The manager must be ready
+/// (`IsReadyInner`), and the new object or its spine must fit a page.
 fn pages_with<H: Manager>(inner: &H, bytes: u32, part_bytes: u32) -> u64
     requires some { 0 < part_bytes }
     requires fits { FitsSpine part_bytes bytes }

@@ -12,7 +12,8 @@ use cf_model::Manager;
 use step_ledger::Steps;
 
 /// Returns the handle of part i, counted from 0, of the long object whose spine is `spine`. Reads
-/// it from the spine's bytes: four from byte 4 i on, the least significant first.
+/// it from the spine's bytes: four from byte 4 i on, the least significant first. The manager must
+/// be ready (`IsReadyInner`), the spine live, and the count of steps at most 2 ^ 63.
 pub(crate) fn part_handle<H: Manager>(inner: &H, spine: Handle, i: u32, steps: &mut Steps) -> Handle
     requires ready { IsReadyInner (H.state inner.now) }
     requires has { HasInner (H.state inner.now) spine.0 (4 * i) 4 }

@@ -1,4 +1,5 @@
--- For `the_large_headline`: the replies of every run meet the claim.
+-- For `the_large_headline`: in every run in mode `large` each reply, refusals and reports included, and the objects after it are those that the claim computes;
+-- so the replies meet it (`MeetsLarge`).
 use Rattle.std.proofs.Common.{◌≡◌, ℕ, zero, suc, false, cond, ◌+◌, ◌-◌, ◌*◌, ◌<◌, ◌≤◌, Bool, List, [], ◌∷◌, ◌++◌, Option, Some, None, length, get_or, map, replicate, arith, sym, ◌∙◌, ap, refl, inl, inr, subst}
 use Rattle.std.specs.Prelude.{◌&&◌, filter, nat_eq, nat_lt, not, sum_by, Result, Ok, Err, ⊤, option_map}
 use Rattle.std.specs.List.{range_with_len}

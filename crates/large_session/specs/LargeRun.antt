@@ -1,4 +1,5 @@
--- A session over a heap of long objects: its state, the calls of its heap, and for each command the reply and the state after it.
+-- A session over a heap of long objects: its state, also as a snapshot with the bytes written to the sink, the calls of its heap, and for each command the
+-- reply and the state after it.
 use Rattle.std.specs.Prelude.{◌≡◌, ℕ, IsTrue, List, Option, codes}
 use Rattle.run_model.specs.Terms.{Command, Frag, Ids, Refusal, Reply, said, Walk}
 use Rattle.large_objects.specs.Large.{KeepsParts, LargeState}

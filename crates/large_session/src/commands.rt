@@ -1,5 +1,6 @@
 //! The commands `m`, `f`, `w` and `r` of a session whose objects, named by ids, may be long: longer
-//! than a page. The first three return their reply; `r` builds its reply in `line`.
+//! than a page. The first three return their reply; `r` builds its reply in `line`. All require an
+//! open heap, and `f` that the live ids name the heap's objects (`AreTiedTo`).
 ghost use Rattle.std.specs.Prelude.{◌≡◌, ◌<◌, ◌≤◌, [], IsTrue, length};
 ghost use Rattle.cf_io.specs.Lines.{line_capacity};
 ghost use Rattle.run_model.specs.Terms.{Free, Malloc, said, Write};
@@ -65,7 +66,8 @@ pub(crate) fn free<H: Manager>(
 }
 
 /// `w`: writes these bytes into the object, long or short, of a live id, from byte `at` on. The reply is `ok`; or
-/// `unknown` if the id isn't live, or `range` if the bytes pass the object's end, and then nothing changes.
+/// `unknown` if the id isn't live, or `range` if `at` plus their number exceeds the object's length, and then nothing
+/// changes.
 pub(crate) fn write<H: Manager>(
     ids: &IdTable,
     heap: &mut LargeHeap<H>,
@@ -86,8 +88,9 @@ pub(crate) fn write<H: Manager>(
     }
 }
 
-/// `r`: fills `buffer` with bytes of the object, long or short, of a live id, from byte `at` on. The reply in `line` is
-/// `=` and the bytes in hexadecimal; or `unknown` if the id isn't live, or `range` if the bytes pass the object's end.
+/// `r`: fills `buffer`, of at most 4,096 bytes, with bytes of the object, long or short, of a live id, from byte `at`
+/// on, and returns the outcome of the reply. The reply in `line`, which is empty before, is `=` and the bytes in
+/// hexadecimal; or `unknown` if the id isn't live, or `range` if `at` plus their number exceeds the object's length.
 pub(crate) fn read<H: Manager>(
     ids: &IdTable,
     heap: &LargeHeap<H>,

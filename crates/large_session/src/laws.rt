@@ -1,7 +1,7 @@
-//! Laws of runs over long objects, longer than a page: reads print what was written, runs can go
-//! on, and cut output is a prefix; and what is claimed of every script in mode `large`, by its
-//! lines and their replies alone (`MeetsLarge`). The functions do nothing: their clauses are the
-//! laws.
+//! Laws of runs over long objects, longer than a page: reads print what was written, each command
+//! has a reply, runs can begin and go on, and cut output is a prefix; and what is claimed of every
+//! script in mode `large`, by its lines and their replies alone (`MeetsLarge`). The functions do
+//! nothing: their clauses are the laws.
 ghost use Rattle.std.specs.Prelude.{◌≡◌, ℕ, ◌++◌, Bool, List, [], Option, None, codes, take, ◌∷◌};
 ghost use Rattle.run_model.specs.Terms.{AreInRange, Command, IsPaged, Item, items, Kind, Profile, Reply, said, text_of};
 ghost use Rattle.script_laws.specs.ValidItems.{IsValidCommand};
@@ -15,8 +15,9 @@ ghost use Rattle.large_session.specs.LargeHeadline.{MeetsLarge};
 ghost use Rattle.large_session.specs.Small.{MeetsSmallLarge, small_large_replies, small_walk, walk_of_wholes};
 
 /// In every run on long objects each read prints the bytes last written through its id, however the
-/// object is cut into parts. Which bytes these are follows from the lines and their replies alone:
-/// no address, handle or part matters.
+/// object is cut into parts, or `range` if it passes the object's end, `unknown` if the id isn't
+/// live. Which bytes these are follows from the lines and their replies alone: no address, handle or
+/// part matters.
 pub fn reads_give_what_was_written()
     ensures { (kind : Kind) (items : List Item) (replies : List Reply) (new : Option LargeRun)
         → RunsLarge kind None items replies new → AreReadsOf None items replies }

@@ -55,10 +55,10 @@ impl LargeSession {
         })
     }
 
-    /// Does the command `c` on the open heap of long objects, builds each line of its reply in
-    /// `line`, writes the reply to the sink `out`, and returns the outcome of the reply. `meter`
-    /// counts steps. If the sink fails, the result is `Failed`: the command has taken effect, and a
-    /// prefix of its reply was written.
+    /// Does the well-formed command `c` on the open heap of long objects, whose objects the live ids
+    /// name, builds each line of its reply in `line`, writes the reply to the sink `out`, and
+    /// returns the outcome of the reply. `meter` counts steps. If the sink fails, the result is
+    /// `Failed`: the command has taken effect, and a prefix of its reply was written.
     pub fn apply<H: Manager, K: Sink>(
         &mut self,
         heap: &mut LargeHeap<H>,
@@ -115,8 +115,9 @@ impl LargeSession {
 }
 
 /// Does a command other than `walk` and `frag` on long objects, builds the text of its reply in
-/// `line`, and returns the outcome of the reply. `buffer` gets the bytes of a read. Any command but
-/// `m`, `f`, `w` and `r` gets the reply `none`.
+/// `line`, and returns the outcome of the reply. The run must be in progress (`IsGoingLarge`) and the
+/// command well-formed. `buffer`, of 4,096 bytes, gets the bytes of a read. Any command but `m`, `f`,
+/// `w` and `r` gets the reply `none`.
 fn build_reply<H: Manager>(
     ids: &mut IdTable,
     heap: &mut LargeHeap<H>,

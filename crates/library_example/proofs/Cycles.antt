@@ -1,5 +1,6 @@
--- For `next_frame`, one cycle on the sliced heap (free the last frame, do slices, malloc the next): slices change no object's bytes, and after enough of
--- them no job is pending and the malloc isn't `Busy`.
+-- For `next_frame`, one cycle on the sliced heap (free the last frame, do slices, malloc the next): slices change no object's bytes and leave the heap open,
+-- and n of them, of at most q steps each, take at most n * q; after enough of them no job is pending and the malloc isn't `Busy`; and which objects there are
+-- after the malloc, refused or not.
 use Rattle.std.proofs.Common.{◌≡◌, ◌≢◌, ℕ, zero, suc, ◌+◌, ◌-◌, ◌*◌, ◌≤◌, Option, Some, None, arith, sym, ◌∙◌, ap, refl, subst, replicate}
 use Rattle.std.specs.Prelude.{Ok}
 use Rattle.std.specs.FinMap.{get, insert}

@@ -1,5 +1,5 @@
--- For `store`, which makes an object and writes bytes into it, and `first_object`, which opens a heap for that: the write is not refused, and the object
--- then begins with the bytes.
+-- For `store`, which makes an object and writes bytes into it, and `first_object`, which opens a heap for that: the write is not refused, the object then has
+-- the bytes, with zeros behind them, and the new heap has this object alone.
 use Rattle.std.proofs.Common.{◌≡◌, ℕ, ◌+◌, ◌-◌, ◌≤◌, List, [], ◌∷◌, ◌++◌, Some, length, take, drop, replicate, arith, sym, ◌∙◌, ap, refl}
 use Rattle.std.specs.Prelude.{Result, Ok, Err, None, IfOk, OnOk}
 use Rattle.std.specs.Result.{result_ok}

@@ -1,4 +1,5 @@
--- For `first_object`, `store` and `read_and_free`: the bytes of the example's object, and the result of reading its first two.
+-- For `first_object`, `store` and `read_and_free`: the bytes of the example's object, when it is a heap's only object, and the result of reading its first two
+-- bytes.
 use Rattle.std.specs.Prelude.{◌≡◌, ℕ, ◌-◌, List, ◌++◌, Result, Ok, Err, length, replicate, true}
 use Rattle.std.specs.FinMap.{empty, insert}
 use Rattle.cf_base.specs.declared.results.AccessFault.{AccessFault}
@@ -6,11 +7,11 @@ use Rattle.page_model.specs.Held.{objects}
 use Rattle.cf_model.specs.State.{HeapState}
 use Rattle.cf_model.specs.Steps.{IsFault, Position, ReadsBytes}
 
--- the 176 bytes of an object: `bytes`, and zeros after them
+-- the 176 bytes of an object: `bytes`, of which there must be at most 176, and zeros after them
 abbrev pub padded_to_176 : List ℕ → List ℕ
 padded_to_176 bytes = bytes ++ replicate (176 - length bytes) 0
 
--- the heap s is open, and its one object has the handle h and begins with `bytes`
+-- the heap s is open, and its one object has the handle h and 176 bytes: `bytes`, and zeros after them
 pub record HoldsOne (s : HeapState) (h : ℕ) (bytes : List ℕ) : Type 0 where
   pub open_now : s.is_open ≡ true
   pub one : objects s.held ≡ insert empty h (padded_to_176 bytes)

@@ -25,11 +25,11 @@ pub enum Missed {
 }
 
 /// Does one cycle of the control loop: frees the last frame, calls `step` `slices` times for the
-/// job that the free left, and makes the next frame, of `bytes` zeros. Returns its handle, or the
-/// call that was refused and its cause. The bytes of every other object are unchanged. Let p be the
-/// words of a page divided by the quantum, rounded up: if `slices` is at least 2p, the malloc is
-/// never refused as `Busy`. The cycle takes at most 40 + q + n(15 + q) steps, where n is `slices`
-/// and q the quantum in words.
+/// job that the free left, and makes the next frame, of `bytes` zeros. Returns the new frame's
+/// handle, or which call was refused and why. The bytes of every other object are unchanged. Let p
+/// be the words of a page divided by the quantum, rounded up: if `slices` is at least 2p, the malloc
+/// is never refused as `Busy`. The cycle takes at most 40 + q + n(15 + q) steps, where n is `slices`
+/// and q the quantum in words. The heap must be open, and stays open.
 pub fn next_frame(
     heap: &mut SlicedHeap,
     last: Handle,

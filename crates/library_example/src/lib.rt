@@ -19,7 +19,7 @@ use std::alloc::Global;
 use step_ledger::Meter;
 
 /// An example: opens a moving heap of two pages of 512 bytes, with bound k = 1 and eight proxies,
-/// and makes one object of 176 bytes, which begins with the bytes ca fe (hexadecimal). Returns the
+/// and makes one object of 176 bytes, the bytes ca fe (hexadecimal) and then zeros. Returns the
 /// heap and the object's handle, or `None` if out of memory.
 pub fn first_object(rt: &HostRuntime, alloc: Global) -> Option<(MovingHeap, Handle)>
     ensures { IfSome result (λ r. HoldsOne r.0.state r.1.0 (0xca ∷ 0xfe ∷ [])) }
@@ -31,9 +31,9 @@ pub fn first_object(rt: &HostRuntime, alloc: Global) -> Option<(MovingHeap, Hand
     Some((heap, object))
 }
 
-/// An example: makes an object of 176 bytes on any manager, and writes `bytes` as its first two;
-/// the others are zeros. Returns its handle, or the refusal of the malloc. Resets the meter before
-/// each call.
+/// An example: makes an object of 176 bytes on any open manager, and writes `bytes` as its first
+/// two; the others are zeros. Returns the object's handle, or the refusal of the malloc. Resets the
+/// meter before each call.
 pub fn store<M: Manager>(
     heap: &mut M,
     bytes: &[u8; 2],
@@ -51,9 +51,9 @@ pub fn store<M: Manager>(
     Ok(object)
 }
 
-/// An example: reads the first two bytes of an object of any manager, frees the object, and returns
-/// the bytes. Fails if the handle is not live or the object has fewer than two bytes; then nothing
-/// is freed. Resets the meter before each call.
+/// An example: reads the first two bytes of an object of any open manager, frees the object, and
+/// returns the bytes. Fails if the handle is not live or the object has fewer than two bytes; then
+/// the manager is unchanged (`refused`). Resets the meter before each call.
 pub fn read_and_free<M: Manager>(
     heap: &mut M,
     object: Handle,
@@ -62,6 +62,7 @@ pub fn read_and_free<M: Manager>(
     requires { IsTrue (M.state heap.old).is_open }
     ensures read { ReadsStart (M.state heap.old) object.0 result }
     ensures freed { OnOk result (objects (M.state heap.new).held ≡ map.remove (objects (M.state heap.old).held) object.0) }
+    ensures refused { IfErr result (λ cause. M.state heap.new ≡ M.state heap.old) }
     ensures same { StaysOpen (M.state heap.old) (M.state heap.new) }
 {
     let mut bytes = [0; 2];

@@ -408,7 +408,7 @@ pub extern "C" fn nph_most_has_room() -> u64
     most::most_has_room(Kind::Moving)
 }
 
-/// Returns the most steps of `nph_totals`; with pages it takes none, however many are free (`most_totals`).
+/// Returns 0, the most steps of `nph_totals` with pages, whatever `free_count` is (`most_totals`).
 #[unsafe(no_mangle)]
 pub extern "C" fn nph_most_totals(free_count: u32) -> u64
     ensures { IsMostTotals bounds free_count result }

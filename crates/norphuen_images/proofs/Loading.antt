@@ -1,4 +1,4 @@
--- For `open` and `load`: what is true of a heap that was just opened, and of one that was loaded.
+-- For `open` and `load`: what is true of a heap that was just opened, and of one that was loaded; and why a load failed.
 use Rattle.std.proofs.Common.{◌≡◌, ◌∙◌, ◌++◌, ◌≤◌, ℕ, List, [], Some, false, ap, refl, sym, subst, append-nil, arith}
 use Rattle.std.specs.Prelude.{IsTrue, Ok, Err}
 use Rattle.std.specs.FinMap.{empty, len, len-empty, get, get-empty}

@@ -1,4 +1,5 @@
--- For the calls of `HeldImages`: what holds of every open heap (`IsNamed`) holds after each call.
+-- For `make`, `free` and `write` of `HeldImages`: what holds of every open heap (`IsNamed`) holds after the call, and the call does what its contract says. For
+-- `make` and `number`: which ids are live, and that no id of more than 16 bits is.
 use Rattle.std.proofs.Common.{◌≡◌, ◌∙◌, ◌≤◌, ℕ, ℤ, pos, Bool, true, false, List, Option, Some, None, refl, ap, sym, subst, arith, inl}
 use Rattle.std.specs.Prelude.{Result, Ok, Err, is_ok, is_some}
 use Rattle.std.specs.FinMap.{get}
@@ -65,12 +66,13 @@ module _ (p : Profile) (inside old new : RunState) (is : inside ≡ old) (before
   pub free_call : (id : ℕ) → FreesNamed inside id new → IsImagesFreeCall old id (pos 0) new
   free_call id call = inl (refl, subst (λ (s : RunState). FreesNamed s id new) is call, still)
 
-  -- a malloc that is refused for no cause makes the object
-  pub make_call : (id bytes : ℕ) (made : Bool) → ((e : Refusal) → ¬ IsRefusedBy inside.heap bytes e) → MakesNamed inside id bytes made new
-      → IsMakeCall old id bytes (pos 0) new
-  make_call id bytes made free call =
+  -- a malloc that is refused for no cause makes the object of an id that had none
+  pub make_call : (id bytes : ℕ) (made : Bool) → get inside.session.ids id ≡ None → ((e : Refusal) → ¬ IsRefusedBy inside.heap bytes e)
+      → MakesNamed inside id bytes made new → IsMakeCall old id bytes (pos 0) new
+  make_call id bytes made none free call =
       inl (
         refl,
+        subst (λ (s : RunState). get s.session.ids id ≡ None) is none,
         subst (λ (s : RunState). MakesNamed s id bytes true new) is
             (record { answer = call.answer; step = call.step; session = call.session; made_if = by call.answer call.step }),
         still,
@@ -96,6 +98,11 @@ module _ (p : Profile) (inside old new : RunState) (is : inside ≡ old) (before
 pub live_found : (o : Option Handle) (ids : Ids) (id : ℕ) → number_of o ≡ get ids id → true ≡ is_some o → (h : ℕ) × (get ids id ≡ Some h)
 live_found (Some h) ids id found some = (h.0, sym found)
 live_found None ids id found some = absurd (let z : true ≡ false = some in cc)
+
+-- an id without a number is not live
+pub none_found : (o : Option Handle) (ids : Ids) (id : ℕ) → number_of o ≡ get ids id → false ≡ is_some o → get ids id ≡ None
+none_found (Some h) ids id found none = absurd (let z : false ≡ true = none in cc)
+none_found None ids id found none = sym found
 
 -- no id of more than 16 bits is live
 pub none_above : (p : Profile) (s : RunState) → IsNamed p s → (id : ℕ) → 65536 ≤ id → get s.session.ids id ≡ None

@@ -85,11 +85,11 @@ module _ (p : Profile) (old : RunState) (named : IsNamed p old) where
 
 pub make_by_id : (p : Profile) (old new : RunState) (id bytes : ℕ) → IsNamed p old → IsMakeCall old id bytes (pos 0) new
     → live_objects new ≡ insert (live_objects old) id (replicate bytes 0)
-make_by_id p old new id bytes named (inl (done, call, after)) =
+make_by_id p old new id bytes named (inl (done, fresh, call, after)) =
     made p old named new id bytes call call.answer call.step (ap (λ (s : SessionState). s.ids) call.session) call.made_if
 make_by_id p old new id bytes named (inr (inl (code, large), same)) = absurd (let z : pos 0 ≡ pos 4 = code in cc)
-make_by_id p old new id bytes named (inr (inr (inl (code, h, live)), same)) = absurd (let z : pos 0 ≡ pos 20 = code in cc)
-make_by_id p old new id bytes named (inr (inr (inr (e, code, cause)), same)) = not_done e code
+make_by_id p old new id bytes named (inr (inr (inl (code, small, h, live)), same)) = absurd (let z : pos 0 ≡ pos 20 = code in cc)
+make_by_id p old new id bytes named (inr (inr (inr (small, fresh, e, code, cause)), same)) = not_done e code
 
 pub free_by_id : (p : Profile) (old new : RunState) (id : ℕ) → IsNamed p old → IsImagesFreeCall old id (pos 0) new → live_objects new ≡ remove (live_objects old) id
 free_by_id p old new id named (inl (done, call, after)) =

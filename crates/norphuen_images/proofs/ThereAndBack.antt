@@ -1,4 +1,5 @@
--- For the laws on images: the bytes that a save wrote are the heap's image, and a load of them finds its objects.
+-- For the laws on images: the bytes that a save wrote are the heap's image, a load of them finds its objects, and heaps with the same settings and objects have
+-- one image.
 use Rattle.std.proofs.Common.{◌≡◌, ◌∙◌, ◌≤◌, ℕ, ℤ, pos, Some, None, length, take, ap, subst, sym, inl, inr}
 use Rattle.std.proofs.Math.Seq.{take-append_seam}
 use Rattle.cf_base.specs.Settings.{Profile, at_bound_one}

@@ -11,7 +11,7 @@ use Rattle.id_table.specs.Sessions.{RunState}
 use Rattle.norphuen_images.specs.Calls.{HoldsImage, IsFreshRun, at_bound}
 use Rattle.norphuen_images.specs.Needed.{IsImagesHeldBytes}
 
--- how a heap is opened, and what it needs; it has no handles
+-- how a heap is opened, with any bound k, and what it needs; its objects have no handles
 abbrev pub images_opening : Opening RunState
 images_opening = record { takes = λ _. ⊤; is_fresh = λ p _. IsFreshRun p; needs = IsImagesHeldBytes; last = λ _. 0 }
 

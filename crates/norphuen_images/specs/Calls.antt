@@ -1,5 +1,6 @@
--- For `HeldImages`: what each call of a C library does to an open heap whose objects have ids (`old`, `new`), and to the caller's number or buffer (`before`, `after`), and the
--- `code` that it returns. A refused call changes nothing.
+-- What each call from C does to a `HeldImages`, an open heap whose objects have ids: `old` is its state before the call, `new` after it. `before` and `after`
+-- are the caller's number or buffer that the call writes to, and `code` is what the call returns. A refused call changes nothing. Then what a load from an
+-- image leaves, and why it fails.
 use Rattle.std.specs.Prelude.{◌≡◌, ℕ, ◌<◌, ◌≤◌, ◌⊎◌, ◌++◌, ⊤, ℤ, pos, true, List, Option, Some, None, Result, Err, drop, length, take}
 use Rattle.std.specs.FinMap.{get}
 use Rattle.cf_base.specs.Settings.{Profile}
@@ -27,24 +28,25 @@ pub record IsFreshRun (p : Profile) (new : RunState) : Type 0 where
   pub session : new.session ≡ fresh_session
   pub named : IsNamed p new
 
--- why no object of `bytes` bytes was made under the id, by the code: 4 (`UNKNOWN`), the id does not fit 16 bits; 20 (`LIVE`), it has an object; or the cause of the refused malloc
-abbrev pub IsNotMade : RunState → ℕ → ℕ → ℤ → Type 0
-IsNotMade old id bytes code = ((code ≡ pos 4) × (65536 ≤ id)) ⊎ ((code ≡ pos 20) × (h : ℕ) × (get old.session.ids id ≡ Some h))
-    ⊎ ((e : Refusal) × (code ≡ malloc_code (Err e)) × IsRefusedBy old.heap bytes e)
-
--- a call that makes an object of `bytes` zeros under the id
-abbrev pub IsMakeCall : RunState → ℕ → ℕ → ℤ → RunState → Type 0
-IsMakeCall old id bytes code new = ((code ≡ pos 0) × MakesNamed old id bytes true new × IsNamed old.heap.profile new) ⊎ (IsNotMade old id bytes code × (new ≡ old))
-
 -- no object has the id
 abbrev pub NamesNone : RunState → ℕ → Type 0
 NamesNone s id = get s.session.ids id ≡ None
+
+-- why no object of `bytes` bytes was made under the id, by the code: 4 (`UNKNOWN`), the id does not fit 16 bits; 20 (`LIVE`), it fits and has an object; or neither holds, and the
+-- code is that of the refused malloc, whose cause holds
+abbrev pub IsNotMade : RunState → ℕ → ℕ → ℤ → Type 0
+IsNotMade old id bytes code = ((code ≡ pos 4) × (65536 ≤ id)) ⊎ ((code ≡ pos 20) × (id < 65536) × (h : ℕ) × (get old.session.ids id ≡ Some h))
+    ⊎ ((id < 65536) × NamesNone old id × (e : Refusal) × (code ≡ malloc_code (Err e)) × IsRefusedBy old.heap bytes e)
+
+-- a call that makes an object of `bytes` zeros under the id, which no object had before; or it is refused (`IsNotMade`)
+abbrev pub IsMakeCall : RunState → ℕ → ℕ → ℤ → RunState → Type 0
+IsMakeCall old id bytes code new = ((code ≡ pos 0) × NamesNone old id × MakesNamed old id bytes true new × IsNamed old.heap.profile new) ⊎ (IsNotMade old id bytes code × (new ≡ old))
 
 -- a call that frees the object of the id; 4 (`UNKNOWN`) if no object has it
 abbrev pub IsImagesFreeCall : RunState → ℕ → ℤ → RunState → Type 0
 IsImagesFreeCall old id code new = ((code ≡ pos 0) × FreesNamed old id new × IsNamed old.heap.profile new) ⊎ ((code ≡ pos 4) × NamesNone old id × (new ≡ old))
 
--- the number of the object that an id names; one that no object has if no object has the id
+-- the number of the handle of the object that an id names; if no object has the id, `none`, which is the number of no object
 abbrev pub number_by : Option ℕ → ℕ
 number_by (Some h) = h
 number_by None = none
@@ -72,7 +74,7 @@ IsImagesLengthCall old id before code after new = IsLengthOf (bytes_of old id) b
     IsLengthOf (Some v) before code after = (code ≡ pos 0) × (after ≡ length v)
     IsLengthOf None before code after = (code ≡ pos 4) × (after ≡ before)
 
--- a call for the bytes of the heap's image
+-- a call for the length of the heap's image, in bytes; the heap is unchanged
 pub record IsImageBytesCall (old : RunState) (code : ℤ) (after : ℕ) (new : RunState) : Type 0 where
   pub by_code : code ≡ pos 0
   pub by_image : after ≡ length (heap_image old)

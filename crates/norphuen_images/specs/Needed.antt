@@ -1,4 +1,4 @@
--- The memory that opening a heap asks for, or loading one from an image with these settings, as a caller in C gets it.
+-- The memory that opening a heap whose objects have ids asks for, and loading one from an image; and the call that writes its numbers for a caller in C.
 use Rattle.std.specs.Prelude.{◌≡◌, ℕ, ◌*◌, ℤ}
 use Rattle.cf_base.specs.Needed.{both, one_block}
 use Rattle.cf_base.specs.Settings.{Profile, profile_from, setting_fault}
@@ -12,7 +12,7 @@ use Rattle.c_base.specs.declared.results.NphNeeded.{NphNeeded}
 abbrev pub IsImagesHeldBytes : Profile → BytesNeeded → Type 0
 IsImagesHeldBytes p needed = needed ≡ both (paged_bytes Moving p) (both (one_block (8 * 65536)) (one_block 1512))
 
--- a call for the memory of a heap with these settings: pages, bytes of a page, bound k, and proxies
+-- a call for the memory of a heap with these settings: pages, bytes of a page, bound k, and proxies; `before` and `after` are the caller's numbers
 abbrev pub IsImagesNeededCall : ℕ → ℕ → ℕ → ℕ → ℤ → NphNeeded → NphNeeded → Type 0
 IsImagesNeededCall pages page_bytes k proxies code before after =
     AreNeeded (setting_fault pages page_bytes k proxies) (IsImagesHeldBytes (profile_from pages page_bytes k proxies)) code before after

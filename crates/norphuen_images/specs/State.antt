@@ -1,4 +1,4 @@
--- The state of an open heap whose objects have ids: that of a run, a heap and the names of its objects.
+-- The state of an open heap whose objects have ids, that of a run: a heap and the names of its objects; and what holds of every such heap (`IsNamed`).
 use Rattle.std.specs.Prelude.{◌≡◌, refl}
 use Rattle.std.specs.Coded.{Coded, code_by, coded×}
 use Rattle.cf_base.specs.Settings.{Profile}

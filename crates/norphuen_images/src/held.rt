@@ -83,7 +83,7 @@ impl Openable for HeldImages {
         Box::new(alloc, held).ok()
     }
 
-    /// 0: objects with ids have no handles.
+    /// The largest handle: 0, since objects with ids have no handles.
     fn last(&self) -> u32 {
         0
     }
@@ -91,7 +91,7 @@ impl Openable for HeldImages {
 
 impl HeldImages {
     /// Opens C's heap in a memory block of its own with the settings and the objects of an image, and with the bound `k`.
-    /// Fails with `Bad` if the bytes are no image, and with `OutOfMemory`.
+    /// `k` must be 1 to 64. Fails with `Bad` if the bytes are no image, and with `OutOfMemory` if out of memory.
     pub(crate) fn load(memory: Memory, bytes: &[u8], k: u32) -> Result<Box<HeldImages>, LoadFault>
         requires least { 1 ≤ k }
         requires most { k ≤ 64 }
@@ -130,7 +130,7 @@ impl HeldImages {
         }
     }
 
-    /// For C, the number of the object that an id names; `NONE` if no object has the id.
+    /// For C, the number of the handle of the object that an id names; `NONE` if no object has the id.
     fn number(&self, id: u32) -> u32
         ensures { result ≡ number_by (map.get self.now.session.ids id) }
     {
@@ -181,7 +181,7 @@ impl HeldImages {
     }
 
     /// For C, writes the bytes into the object of the id, from its byte `at` on. Returns `DONE`; `UNKNOWN` if no object
-    /// has the id, or `RANGE` if the bytes pass the object's end.
+    /// has the id, or `RANGE` if `at` plus their number exceeds the object's length.
     pub fn write(&mut self, id: u32, at: u32, bytes: &[u8]) -> i32
         ensures { IsImagesWriteCall self.old id at bytes.now result self.new }
     {
@@ -194,7 +194,8 @@ impl HeldImages {
     }
 
     /// For C, fills `out` with the bytes of the object of the id, from its byte `at` on. Returns `DONE`; `UNKNOWN` if
-    /// no object has the id, or `RANGE` if the bytes pass the object's end, and then `out` is unchanged.
+    /// no object has the id, or `RANGE` if `at` plus their number exceeds the object's length, and then `out` is
+    /// unchanged.
     pub fn read(&mut self, id: u32, at: u32, out: &mut [u8]) -> i32
         ensures { IsImagesReadCall self.old id at out.old result out.new self.new }
     {
@@ -269,7 +270,7 @@ impl HeldImages {
         self.save_to(&mut sink);
     }
 
-    /// For C, writes the image to a sink over a slice of the image's length.
+    /// For C, writes the image to a sink over a slice of the image's length, to which nothing was written before.
     fn save_to(&self, sink: &mut SliceSink<'_>)
         requires none { sink.old.at ≡ 0 }
         requires exact { length sink.old.bytes.now ≡ length (heap_image self.now) }

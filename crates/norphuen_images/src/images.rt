@@ -1,4 +1,5 @@
-//! `NphHeap` for the heap whose objects have ids: a `ClosableHeap` of `c_base`, and its fields, in types that C may see.
+//! `NphHeap` for the heap whose objects have ids: a `ClosableHeap` of `c_base`, and its fields, in types that C may see;
+//! and its load from an image.
 ghost use Rattle.std.specs.Prelude.{◌≡◌, Option, is_some};
 ghost use Rattle.std.specs.Borrow.{sem};
 ghost use Rattle.std.specs.Coded.{coded_option};
@@ -45,7 +46,8 @@ impl NphHeap {
     ghost use Rattle.norphuen_images.specs.CallerImages.{IsLoadCall};
     ghost use Rattle.norphuen_images.specs.Place.{LendsImagesInner, images_heap_in, images_inner_of};
 
-    /// Borrows the `ClosableHeap` that this heap with ids is in memory.
+    /// Borrows this heap with ids as a `ClosableHeap`, which has the same fields in the same memory. When the borrow
+    /// ends, this `NphHeap` has the fields that the `ClosableHeap` then has.
     pub fn inner(&mut self) -> &mut ClosableHeap<HeldImages>
         ensures* writes_back { sem 𝓛 (LendsImagesInner self.entry result) }
         ensures value { result.now ≡ images_inner_of self.old }
@@ -55,8 +57,8 @@ impl NphHeap {
 
     /// `NphHeap`: opens a heap with the settings and the objects of an image, and with the bound `k`. Returns `DONE`;
     /// else the heap is unchanged, and the code is `OPEN` if it is open already, `BOUND` if `k` isn't 1 to 64, `IMAGE`
-    /// if the bytes are no image, or `MEMORY`. After `IMAGE`, `offset` is where the first field begins that breaks a
-    /// rule of images or is cut, or where bytes follow the image; else it is unchanged.
+    /// if the bytes are no image, or `MEMORY` if out of memory. After `IMAGE`, `offset` is where the first field begins
+    /// that breaks a rule of images or is cut, or where bytes follow the image; else it is unchanged.
     pub fn load(&mut self, memory: Memory, bytes: &[u8], k: u32, offset: &mut u64) -> i32
         ensures { IsLoadCall (images_heap_in self.old) bytes.now k offset.old result offset.new (images_heap_in self.new) }
     {

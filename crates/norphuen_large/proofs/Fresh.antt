@@ -1,4 +1,4 @@
--- For `Held::open`: a heap that is opened has no objects and has counted 0 steps (`IsFreshLargeHeap`).
+-- For `Held::open`: a heap that is opened has no objects, has counted 0 steps, and has its first handles (`IsFreshLargeHeap`).
 use Rattle.std.proofs.Common.{◌≡◌, ℕ, List, refl, subst}
 use Rattle.cf_base.specs.Settings.{profile_of}
 use Rattle.cf_base.specs.declared.kind.Kind.{Kind}

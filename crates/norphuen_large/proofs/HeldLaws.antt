@@ -1,4 +1,4 @@
--- For `laws`: a malloc's handle is new; one that names no object is refused; a read gives what was written.
+-- For `laws`: an object's number is below the number of proxies; a malloc's handle is new; one that names no object is refused; a read gives what was written.
 use Rattle.std.proofs.Common.{◌≡◌, ℕ, ℤ, pos, ◌<◌, List, length, Some, None, Ok, Err, arith, sym, ◌∙◌, ap, subst, inl, inr}
 use Rattle.std.specs.Prelude.{Result, replicate}
 use Rattle.std.specs.FinMap.{get}

@@ -1,5 +1,6 @@
--- For `Held`: what each call of a C library does to an open heap of long objects with its step count (`old`, `new`) and to the caller's number, structure or
--- buffer (`before`, `after`), and the `code` that it returns. `answer` is the result of the heap's own call, whose steps, counted from 0, are `new.steps`.
+-- What each call from C does to a `Held`, an open heap of long objects with a step count and handles: `old` is the `Held` before the call, `new` after it.
+-- `before` and `after` are the caller's number, structure or buffer that the call writes to, and `code` is what the call returns. `answer` is the result of
+-- the call of `LargeHeap` that does the work; its steps, counted from 0, are `new.steps`.
 use Rattle.std.specs.Prelude.{◌≡◌, ℕ, ℤ, pos, true, List, Option, Result, length, option_map}
 use Rattle.std.specs.FinMap.{empty, get}
 use Rattle.cf_base.specs.Settings.{Profile}
@@ -22,7 +23,8 @@ use Rattle.c_base.specs.declared.results.NphClass.{NphClass}
 use Rattle.c_base.specs.declared.results.NphHeapTotals.{NphHeapTotals}
 use Rattle.norphuen_large.specs.HeldState.{LargeHeldState}
 
--- `new` is a heap that was just opened with the settings p: no object is live, all words are 0, its count is 0, and its handles are larger than `last` or begin at 0 if too few are larger
+-- `new` is a heap that was just opened with the settings p: no object is live, all words are 0, the step count is 0, and the handles are larger than `last`, or
+-- begin at 0 if too few are larger
 pub record IsFreshLargeHeap (p : Profile) (last : ℕ) (new : LargeHeldState) : Type 0 where
   pub open_now : new.heap.is_open ≡ true
   pub none : new.heap.objects ≡ empty
@@ -43,7 +45,7 @@ pub record IsLargeMallocCall (old : LargeHeldState) (bytes before : ℕ) (code :
   pub bound : RoseAtMost 0 new.steps (large_malloc_steps moving_costs old.heap bytes answer)
   pub same : new.handles ≡ old.handles
 
--- a free of the object that `handle` names, which is given up if the free succeeds
+-- a free of the object that `handle` names; if the free succeeds, the handle names no object any more
 pub record IsLargeFreeCall (old : LargeHeldState) (handle : ℕ) (code : ℤ) (new : LargeHeldState) : Type 0 where
   pub answer : Result (Unit {0}) NotLive
   pub by_code : code ≡ free_code answer
@@ -78,19 +80,19 @@ pub record IsLargeReadCall (old : LargeHeldState) (handle from : ℕ) (before : 
 abbrev pub large_length_in : LargeState → ℕ → Option ℕ
 large_length_in s number = option_map length (get s.objects number)
 
--- a call for the length of the object that `handle` names; it changes nothing
+-- a call for the length of the object that `handle` names; the `Held` is unchanged
 pub record IsLargeLengthCall (old : LargeHeldState) (handle before : ℕ) (code : ℤ) (after : ℕ) (new : LargeHeldState) : Type 0 where
   pub by_code : code ≡ found_code (large_length_in old.heap (number_in old.handles handle))
   pub by_length : after ≡ found_number (large_length_in old.heap (number_in old.handles handle)) before
   pub kept : new ≡ old
 
--- a call for the figures of a class of the moving heap below; it changes nothing
+-- a call for the figures of a class of the inner manager, a moving heap; the `Held` is unchanged
 pub record IsLargeFiguresCall (old : LargeHeldState) (class : ℕ) (before : NphClass) (code : ℤ) (after : NphClass) (new : LargeHeldState) : Type 0 where
   pub by_code : code ≡ found_code (figures_in old.heap.inner class)
   pub by_figures : after ≡ figures_shown (figures_in old.heap.inner class) before
   pub kept : new ≡ old
 
--- a call for the figures of the whole moving heap below; it takes no step, and the heap is unchanged
+-- a call for the figures of the whole inner manager, a moving heap; it takes no step, and the heap is unchanged
 pub record IsLargeTotalsCall (old : LargeHeldState) (code : ℤ) (after : NphHeapTotals) (new : LargeHeldState) : Type 0 where
   pub by_code : code ≡ pos 0
   pub by_totals : after ≡ totals_shown (totals_in old.heap.inner.kind old.heap.inner)

@@ -10,7 +10,7 @@ use Rattle.norphuen_large.specs.HeldState.{LargeHeldState}
 abbrev pub KeepsLargeHandles : LargeHeldState → Type 0
 KeepsLargeHandles h = HasHandles (KeepsParts h.heap) h.heap.inner.profile.proxies h.handles
 
--- a malloc of `bytes` bytes that leads from `old` to `new` gives this handle: its number had no object before, and has the new one after; it is less than `none`
+-- a malloc of `bytes` bytes that leads from `old` to `new` gives this handle: its number had no object before, and has the new one after; the handle is less than `none`
 pub record IsNewLargeHandle (old : LargeHeldState) (bytes handle : ℕ) (new : LargeHeldState) : Type 0 where
   pub before : get old.heap.objects (number_in old.handles handle) ≡ None
   pub names : get new.heap.objects (number_in new.handles handle) ≡ Some (replicate bytes 0)

@@ -1,9 +1,9 @@
--- For `Held`, an open heap of long objects with the step count of its last call and the handles that C has: its state, as contracts see it.
+-- For `Held`, an open heap of long objects with the steps of its last call that counts any, and the handles that C has: its state, as contracts see it.
 use Rattle.std.specs.Prelude.{ℕ, List, refl}
 use Rattle.std.specs.Coded.{Coded, code_by, coded×, coded_list, coded_ℕ}
 use Rattle.large_objects.specs.Large.{LargeState, large_code}
 
--- the state of the heap; the steps of the last call that counts them; and the handle of each number
+-- the state of the heap; the steps of the last call that counts them; and, by the number of an object, the handle that C has for it
 pub record LargeHeldState : Type 0 where
   pub heap : LargeState
   pub steps : ℕ

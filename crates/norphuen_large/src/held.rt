@@ -18,9 +18,10 @@ const HELD_BYTES: u64 = 1512;
 const _: () = prove!(size_of::<Held>() == 1512);
 
 /// An open heap of long objects over the moving heap, the steps of its last call that counts any,
-/// and C's handle of each object's number. A call on a stale handle is a call on the number `NONE`,
-/// which is never live. `malloc`, `free`, `write`, `read` and `totals` count steps, each on a
-/// ledger of its own that it makes from `memory`; the others leave `steps` unchanged.
+/// and C's handle of each object's number. A handle is stale if it is not the one that its number
+/// has now. A call on a stale handle is a call on the number `NONE`, which is never live. `malloc`,
+/// `free`, `write`, `read` and `totals` count steps, each on a ledger of its own that it makes from
+/// `memory`; the others leave `steps` unchanged.
 #[derive(Drop)]
 pub struct Held {
     heap: LargeHeap<MovingHeap>,
@@ -70,6 +71,7 @@ impl Openable for Held {
         Box::new(alloc, held).ok()
     }
 
+    /// The largest of the handles that C's heap of long objects has now.
     fn last(&self) -> u32 {
         self.handles.largest()
     }
@@ -79,7 +81,8 @@ impl Held {
     ghost use Rattle.norphuen_large.specs.Calls.{IsLargeFiguresCall, IsLargeFreeCall, IsLargeLengthCall, IsLargeMallocCall, IsLargeReadCall, IsLargeStepsCall, IsLargeTotalsCall, IsLargeWriteCall};
 
     /// For C, makes an object of `bytes` zeros, long or short, and writes its handle into `handle`. Returns `DONE`, or
-    /// the code of the refusal: `SIZE`, `PROXY` or `SPACE`. After a refusal `handle` is unchanged.
+    /// the code of the cause for which `LargeHeap::malloc` refuses: `SIZE`, `PROXY` or `SPACE`. After a refusal the heap
+    /// and `handle` are unchanged.
     pub fn malloc(&mut self, bytes: u32, handle: &mut u32) -> i32
         ensures { IsLargeMallocCall self.old bytes handle.old result handle.new self.new }
     {
@@ -114,7 +117,7 @@ impl Held {
     }
 
     /// Writes the bytes into C's object, long or short, from its byte `at` on. Returns `DONE`; `UNKNOWN` if the handle
-    /// isn't live, or `RANGE` if the bytes pass the object's end, and then no object changes.
+    /// isn't live, or `RANGE` if `at` plus their number exceeds the object's length, and then no object changes.
     pub fn write(&mut self, handle: u32, at: u32, bytes: &[u8]) -> i32
         ensures { IsLargeWriteCall self.old handle at bytes.now result self.new }
     {
@@ -129,7 +132,8 @@ impl Held {
     }
 
     /// Fills `out` with the bytes of C's object, long or short, from its byte `at` on. Returns `DONE`; `UNKNOWN` if the
-    /// handle isn't live, or `RANGE` if the bytes pass the object's end, and then `out` is unchanged.
+    /// handle isn't live, or `RANGE` if `at` plus their number exceeds the object's length, and then `out` is
+    /// unchanged.
     pub fn read(&mut self, handle: u32, at: u32, out: &mut [u8]) -> i32
         ensures { IsLargeReadCall self.old handle at out.old result out.new self.new }
     {

@@ -41,7 +41,8 @@ pub struct NphHeap {
 impl NphHeap {
     ghost use Rattle.norphuen_large.specs.Place.{LendsLargeInner, large_inner_of};
 
-    /// Borrows the `ClosableHeap` that this heap of long objects is in memory.
+    /// Borrows this heap of long objects as a `ClosableHeap`, which has the same fields in the same memory. When the
+    /// borrow ends, this `NphHeap` has the fields that the `ClosableHeap` then has.
     pub fn inner(&mut self) -> &mut ClosableHeap<Held>
         ensures* writes_back { sem 𝓛 (LendsLargeInner self.entry result) }
         ensures value { result.now ≡ large_inner_of self.old }

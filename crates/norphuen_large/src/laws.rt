@@ -1,5 +1,6 @@
-//! What the contracts of `Held` on long objects imply: each number keeps a handle, a malloc's handle is new, a stale
-//! handle is refused, and a read gives what was written. The functions do nothing; each contract is a law.
+//! What the contracts of `Held` on long objects imply: each number of an object keeps a handle, a malloc's handle is
+//! new, a stale handle is refused, and a read gives what was written. The low bits of a handle of C are an object's
+//! number, and the others a generation, which a free raises. The functions do nothing; each contract is a law.
 ghost use Rattle.std.specs.Prelude.{◌≡◌, ℕ, ℤ, List, length, pos};
 ghost use Rattle.cf_base.specs.Settings.{Profile};
 ghost use Rattle.c_base.specs.Handles.{none, number_in};
@@ -27,9 +28,10 @@ pub fn a_malloc_gives_a_new_handle()
         → IsNewLargeHandle old bytes after new }
 {}
 
-/// On long objects, a call with a stale handle, which is not the one that its number has, returns 4
-/// (`UNKNOWN`). A free or write then leaves the heap unchanged, a free also the handles; a read or
-/// a call for the length leaves the caller's buffer or number unchanged.
+/// On long objects, a call with a stale handle returns 4 (`UNKNOWN`). A handle is stale if the number
+/// in its low bits now has a handle of another generation. A free or write then leaves the heap
+/// unchanged, a free also the handles; a read or a call for the length leaves the caller's buffer or
+/// number unchanged.
 pub fn a_stale_handle_is_refused()
     ensures free { (old new : LargeHeldState) (handle : ℕ) (code : ℤ) → IsLargeFreeCall old handle code new → KeepsLargeHandles old
         → number_in old.handles handle ≡ none → (code ≡ pos 4) × (new.heap ≡ old.heap) × (new.handles ≡ old.handles) }

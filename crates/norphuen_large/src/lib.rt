@@ -3,7 +3,7 @@
 //! says when it fails. Each export that takes a heap, but `nph_large_close`, returns a code: 0
 //! (`DONE`) if the call is done, else the cause (`c_base`, file `codes`). Of these each but
 //! `nph_large_open` returns `CLOSED` and changes nothing while the heap is closed
-//! (`IsCallOnOpen`).
+//! (`IsCallOnOpen`). What the contracts imply is in `laws`.
 #![tactic(auto)]
 
 ghost use Rattle.std.specs.Prelude.{◌≡◌};

@@ -13,8 +13,8 @@ pub fn page_words(page_bytes: u32) -> u32
     (page_bytes / 8).max(64).min(16384)
 }
 
-/// For a step bound, the number of parts of an object of `bytes` bytes that doesn't fit a page of
-/// `words` words.
+/// For a step bound, the number of parts of an object of `bytes` bytes that, with its header, doesn't fit
+/// a page of `words` words. A page must have 64 to 16,384 words.
 pub fn parts(words: u32, bytes: u32) -> u32
     requires least { 64 ≤ words }
     requires most { words ≤ 16384 }
@@ -24,7 +24,7 @@ pub fn parts(words: u32, bytes: u32) -> u32
     bytes.div_ceil(8 * (words - 1))
 }
 
-/// For long objects, the most words of the slot of an object of `bytes` bytes in a page of `words` words.
+/// For long objects, the most words of the slot of an object of `bytes` bytes, fewer than 2 ^ 35, in a page of `words` words.
 pub fn slot_words(words: u32, bytes: u64) -> u64
     requires { bytes < 2 ^ 35 }
     ensures value { result ≡ slot_cap words bytes }

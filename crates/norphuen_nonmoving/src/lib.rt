@@ -359,7 +359,7 @@ pub extern "C" fn nph_nm_most_has_room() -> u64
     most::most_has_room(Kind::NonMoving)
 }
 
-/// Returns the most steps of `nph_nm_totals`; with pages it takes none, however many are free (`most_totals`).
+/// Returns 0, the most steps of `nph_nm_totals` with pages, whatever `free_count` is (`most_totals`).
 #[unsafe(no_mangle)]
 pub extern "C" fn nph_nm_most_totals(free_count: u32) -> u64
     ensures { IsMostTotals bounds free_count result }

@@ -1,5 +1,4 @@
--- For `Held::open` and `Held::moving`: a heap that is opened has no objects, uses all in the opening order, and has counted 0 steps (`IsFreshSlicedHeap`); the handle
--- of the object that moves.
+-- For `Held::open`: a heap that is opened has no objects, uses all in the opening order, and has counted 0 steps (`IsFreshSlicedHeap`).
 use Rattle.std.proofs.Common.{◌≡◌, refl}
 use Rattle.std.specs.Prelude.{ℕ, List}
 use Rattle.cf_base.specs.Settings.{profile_of}

@@ -1,4 +1,5 @@
--- In memory a `Held` is its fields, a `LooseHeld`, whose heap is valid and shows the state of the `Held` (`FitsSliced`). Who owns the one may own the other, at the same place.
+-- In memory a `Held` is its fields, a `LooseHeld`, whose heap is valid and shows the state of the `Held` (`FitsSliced`). Who owns the one may own the other, at
+-- the same place.
 use Rattle.std.proofs.Common.{◌≡◌, ℕ, List, [], ◌∷◌, refl, sym, ap, ◌∙◌, subst}
 use Rattle.std.specs.Prelude.{IsTrue}
 use seplogic.Ra.Ura.{Ura}

@@ -1,4 +1,4 @@
--- What a caller in C has for a sliced heap.
+-- What a caller in C has for a sliced heap (`CallerHeap` of `c_base`) once the heap is closed.
 use Rattle.c_base.specs.CallerHeap.{CallerHeap, closed_with}
 use Rattle.c_base.specs.Handles.{largest}
 use Rattle.norphuen_sliced.specs.HeldState.{SlicedHeldState}

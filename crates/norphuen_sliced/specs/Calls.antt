@@ -50,7 +50,8 @@ opened_with p quantum = record {
   order = first_order (paging_of (at_bound_one p) Words (first_bounds (at_bound_one p) Words)) p.proxies;
 }
 
--- a heap that was just opened with the settings p and this quantum; its count is 0, and its handles are larger than `last` or begin at 0 if too few are larger
+-- a heap that was just opened with the settings p and this quantum; its step count is 0, and its handles are larger than `last` or begin at 0 if too few
+-- are larger
 pub record IsFreshSlicedHeap (p : Profile) (quantum last : ℕ) (new : SlicedHeldState) : Type 0 where
   pub heap : new.heap ≡ opened_with p quantum
   pub rules : KeepsSlicedRules new.heap

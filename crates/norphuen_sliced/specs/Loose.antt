@@ -1,4 +1,5 @@
--- `LooseHeld`, the fields of an open sliced heap with its step count: its words, other words in their place, and when they are the fields of a `Held`, with which state.
+-- `LooseHeld`, the fields of a `Held`, which is an open sliced heap for C, without its invariant: the words of the region in them, the fields with other words
+-- in the region, when fields are those of a `Held` and of which state, and how the words of a `Held` are lent (`sliced_lending`).
 use Rattle.std.specs.Prelude.{ℕ, IsTrue, List, Option, Some, None, length}
 use Rattle.region.specs.Lending.{with_words}
 use Rattle.sliced_heap.specs.Shown.{IsValidSlicedIn, sliced_shown}
@@ -8,10 +9,11 @@ use Rattle.c_base.specs.Lending.{Lending}
 use Rattle.norphuen_sliced.specs.HeldState.{SlicedHeldState}
 use Rattle.norphuen_sliced.specs.declared.loose.LooseHeld.{LooseHeld}
 
--- the words of the region; none if the heap is closed
+-- the words of the region; no words if the heap is closed
 abbrev pub sliced_words_in : Option OpenHeap → List ℕ
 sliced_words_in o = (sliced_shown o).words
 
+-- the words of the region of the heap in the fields a; no words if the heap is closed
 abbrev pub sliced_loose_words : LooseHeld → List ℕ
 sliced_loose_words a = sliced_words_in a.heap.inner
 
@@ -19,10 +21,12 @@ sliced_loose_words a = sliced_words_in a.heap.inner
 abbrev pub sliced_region_all : OpenHeap → List ℕ → OpenHeap
 sliced_region_all h ws = record h { region = with_words h.region 0 (length h.region) ws }
 
+-- the heap, if there is one, with the words ws in its region
 abbrev pub sliced_inner_all : Option OpenHeap → List ℕ → Option OpenHeap
 sliced_inner_all None ws = None
 sliced_inner_all (Some h) ws = Some (sliced_region_all h ws)
 
+-- the fields a, with the words ws in the region of their heap
 abbrev pub sliced_held_all : LooseHeld → List ℕ → LooseHeld
 sliced_held_all a ws = record a { heap = record a.heap { inner = sliced_inner_all a.heap.inner ws } }
 

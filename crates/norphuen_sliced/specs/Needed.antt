@@ -11,11 +11,13 @@ use Rattle.c_base.specs.declared.results.NphNeeded.{NphNeeded}
 abbrev pub sliced_held_size : ℕ
 sliced_held_size = 944
 
--- the heap, the handles of `count` numbers, and the block of the open heap
+-- the memory for a heap with the settings p: for its region and tables, for the handles of `count` numbers, and for the
+-- block of the open heap
 abbrev pub sliced_held_bytes : Profile → ℕ → BytesNeeded
 sliced_held_bytes p count = both (sliced_bytes p) (both (one_block (4 * count)) (one_block sliced_held_size))
 
--- what opening a heap with the settings p asks for
+-- these numbers are the memory that opening a heap with the settings p asks for; its count of handles is the least
+-- power of two that is not below the proxies
 abbrev pub IsSlicedHeldBytes : Profile → BytesNeeded → Type 0
 IsSlicedHeldBytes p = IsOfHandles p.proxies (sliced_held_bytes p)
 

@@ -1,4 +1,6 @@
--- For `NphHeap` of `sliced.rt`, the struct that a caller in C has for its heap: the `LendableHeap` that it is in memory.
+-- For `NphHeap` of `sliced.rt`, the struct that a caller in C has for its heap, and for `LendableHeap`, which has the same
+-- fields in the same memory: each with the fields of the other, the heap in an `NphHeap`, and the borrow of an `NphHeap`
+-- as a `LendableHeap`.
 use Rattle.std.specs.Borrow.{Fml, Lends, MutBor}
 use Rattle.c_base.specs.CallerHeap.{CallerHeap}
 use Rattle.c_base.specs.Place as base
@@ -11,7 +13,7 @@ use Rattle.norphuen_sliced.specs.contracts.sliced.NphHeap.{the_row}
 use Rattle.norphuen_sliced.specs.declared.loose.LooseHeld.{LooseHeld}
 use Rattle.norphuen_sliced.specs.declared.sliced.NphHeap.{NphHeap}
 
--- the `LendableHeap` that the struct is
+-- the `LendableHeap` with the fields of the `NphHeap` n
 abbrev pub sliced_inner_of : NphHeap → LendableHeap SlicedHeldState LooseHeld
 sliced_inner_of n = record {
   place = record { at = n.place.at; held = n.place.held };
@@ -24,7 +26,7 @@ sliced_inner_of n = record {
   same = n.same;
 }
 
--- the struct that a `LendableHeap` is
+-- the `NphHeap` with the fields of the `LendableHeap` h
 abbrev pub sliced_outer_of : LendableHeap SlicedHeldState LooseHeld → NphHeap
 sliced_outer_of h = record {
   place = record { at = h.place.at; held = h.place.held };
@@ -37,10 +39,11 @@ sliced_outer_of h = record {
   same = h.same;
 }
 
--- the heap of the struct: closed, open or lent
+-- the heap in the `NphHeap` n: closed, open or lent
 abbrev pub sliced_heap_in : NphHeap → CallerHeap SlicedHeldState
 sliced_heap_in n = base.caller_heap (sliced_inner_of n)
 
--- s is the borrow of the struct, r that of the `LendableHeap` in the same memory: when r ends, the struct is what r leaves
+-- s is the borrow of an `NphHeap`, r that of the `LendableHeap` with its fields: when r ends, the `NphHeap` has the fields
+-- that r then has
 abbrev pub LendsSlicedInner : MutBor NphHeap → MutBor (LendableHeap SlicedHeldState LooseHeld) → Fml
 LendsSlicedInner s r = Lends the_row (heap_row open_sliced loose_sliced ghosts) s r sliced_outer_of

@@ -7,6 +7,6 @@ use Rattle.norphuen_sliced.specs.contracts.loose.LooseHeld as loose
 abbrev pub open_sliced : RattleType
 open_sliced = held.the_row
 
--- its fields, `LooseHeld`
+-- the fields of a `Held`, `LooseHeld`
 abbrev pub loose_sliced : RattleType
 loose_sliced = loose.the_row

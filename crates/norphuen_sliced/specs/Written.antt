@@ -8,7 +8,7 @@ use Rattle.slice_model.specs.State.{Idle}
 use Rattle.sliced_heap.specs.Shown.{SlicedState}
 
 -- The state s, in which no job is pending, becomes t when these bytes, one at least, are written into the live object q from its byte `from` on: its other bytes
--- stay, and so do all other words. The bytes of an object begin one word behind its address.
+-- stay, and so do all other words. The bytes of an object begin one word after its address, behind the header.
 pub record IsSlicedWritten (s t : SlicedState) (q from : ℕ) (bytes : List ℕ) : Type 0 where
   pub idle : s.job ≡ Idle
   pub object : Placed

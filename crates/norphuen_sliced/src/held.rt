@@ -1,5 +1,5 @@
-//! `Held`: an open sliced heap with the step count of its last call and the handles that C has, for a C library. Each
-//! call from C returns a code, and writes its other results through references.
+//! `Held`: an open sliced heap with the steps of its last call that counts any and the handles that C has, for a C
+//! library. Each call from C returns a code, and writes its other results through references.
 ghost use Rattle.std.specs.Prelude.{◌≡◌, ◌≤◌, IfSome, is_some};
 ghost use Rattle.cf_base.specs.Settings.{profile_of};
 ghost use Rattle.slice_model.specs.State.{job_slot};
@@ -17,9 +17,10 @@ use std::rt::Memory;
 use step_ledger::Meter;
 
 /// An open sliced heap, the steps of its last call that counts any, and C's handle of each object's
-/// number. A call on a stale handle is a call on the number `NONE`, which is never live. `left`,
-/// `moving`, `figures`, `totals` and `last_steps` count no steps, and leave `steps` unchanged; each
-/// other call for C sets it.
+/// number. A handle is stale if the number in its low bits has another one now; a call on it is a
+/// call on the number `NONE`, which is never live. `left`, `moving`, `figures`, `totals`,
+/// `last_steps`, `has_job` and `last_handle` count no steps, and leave `steps` unchanged; each other
+/// call sets it.
 #[derive(Drop)]
 pub struct Held {
     heap: SlicedHeap,
@@ -45,9 +46,9 @@ impl Held {
     ghost use Rattle.c_base.specs.Handles.{largest};
     ghost use Rattle.norphuen_sliced.specs.Calls.{IsFreshSlicedHeap, IsLeftCall, IsMovingCall, IsSlicedClassCall, IsSlicedFiguresCall, IsSlicedFreeCall, IsSlicedLengthCall, IsSlicedMallocCall, IsSlicedPlaceCall, IsSlicedReadCall, IsSlicedRoomCall, IsSlicedSlotWordsCall, IsSlicedStepsCall, IsSlicedTotalsCall, IsSlicedWriteCall, IsStepCall};
 
-    /// For C, opens a sliced heap without objects, with slices of at most `quantum` words, in a
-    /// memory block of its own; the bound k of `s` is not used. Its handles are larger than `last`,
-    /// or from 0 on if too few are larger. Returns `None` if out of memory.
+    /// For C, opens a sliced heap without objects, with slices of at most `quantum` words (1 to
+    /// 16,384), in a memory block of its own; the bound k of `s` is not used. Its handles are
+    /// larger than `last`, or from 0 on if too few are larger. Returns `None` if out of memory.
     pub fn open(memory: Memory, s: &Settings, quantum: u32, last: u32) -> Option<Box<Held>>
         requires least { 1 ≤ quantum }
         requires most { quantum ≤ 16384 }
@@ -67,7 +68,8 @@ impl Held {
     }
 
     /// For C, makes an object of `bytes` zeros in the sliced heap and writes its handle into `handle`. Returns `DONE`,
-    /// or the code of the refusal: `SIZE`, `PROXY`, `SPACE` or `BUSY`. After a refusal `handle` is unchanged.
+    /// or the code of the refusal (`SliceRefusal`): `SIZE`, `PROXY`, `SPACE` or `BUSY`, and then `handle` and the
+    /// objects are unchanged.
     pub fn malloc(&mut self, bytes: u32, handle: &mut u32) -> i32
         ensures { IsSlicedMallocCall self.old bytes handle.old result handle.new self.new }
     {
@@ -85,7 +87,7 @@ impl Held {
 
     /// For C, frees an object, whose handle is stale then, and does the first slice of the job that
     /// this leaves. Returns `DONE`; else, with no object changed, `UNKNOWN` if the handle isn't
-    /// live, or `BUSY` if a job is pending.
+    /// live, or `BUSY` if it is live and a job is pending.
     pub fn free(&mut self, handle: u32) -> i32
         ensures { IsSlicedFreeCall self.old handle result self.new }
     {
@@ -131,7 +133,8 @@ impl Held {
     }
 
     /// For C, writes the bytes into an object, from its byte `at` on, also while a job moves it. Returns `DONE`;
-    /// `UNKNOWN` if the handle isn't live, or `RANGE` if the bytes pass the object's end, and then no object changes.
+    /// `UNKNOWN` if the handle isn't live, or `RANGE` if `at` plus their number exceeds the object's length, and then
+    /// no object changes.
     pub fn write(&mut self, handle: u32, at: u32, bytes: &[u8]) -> i32
         ensures { IsSlicedWriteCall self.old handle at bytes.now result self.new }
     {
@@ -146,7 +149,8 @@ impl Held {
     }
 
     /// For C, fills `out` with the bytes of an object from its byte `at` on, also while a job moves it. Returns `DONE`;
-    /// `UNKNOWN` if the handle isn't live, or `RANGE` if the bytes pass the object's end, and then `out` is unchanged.
+    /// `UNKNOWN` if the handle isn't live, or `RANGE` if `at` plus their number exceeds the object's length, and then
+    /// `out` is unchanged.
     pub fn read(&mut self, handle: u32, at: u32, out: &mut [u8]) -> i32
         ensures { IsSlicedReadCall self.old handle at out.old result out.new self.new }
     {

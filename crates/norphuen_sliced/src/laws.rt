@@ -1,5 +1,5 @@
 //! What the contracts of a sliced heap's `Held` imply together, of the handles that C has and of the bytes that it
-//! reads. The functions do nothing; each contract is a law.
+//! reads. The functions do nothing; each contract is a law, for states with `KeepsSlicedHandles`.
 ghost use Rattle.std.specs.Prelude.{◌≡◌, ◌+◌, ◌<◌, ◌≤◌, ℕ, ℤ, List, Some, length, pos, slice_index};
 ghost use Rattle.std.specs.FinMap.{get};
 ghost use Rattle.cf_base.specs.Settings.{Profile};
@@ -30,10 +30,11 @@ pub fn a_malloc_gives_a_new_handle()
         → IsNewSlicedHandle old after new }
 {}
 
-/// On a sliced heap, also while a job is pending, a call with a stale handle, which is not the one
-/// that its number has, returns 4 (`UNKNOWN`). A free or write then leaves the objects, the job and
-/// the words unchanged, a free also the handles; the other calls leave the caller's number or
-/// buffer unchanged.
+/// On a sliced heap, also while a job is pending, a call with a stale handle returns 4 (`UNKNOWN`).
+/// The low bits of a handle are the number of an object; the handle is stale if `handles` has
+/// another one for that number now, so that `number_in` returns `none`. A free or write then leaves
+/// the objects, the job and the words unchanged, a free also the handles; the other calls leave the
+/// caller's number or buffer unchanged.
 pub fn a_stale_handle_is_refused()
     ensures free { (old new : SlicedHeldState) (handle : ℕ) (code : ℤ) → IsSlicedFreeCall old handle code new → KeepsSlicedHandles old
         → number_in old.handles handle ≡ none → (code ≡ pos 4) × (working_in new.heap ≡ working_in old.heap) × (new.handles ≡ old.handles) }

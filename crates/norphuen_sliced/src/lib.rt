@@ -352,8 +352,8 @@ pub extern "C" fn nph_sliced_version() -> u32
     VERSION
 }
 
-/// Returns the most steps of a malloc. This call and those below take no heap. Each returns the step
-/// bound in the contract of the call that it is for.
+/// Returns the most steps of a malloc. This call and those below take no heap. Each returns the most
+/// steps that the contract of its call allows.
 #[unsafe(no_mangle)]
 pub extern "C" fn nph_sliced_most_malloc() -> u64
     ensures { result ≡ most_malloc }

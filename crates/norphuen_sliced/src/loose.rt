@@ -30,7 +30,8 @@ pub struct LooseHeld {
     pub(crate) handles: Handles,
 }
 
-/// For a loan, borrows all words of the sliced heap's region.
+/// For a loan, borrows all words of the sliced heap's region. When the borrow ends, the region has the words as they
+/// then are.
 fn all_of(heap: &mut OpenHeap, memory: Memory) -> &mut [u64]
     ensures* writes_back { sem 𝓛 (LendsSlicedOf heap.entry result) }
     ensures value { result.now ≡ heap.old.region }
@@ -40,7 +41,7 @@ fn all_of(heap: &mut OpenHeap, memory: Memory) -> &mut [u64]
     heap.region.payload_mut(0, n, meter.steps())
 }
 
-/// For a loan, borrows all words of the region of a sliced heap that is open.
+/// For a loan, borrows all words of the region of a sliced heap that is open, as `all_of` does.
 fn all_in(inner: &mut Option<OpenHeap>, memory: Memory) -> &mut [u64]
     requires open { IsSome inner.old }
     ensures* writes_back { sem 𝓛 (LendsSlicedIn inner.entry result) }
@@ -52,8 +53,8 @@ fn all_in(inner: &mut Option<OpenHeap>, memory: Memory) -> &mut [u64]
     }
 }
 
-/// Borrows all words of the region of a held sliced heap that is open. When the borrow ends, the region has the words
-/// as they then are.
+/// Borrows all words of the region of the sliced heap in the fields `held`, which must be open. When the borrow ends,
+/// the region has the words as they then are.
 fn all_words(held: &mut LooseHeld) -> &mut [u64]
     requires open { IsSome held.old.heap.inner }
     ensures* writes_back { sem 𝓛 (LendsSlicedWords held.entry result) }

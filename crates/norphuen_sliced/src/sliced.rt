@@ -66,7 +66,8 @@ pub struct NphHeap {
 impl NphHeap {
     ghost use Rattle.norphuen_sliced.specs.Place.{LendsSlicedInner, sliced_inner_of};
 
-    /// Borrows the `LendableHeap` that this sliced heap is in memory.
+    /// Borrows this `NphHeap` as a `LendableHeap`, which has the same fields in the same memory. When
+    /// the borrow ends, the `NphHeap` has the fields that the `LendableHeap` then has.
     pub fn inner(&mut self) -> &mut LendableHeap<Held, LooseHeld>
         ensures* writes_back { sem 𝓛 (LendsSlicedInner self.entry result) }
         ensures value { result.now ≡ sliced_inner_of self.old }

@@ -1,4 +1,6 @@
--- For `admit` and `least_quota`: what is said of the settings that the heap returns is said of the profile that contracts show.
+-- For `least_quota`: what is said of the settings that the heap returns, of an admission or of the first need that is too large, is said of the profile that
+-- contracts show; and if none is too large and the needs can't be asked, they are more objects than a task has proxies. Also: if the test whether there is a
+-- value fails, there is none.
 use Rattle.std.proofs.Common.{◌≡◌, ℕ, ◌<◌, List, None, refl, sym, ◌∙◌, subst, inl, inr}
 use Rattle.std.specs.Prelude.{◌≤◌, Bool, IsSome, Option, Some, false, is_some, length}
 use Rattle.std.proofs.lemmas.Bool.{cases_lt, false≢true}

@@ -9,7 +9,7 @@ use Rattle.norphuen_tasks.specs.Handles.{largest_of}
 use Rattle.norphuen_tasks.specs.Needed.{IsTasksHeldBytes}
 use Rattle.norphuen_tasks.specs.TasksState.{TasksState}
 
--- how a heap is opened, what it needs, and its largest handle
+-- how a heap of tasks is opened, with any bound k; what memory it needs; and its largest handle
 abbrev pub tasks_opening : Opening TasksState
 tasks_opening = record { takes = λ _. ⊤; is_fresh = IsFreshTasksHeap; needs = IsTasksHeldBytes; last = λ h. largest_of h.handles }
 

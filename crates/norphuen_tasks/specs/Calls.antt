@@ -1,5 +1,6 @@
--- For `HeldTasks`: what each call of a C library does to an open heap of tasks with its step count (`old`, `new`) and to the caller's number, structure or buffer
--- (`before`, `after`), and the `code` that it returns. `answer` is the result of the heap's own call, whose steps, counted from 0, are `new.steps`.
+-- For `HeldTasks`: the heap just opened, and what each call of the C library does to an open heap of tasks with its step count and handles (`old`, `new`) and
+-- to the caller's number, structure or buffer (`before`, `after`), and the `code` that it returns. `answer` is the result of the heap's own call or the
+-- admission test. If a call has a field `exact`, `new.steps` are its steps, counted from 0; every other call leaves the step count as it was.
 use Rattle.std.specs.Prelude.{◌≡◌, ℕ, ◌+◌, ◌<◌, ◌≤◌, ◌⊎◌, ℤ, pos, List, None, Result, IsSome, length, sum}
 use Rattle.std.specs.FinMap.{len}
 use Rattle.cf_base.specs.Settings.{Profile}
@@ -29,12 +30,13 @@ use Rattle.norphuen_tasks.specs.Handles.{AreFirstOfTasks, handles_by, raised_of}
 use Rattle.norphuen_tasks.specs.TasksState.{TasksState}
 use Rattle.norphuen_tasks.specs.declared.results.NphTask.{NphTask}
 
--- a call that names a task does `step`; if there is no such task, the code is 4 (`UNKNOWN`), nothing changes, and `kept` holds: that the caller's values are
--- unchanged
+-- a call that names a task does `step`; if there is no such task (its number is above 15), the code is 4 (`UNKNOWN`), nothing changes, and `kept` holds:
+-- that the caller's values are unchanged
 abbrev pub IsCallOfTask : ℕ → TasksState → ℤ → TasksState → Type 0 → Type 0 → Type 0
 IsCallOfTask task old code new kept step = ((task < 16) × step) ⊎ ((16 ≤ task) × (code ≡ pos 4) × (new ≡ old) × kept)
 
--- `new` is a heap that was just opened with the settings p: no task has an object, all quotas are 0, its count is 0, and its handles are larger than `last` or begin at 0 if too few are larger
+-- `new` is a heap that was just opened with the settings p: no task has an object, all quotas are 0, its step count is 0, and its handles are larger than
+-- `last` or begin at 0 if too few are larger
 pub record IsFreshTasksHeap (p : Profile) (last : ℕ) (new : TasksState) : Type 0 where
   pub whole : new.heap ≡ empty_state p
   pub rules : KeepsTasks new.heap
@@ -61,7 +63,7 @@ pub record IsTasksMallocCall (old : TasksState) (task bytes before : ℕ) (code 
   pub bound : RoseAtMost 0 new.steps most_of_malloc
   pub same : new.handles ≡ old.handles
 
--- a free of the object of a task that `handle` names, which is given up if the free succeeds
+-- a free of the object of a task that `handle` names; the handle is given up if the free succeeds
 pub record IsTasksFreeCall (old : TasksState) (task handle : ℕ) (before : NphFreed) (code : ℤ) (after : NphFreed) (new : TasksState) : Type 0 where
   pub answer : Result Freed NotLive
   pub by_code : code ≡ free_code answer
@@ -120,11 +122,11 @@ pub record IsUnassignedCall (old : TasksState) (code : ℤ) (after : ℕ) (new :
   pub by_pages : after + sum old.heap.quotas ≡ old.heap.profile.pages
   pub kept : new ≡ old
 
--- a task with this quota
+-- the share of a task with this quota: the settings of the heap s, and the quota
 abbrev pub share_with : QuotaState → ℕ → Share
 share_with s quota = record { profile = s.profile; quota = quota }
 
--- an admission of at most 64 needs
+-- a call that asks whether the quota of a task is enough for these needs, at most 64: its code is that of the right result of the admission test
 pub record IsAdmitted (s : QuotaState) (task : ℕ) (needs : List Need) (code : ℤ) : Type 0 where
   pub answer : Admission
   pub by_code : code ≡ admission_code answer
@@ -135,14 +137,14 @@ pub record IsAdmitted (s : QuotaState) (task : ℕ) (needs : List Need) (code : 
 abbrev pub IsAdmitCall : TasksState → ℕ → List Need → ℤ → TasksState → Type 0
 IsAdmitCall old task needs code new = (IsAdmitted old.heap task needs code ⊎ ((64 < length needs) × (code ≡ pos 17))) × (new ≡ old)
 
--- this is the least quota that is enough for these needs, which are at most 64
+-- `quota` is the least quota that is enough for these needs, which are at most 64
 pub record IsLeastQuota (s : QuotaState) (needs : List Need) (quota : ℕ) : Type 0 where
   pub few : length needs ≤ 64
   pub enough : IsAdmission (share_with s quota) needs Yes
   pub least : (less : ℕ) → less < quota → ¬ IsEnough (share_with s less) needs
 
--- the first cause why there is no least quota: 17 (`ENTRIES`), there are more than 64 needs; 1 (`SIZE`), an object is larger than a page; 14 (`PROXIES`), there
--- are more objects than a task has proxies
+-- the first cause why there is no least quota: 17 (`ENTRIES`), there are more than 64 needs; 1 (`SIZE`), the length of a need, even of count 0, doesn't fit a
+-- page with a header; 14 (`PROXIES`), there are more objects than a task has proxies
 abbrev pub IsNoQuota : QuotaState → List Need → ℤ → Type 0
 IsNoQuota s needs code =
     ((64 < length needs) × (code ≡ pos 17)) ⊎ ((length needs ≤ 64) × IsSome (first_large s.profile needs) × (code ≡ pos 1))

@@ -11,7 +11,8 @@ quota_code (Ok u) = pos 0
 quota_code (Err Sum) = pos 11
 quota_code (Err Used) = pos 3
 
--- the code of an answer of `admit` of `quota_model`: 0 only if the quota is enough
+-- the code of a result of `admit` of `quota_model`: 0 if the quota is enough; 1 (`SIZE`) if the length of a need, even of count 0,
+-- doesn't fit a page with a header; 14 (`PROXIES`) if more objects are declared than a task has proxies; else 3 (`SPACE`)
 abbrev pub admission_code : Admission → ℤ
 admission_code Yes = pos 0
 admission_code (No nth) = pos 3

@@ -1,4 +1,4 @@
--- The handles that C has of the objects of sixteen tasks: a list for each task, as `c_base` has it for one heap.
+-- The handles that C has of the objects of sixteen tasks: a list for each task, as `c_base` has it for one heap; and their memory.
 use Rattle.std.specs.Prelude.{◌≡◌, ℕ, ◌*◌, List, [], Result, Ok, Err, length, max, slice_index_or, slice_set}
 use Rattle.std.specs.List.{All, fold}
 use Rattle.cf_base.specs.Needed.{both, one_block, times}
@@ -17,7 +17,8 @@ pub record AreFirstOfTasks (proxies last : ℕ) (handles : List (List ℕ)) : Ty
   pub many : length handles ≡ 16
   pub each : All (AreFirstHandles proxies last) handles
 
--- the handles after a free with this result of what `handle` names in a task: only a free that succeeds raises one
+-- the handles after a free with this result of what `handle` names in a task: if it succeeds, the number's handle becomes that of the next generation; all
+-- others stay
 abbrev pub raised_of : List (List ℕ) → ℕ → ℕ → Result Freed NotLive → List (List ℕ)
 raised_of handles task handle (Ok f) = slice_set handles task (raised_by {E = NotLive} (handles_by handles task) handle (Ok f))
 raised_of handles task handle (Err e) = handles

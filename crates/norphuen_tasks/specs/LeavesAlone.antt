@@ -1,4 +1,4 @@
--- What a call of one task leaves of another.
+-- What a call of one task leaves as it was: the settings, and all that another task has.
 use Rattle.std.specs.Prelude.{◌≡◌, ℕ}
 use Rattle.quota_heap.specs.State.{held_by, quota_of}
 use Rattle.norphuen_tasks.specs.Handles.{handles_by}

@@ -1,4 +1,5 @@
--- The memory that opening a heap of tasks asks for, as a caller in C gets it.
+-- The memory that `nph_tasks_open` asks for, as `nph_tasks_bytes_needed` writes it for a caller in C: its bytes, its
+-- blocks, and the bytes of the largest block.
 use Rattle.std.specs.Prelude.{ℕ, ℤ}
 use Rattle.cf_base.specs.Needed.{both, one_block}
 use Rattle.cf_base.specs.Settings.{Profile, profile_from, setting_fault}
@@ -8,11 +9,13 @@ use Rattle.c_base.specs.declared.results.NphNeeded.{NphNeeded}
 use Rattle.quota_heap.specs.Needed.{quota_bytes}
 use Rattle.norphuen_tasks.specs.Handles.{handles_bytes}
 
--- the heap, the handles of `count` numbers for each task, and the block of the open heap
+-- the memory for a heap with the settings p: for its region and tables, for the handles of `count` numbers for each
+-- task, and for the block of the open heap (`HeldTasks`)
 abbrev pub tasks_held_bytes : Profile → ℕ → BytesNeeded
 tasks_held_bytes p count = both (quota_bytes p) (both (handles_bytes count) (one_block 248))
 
--- what opening a heap with the settings p asks for
+-- these numbers are the memory that opening a heap with the settings p asks for; a task's count of handles is the
+-- least power of two that is not below the proxies
 abbrev pub IsTasksHeldBytes : Profile → BytesNeeded → Type 0
 IsTasksHeldBytes p = IsOfHandles p.proxies (tasks_held_bytes p)
 

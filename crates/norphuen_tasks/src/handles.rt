@@ -38,8 +38,8 @@ impl Model for TaskHandles {
 }
 
 impl TaskHandles {
-    /// Makes the handles of a heap that was just opened, in which each task has this many proxies: larger
-    /// than `last`, or from 0 on if too few are larger. Returns `None` if out of memory.
+    /// Makes the handles of a heap that was just opened, in which each task has this many proxies (1 to
+    /// 65,536): larger than `last`, or from 0 on if too few are larger. Returns `None` if out of memory.
     pub(crate) fn new(alloc: Global, proxies: u32, last: u32) -> Option<TaskHandles>
         requires some { 1 ≤ proxies }
         requires few { proxies ≤ 65536 }
@@ -52,7 +52,8 @@ impl TaskHandles {
         Some(TaskHandles { of })
     }
 
-    /// The memory that the handles of all tasks ask for, with this many proxies for each task.
+    /// The memory that the handles of all tasks ask for, with this many proxies (1 to 65,536) for each
+    /// task: 17 blocks.
     pub(crate) fn bytes_needed(proxies: u32) -> BytesNeeded
         requires some { 1 ≤ proxies }
         requires few { proxies ≤ 65536 }
@@ -65,7 +66,7 @@ impl TaskHandles {
         ).times(TASKS))
     }
 
-    /// C's handles of a task.
+    /// C's handles of task `task`, 0 to 15.
     pub(crate) fn of_task(&self, task: u32) -> &Handles
         requires { task < 16 }
         ensures { result.now ≡ handles_by self.now task }
@@ -73,8 +74,8 @@ impl TaskHandles {
         &self.of[task as usize]
     }
 
-    /// Replaces a task's handle by that of the next generation, for the same number. To be called
-    /// after a free of the object that `handle` named.
+    /// In task `task`, 0 to 15, replaces the handle of the number in `handle` by that of the next
+    /// generation. To be called after a free of the object that `handle` named.
     #[tactic(auto, using(crate::proofs::Tables::read_is))]
     pub(crate) fn raise(&mut self, task: u32, handle: u32)
         requires { task < 16 }

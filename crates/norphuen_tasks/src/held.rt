@@ -1,6 +1,6 @@
-//! `HeldTasks`: an open heap of sixteen tasks with the step count of its last call and the handles
-//! that C has, for a C library. Each call from C returns a code, and writes its other results through
-//! references. A call for a task above 15 returns `UNKNOWN` and changes nothing.
+//! `HeldTasks`: an open heap of sixteen tasks with the steps of its last call that counts any and the
+//! handles that C has, for a C library. Each call from C returns a code, and writes its other results
+//! through references. A call for a task above 15 returns `UNKNOWN` and changes nothing.
 ghost use Rattle.std.specs.Prelude.{◌≡◌, Err};
 ghost use Rattle.norphuen_tasks.specs.Calls.{IsAdmitCall, IsCallOfTask, IsLeastCall, IsQuotaCall, IsStepsCall, IsTaskCall, IsTasksFiguresCall, IsTasksFreeCall, IsTasksLengthCall, IsTasksMallocCall, IsTasksReadCall, IsTasksWriteCall, IsUnassignedCall};
 ghost use Rattle.norphuen_tasks.specs.Codes.{admission_code, quota_code};
@@ -31,9 +31,10 @@ const _: () = prove!(size_of::<HeldTasks>() == 248);
 const MOST_NEEDS: usize = 64;
 
 /// An open heap of sixteen tasks, the steps of its last call that counts any, and for each task C's
-/// handle of each object's number. A call on a stale handle is a call on the number `NONE`, which
-/// is never live. `malloc` and the calls that take a handle count steps, each on a ledger of its
-/// own that it makes from `memory`; the others leave `steps` unchanged.
+/// handle of each object's number. A handle is stale if the number in its low bits has another one
+/// in the task now; a call on it is a call on the number `NONE`, which is never live. `malloc` and
+/// the calls that take a handle count steps, each on a ledger of its own that it makes from
+/// `memory`; the others leave `steps` unchanged.
 #[derive(Drop)]
 pub struct HeldTasks {
     heap: QuotaHeap,
@@ -87,9 +88,9 @@ impl Openable for HeldTasks {
 }
 
 impl HeldTasks {
-    /// For C, sets the quota of a task to `pages` pages. Returns `DONE`; `PAGES` if the quotas of all tasks would sum
-    /// to more pages than the region has, or `SPACE` if the task uses more than `pages` pages, and then nothing
-    /// changes.
+    /// For C, sets the quota of a task to `pages` pages. Returns `DONE`; else, with nothing changed, `PAGES` if the
+    /// quotas of all tasks would sum to more pages than the region has, or else `SPACE` if the task uses more than
+    /// `pages` pages.
     pub fn set_quota(&mut self, task: u32, pages: u32) -> i32
         ensures { IsCallOfTask task self.old result self.new (Unit {0}) (IsQuotaCall self.old task pages result self.new) }
     {
@@ -103,7 +104,8 @@ impl HeldTasks {
     }
 
     /// For C, makes an object of `bytes` zeros for a task and writes its handle into `handle`. Returns `DONE`, or the
-    /// code of the refusal: `SIZE`, `PROXY` or `SPACE`. After a refusal `handle` is unchanged.
+    /// code of the refusal (`QuotaHeap::malloc`): `SIZE`, `PROXY` or `SPACE`, and then `handle` and the objects are
+    /// unchanged.
     pub fn malloc(&mut self, task: u32, bytes: u32, handle: &mut u32) -> i32
         ensures { IsCallOfTask task self.old result self.new (handle.new ≡ handle.old) (IsTasksMallocCall self.old task bytes handle.old result handle.new self.new) }
     {
@@ -149,7 +151,8 @@ impl HeldTasks {
     }
 
     /// For C, writes the bytes into an object of a task, from its byte `at` on. Returns `DONE`; `UNKNOWN` if the handle
-    /// isn't live in this task, or `RANGE` if the bytes pass the object's end, and then no object changes.
+    /// isn't live in this task, or `RANGE` if `at` plus their number exceeds the object's length, and then no object
+    /// changes.
     pub fn write(&mut self, task: u32, handle: u32, at: u32, bytes: &[u8]) -> i32
         ensures { IsCallOfTask task self.old result self.new (Unit {0}) (IsTasksWriteCall self.old task handle at bytes.now result self.new) }
     {
@@ -169,7 +172,8 @@ impl HeldTasks {
     }
 
     /// For C, fills `out` with the bytes of an object of a task from its byte `at` on. Returns `DONE`; `UNKNOWN` if the
-    /// handle isn't live in this task, or `RANGE` if the bytes pass the object's end, and then `out` is unchanged.
+    /// handle isn't live in this task, or `RANGE` if `at` plus their number exceeds the object's length, and then `out`
+    /// is unchanged.
     pub fn read(&mut self, task: u32, handle: u32, at: u32, out: &mut [u8]) -> i32
         ensures { IsCallOfTask task self.old result self.new (out.new ≡ out.old) (IsTasksReadCall self.old task handle at out.old result out.new self.new) }
     {
@@ -251,9 +255,9 @@ impl HeldTasks {
 
     /// For C, tests whether the quota of a task is enough for its `needs`, if it begins without
     /// objects (`admit` of `quota_model`). Returns `DONE` if so: then no malloc within the needs is
-    /// refused for space. Else returns `ENTRIES` if there are more than 64 needs, `SIZE` if an
-    /// object is larger than a page, `PROXIES` if the needs declare more objects than the task has
-    /// proxies, or `SPACE`.
+    /// refused for space. Else returns the code of the first cause that holds: `ENTRIES` if there are
+    /// more than 64 needs, `SIZE` if the length of a need, even of count 0, doesn't fit a page with an
+    /// 8-byte header, `PROXIES` if the needs declare more objects than the task has proxies, or `SPACE`.
     pub fn admit(&mut self, task: u32, needs: &[Need]) -> i32
         ensures { IsCallOfTask task self.old result self.new (Unit {0}) (IsAdmitCall self.old task needs.now result self.new) }
     {
@@ -268,9 +272,10 @@ impl HeldTasks {
     }
 
     /// `HeldTasks`: writes into `pages` the least quota for a task with these `needs`: the least
-    /// with which `admit` returns `DONE`. Returns `DONE`; else, with `pages` unchanged, `ENTRIES` if
-    /// there are more than 64 needs, `SIZE` if an object is larger than a page, or `PROXIES` if the
-    /// needs declare more objects than a task has proxies.
+    /// with which `admit` returns `DONE`. Returns `DONE`; else, with `pages` unchanged, the code of the
+    /// first cause that holds: `ENTRIES` if there are more than 64 needs, `SIZE` if the length of a
+    /// need, even of count 0, doesn't fit a page with an 8-byte header, or `PROXIES` if the needs
+    /// declare more objects than a task has proxies.
     pub fn least_quota(&mut self, needs: &[Need], pages: &mut u32) -> i32
         ensures { IsLeastCall self.old needs.now result pages.old pages.new self.new }
     {

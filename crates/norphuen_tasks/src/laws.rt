@@ -11,8 +11,9 @@ ghost use Rattle.norphuen_tasks.specs.Handles.{handles_by};
 ghost use Rattle.norphuen_tasks.specs.LeavesAlone.{LeavesTaskAlone};
 ghost use Rattle.norphuen_tasks.specs.TasksState.{TasksState};
 
-/// A new quota, a malloc, a free or a write of `task` leaves unchanged the settings and, of another
-/// task `u`, the objects with their addresses and bytes, the quota and the handles.
+/// On a heap that keeps its rules (`KeepsTasks`), a new quota, a malloc, a free or a write of
+/// `task` leaves unchanged the settings and, of another task `u`, the objects with their addresses
+/// and bytes, the quota and the handles.
 pub fn a_call_leaves_the_other_tasks_alone()
     ensures quota { (old new : TasksState) (task pages u : ℕ) (code : ℤ) → KeepsTasks old.heap → u ≢ task
         → IsQuotaCall old task pages code new → LeavesTaskAlone u old new }
@@ -32,9 +33,11 @@ pub fn an_admitted_task_has_enough_pages()
         → IsEnough (share_with old.heap (quota_of old.heap task)) needs }
 {}
 
-/// A call with a stale handle, which is not the one that its number has in the task, returns 4
-/// (`UNKNOWN`). A free or write then leaves the heap unchanged, a free also the handles; a free,
-/// read or call for the length leaves the caller's structure, buffer or number unchanged.
+/// A free, write, read, or call for the length with a stale handle returns 4 (`UNKNOWN`). The low
+/// bits of a handle are the number of an object; the handle is stale if the task has another one
+/// for that number now, so that `number_in` returns `none`. A free or write then leaves the heap
+/// unchanged, a free also the handles; a free, read or call for the length leaves the caller's
+/// structure, buffer or number unchanged.
 pub fn a_stale_handle_is_refused()
     ensures free { (old new : TasksState) (task handle : ℕ) (before after : NphFreed) (code : ℤ) → IsTasksFreeCall old task handle before code after new
         → number_in (handles_by old.handles task) handle ≡ none → (code ≡ pos 4) × (after ≡ before) × (new.heap ≡ old.heap) × (new.handles ≡ old.handles) }

@@ -41,7 +41,8 @@ pub struct NphHeap {
 impl NphHeap {
     ghost use Rattle.norphuen_tasks.specs.Place.{LendsTasksInner, tasks_inner_of};
 
-    /// Borrows the `ClosableHeap` that this heap of tasks is in memory.
+    /// Borrows this `NphHeap` as a `ClosableHeap`, which has the same fields in the same memory. When the borrow
+    /// ends, the `NphHeap` has the fields that the `ClosableHeap` then has.
     pub fn inner(&mut self) -> &mut ClosableHeap<HeldTasks>
         ensures* writes_back { sem 𝓛 (LendsTasksInner self.entry result) }
         ensures value { result.now ≡ tasks_inner_of self.old }

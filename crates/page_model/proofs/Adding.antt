@@ -1,5 +1,5 @@
--- For the laws of `figures.rt`: how adding, removing or rewriting an object changes the live objects of its class, the bytes asked and the bytes taken. Used
--- and free pages add up to all pages.
+-- For the laws of `figures.rt`: how adding, removing or rewriting an object changes the live objects of each class, the bytes asked and the bytes taken.
+-- `objects` has one entry for each object. Used and free pages add up to all pages. A class has at most all objects, and at most all pages.
 use Rattle.std.proofs.Common.{◌≡◌, ℕ, ◌+◌, ◌*◌, ◌≤◌, List, Some, None, length, arith, ap}
 use Rattle.std.specs.Prelude.{nat_eq}
 use Rattle.std.specs.FinMap.{get, insert, remove, len}

@@ -1,4 +1,4 @@
--- For the law `slots_have_addresses`: the page and the number of a slot determine its address, and each slot's address determines them.
+-- The page and the number of a slot determine its address, and each slot's address determines them (law `slots_have_addresses`).
 use Rattle.std.proofs.Common.{◌≡◌, ℕ, ◌+◌, ◌*◌, ◌/◌, ◌%◌, ◌<◌, ◌≤◌, arith, ap}
 use Rattle.std.proofs.lemmas.Nat.{div-add-mod', mul-le}
 use Rattle.std.proofs.Math.Nat.{mul-mod_left}

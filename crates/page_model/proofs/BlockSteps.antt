@@ -1,5 +1,5 @@
--- For the laws of `blocks.rt`: after a free or a resize the block table is still a permutation. The other objects keep their physical blocks, and so does an
--- object resized within its class.
+-- For the laws of `blocks.rt`: after a free or a resize the block table is still a permutation, and `AreFramed` still holds. The other objects keep their
+-- physical blocks, and so does an object resized within its class.
 use Rattle.std.proofs.Common.{◌≡◌, ◌≢◌, ℕ, ◌*◌, ◌/◌, ◌<◌, List, Some, length, ◌∙◌, inl, inr, ap, refl}
 use Rattle.std.specs.FinMap.{get}
 use Rattle.cf_base.proofs.Maps.{get_inserted, get_insert_other}

@@ -1,5 +1,5 @@
--- Lemmas that other crates' proofs may cite, re-exported: on sound arrangements, counts of objects and pages, images, bytes, blocks and orders, and on what a
--- malloc, a free and a resize do to each.
+-- What other crates' proofs may cite, re-exported: on classes, addresses of slots, sound arrangements, partly full pages, counts and sums, pages in use and
+-- needed, figures, images, bytes, blocks, orders and bounds on steps, and on what a malloc, a free and a resize do to each.
 pub use Rattle.page_model.proofs.Counting.{one_le, less_counts, not_less_counts_none, part_full, part_empty, part_over, part_yes, on_yes}
 pub use Rattle.page_model.proofs.Counting.{counted_here, on_page, standing, nothing_on, not_full-same}
 pub use Rattle.page_model.proofs.Placing.{objects_on-inserted, objects_on-elsewhere, sound_placed, sound_malloc}

@@ -1,4 +1,5 @@
--- How many objects are on a page, counted over the values of a map. If two arrangements differ on one page at most, their counts of a class's pages and of its
+-- A test's result as a number, 1 or 0. Counts over the values of a map: 0 if and only if no value passes the test. When an object is on a page with its class,
+-- when a page has objects, and when it is partly full (`part_full`). If two arrangements differ on one page at most, their counts of a class's pages and of its
 -- partly full pages differ as that page does.
 use Rattle.std.proofs.Common.{◌≡◌, ◌≢◌, ℕ, Bool, true, false, ◌+◌, ◌<◌, ◌≤◌, Some, None, arith, sym, ◌∙◌, inl, inr, ap, refl}
 use Rattle.std.specs.Prelude.{◌⊎◌, ◌&&◌, nat_lt, nat_eq, count_by}

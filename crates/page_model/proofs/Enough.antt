@@ -1,5 +1,5 @@
 -- For the law `objects_need_no_more_pages`: a sound arrangement uses at least the pages that its objects need, for each class its objects over the slots of a
--- page, rounded up. More objects need no fewer.
+-- page, rounded up. More objects need no fewer pages; with equal counts by class the pages needed are equal.
 use Rattle.std.proofs.Common.{◌≡◌, ℕ, zero, suc, ◌+◌, ◌-◌, ◌*◌, ◌/◌, ◌%◌, ◌<◌, ◌≤◌, arith}
 use Rattle.std.proofs.lemmas.Nat.{div-add-mod', le-div, mul-le}
 use Rattle.std.proofs.Math.Nat.{div-mul-le_self, div-zero}

@@ -1,5 +1,6 @@
--- For the laws of `blocks.rt`: slots are whole blocks, and no two objects share a block. A free, or the freeing half of a resize, keeps the other objects'
--- physical blocks and the block table a permutation.
+-- For the laws of `blocks.rt`: the first block table is a permutation; slots are whole blocks of the table, no two objects share one, and each word of a slot
+-- is in the physical block of its virtual one. A free, or the freeing half of a resize, keeps the other objects' physical blocks, and the block table a
+-- permutation of the same length.
 use Rattle.std.proofs.Common.{◌≡◌, ◌≢◌, ℕ, ◌+◌, ◌*◌, ◌/◌, ◌%◌, ◌<◌, ◌≤◌, List, Option, Some, None, length, get_or, arith, sym, ◌∙◌, subst, inl, inr, ap, refl}
 use Rattle.std.specs.Prelude.{◌⊎◌}
 use Rattle.std.proofs.Math.Nat.{mul-mod_left}

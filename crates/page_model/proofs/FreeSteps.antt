@@ -1,4 +1,5 @@
--- For the law `a_free_keeps_soundness`: a free (`RemovesObject`) keeps the arrangement sound, with a move of another object and without one.
+-- A free (`RemovesObject`) keeps the arrangement sound, with a move of another object and without one (law `a_free_keeps_soundness`). An object that moves
+-- isn't the freed one. Removing a number that is inserted afterwards changes nothing.
 use Rattle.std.proofs.Common.{◌≡◌, ◌≢◌, ℕ, ◌<◌, Option, Some, None, arith, sym, ◌∙◌, inl, inr, ap, subst}
 use Rattle.std.proofs.lemmas.Bool.{cases_eq, cases_lt}
 use Rattle.std.specs.FinMap.{get, insert, remove}

@@ -1,4 +1,4 @@
--- For `FreeSteps`: an arrangement stays sound if an object is removed where no move is due, or if another object of its class takes its address. The counts of
+-- An arrangement stays sound if an object is removed where no move is due (`MayLeave`), or if another object of its class takes its address. The counts of
 -- objects on each page in both cases.
 use Rattle.std.proofs.Common.{◌≡◌, ◌≢◌, ℕ, ◌+◌, ◌<◌, ◌≤◌, List, Some, None, arith, sym, ◌∙◌, inl, inr, ap, refl}
 use Rattle.std.specs.Prelude.{◌⊎◌, ◌&&◌, nat_eq}

@@ -1,5 +1,5 @@
--- For the laws of `words.rt`: the words are the image of the objects after a malloc, after an object gets other bytes, and after its words move. Two images of
--- the same objects, of one length, are equal.
+-- For the laws of `words.rt`: the words are the image of the objects after a malloc, and after an object gets other bytes. A new object and words of no object
+-- are zeros. An image of larger extents is an image of headers and bytes. Two images of the same objects, of one length, are equal.
 use Rattle.std.proofs.Common.{◌≡◌, ℕ, zero, suc, ◌+◌, ◌-◌, ◌*◌, ◌<◌, ◌≤◌, List, Some, None, length, get_or, set, replicate, take, arith, sym, ◌∙◌, subst, inl}
 use Rattle.std.proofs.Common.{inr, ap, refl}
 use Rattle.std.proofs.lemmas.List.{get_or-set_same, get_or-set_other, drop-replicate, drop_all, length-replicate}

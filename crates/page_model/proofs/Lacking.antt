@@ -1,5 +1,5 @@
--- For the laws of `room.rt`: a class has no slot left if and only if none of its pages is partly full and no page is free. How many pages there then are at
--- most, and which are in use.
+-- A class has no slot left if and only if none of its pages is partly full and no page is free. How many pages there then are at most. The pages in use are
+-- those that hold an object. For the laws of `room.rt`, `RoomAtOne` and `Adding`.
 use Rattle.std.proofs.Common.{◌≡◌, ℕ, zero, suc, Bool, true, false, ◌+◌, ◌-◌, ◌*◌, ◌/◌, ◌%◌, ◌<◌, ◌≤◌, List, [], ◌∷◌, Some, arith, sym, ◌∙◌, inl, inr, ap}
 use Rattle.std.proofs.Common.{refl}
 use Rattle.std.specs.Prelude.{sum_by, count_by, ◌&&◌, ◌↔◌, nat_eq, nat_lt, filter, not}

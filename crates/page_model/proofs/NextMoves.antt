@@ -1,5 +1,5 @@
--- For the law `a_free_can_follow_an_order`: if a free must move an object, the next one of the order can move; else none does. The page whose slot becomes free
--- then has one object less.
+-- For `OrderSteps`: if a free must move an object, the next one of the order can move; else none does (`HasLeft`). The page whose slot becomes free then has
+-- one object less.
 use Rattle.std.proofs.Common.{◌≡◌, ℕ, ◌+◌, ◌/◌, ◌%◌, ◌<◌, List, ◌∷◌, Option, Some, None, arith, refl, sym, ◌∙◌, ap, subst, inl, inr}
 use Rattle.std.specs.Prelude.{◌⊎◌}
 use Rattle.std.specs.List.{Contains}

@@ -1,5 +1,5 @@
--- For the law `a_malloc_can_follow_an_order`: if a class has a slot left, the order determines the next one. Once it is taken, the order lists the free and the
--- partly full pages of the new arrangement.
+-- For `OrderSteps`: if a class has a slot left, the order determines the next one (`HasNext`). Once it is taken, the order lists the free and the partly full
+-- pages of the new arrangement. Also the least number with a property, for `NextMoves` too.
 use Rattle.std.proofs.Common.{◌≡◌, ℕ, Bool, true, false, zero, suc, ◌+◌, ◌<◌, List, [], ◌∷◌, arith, refl, sym, ◌∙◌, ap, subst, inl, inr}
 use Rattle.std.specs.Prelude.{◌⊎◌, nat_eq, if◌then◌else◌}
 use Rattle.std.specs.List.{Contains}

@@ -1,4 +1,5 @@
--- For an empty heap: the arrangement without objects is sound and uses no page, its counts are 0, and its words are zeros.
+-- For an empty heap: the arrangement without objects is sound and uses no page, its counts, its bytes and the pages that it needs are 0, and its words are
+-- zeros. Without addresses, words determine no object.
 use Rattle.std.proofs.Common.{◌≡◌, ℕ, zero, suc, ◌+◌, ◌-◌, ◌*◌, List, Some, None, length, replicate, arith, sym, ◌∙◌, ap, inl, inr}
 use Rattle.std.specs.Prelude.{sum_by}
 use Rattle.std.specs.List.{range_with_len}

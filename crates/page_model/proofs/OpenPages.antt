@@ -1,5 +1,6 @@
--- A partly full page has a free slot; the page of a free slot isn't full. A class has such a page exactly if their count isn't 0. If a free must move an
--- object, there is one that it may move.
+-- A partly full page (`IsOpen`) has a free slot (`IsVacant`); the page of a free slot isn't full. All objects of a page have one class. A class has a partly
+-- full page exactly if its count of them isn't 0, and has a slot left if an address is free for it. If a free must move an object, there is one that it may
+-- move.
 use Rattle.std.proofs.Common.{◌≡◌, ◌≢◌, ℕ, zero, suc, true, ◌+◌, ◌/◌, ◌%◌, ◌<◌, ◌≤◌, Option, Some, None, arith, refl, sym, ◌∙◌, ap, inl, inr}
 use Rattle.std.specs.Prelude.{◌⊎◌, ◌&&◌, count_by, nat_eq, nat_lt}
 use Rattle.std.proofs.lemmas.Bool.{cases_eq, cases_lt, false≢true, and_parts as both, eqb-true}

@@ -1,5 +1,5 @@
 -- For `OrderSteps`: the order after a slot becomes free (`slot_freed`) lists the free and the partly full pages of the arrangement with one object less,
--- whether the page was full, is now empty, or neither.
+-- whether the page was full, is now empty, or neither. Its spare numbers stay.
 use Rattle.std.proofs.Common.{◌≡◌, ◌≢◌, ℕ, Bool, true, false, ◌+◌, ◌<◌, ◌≤◌, Some, ◌∷◌, arith, refl, sym, ◌∙◌, subst, inl, inr}
 use Rattle.std.specs.Prelude.{nat_eq, not, if◌then◌else◌}
 use Rattle.std.specs.List.{Contains, IsDistinct, filter}

@@ -1,5 +1,6 @@
 -- When an order lists exactly the free and the partly full pages of an arrangement, each once (`ListsPages`). That depends only on the counts of objects on
--- each page, not on the order's free numbers.
+-- each page, not on the order's free numbers. A page has no objects if and only if it has none of any class. When an arrangement has one object more than
+-- another (`HasOneMore`).
 use Rattle.std.proofs.Common.{◌≡◌, ◌≢◌, ℕ, ◌+◌, ◌<◌, List, [], length, get_or, set, arith, refl, sym, ◌∙◌, ap, subst, inl, inr}
 use Rattle.std.specs.Prelude.{◌⊎◌, ◌↔◌, nat_eq}
 use Rattle.std.specs.List.{Contains, IsDistinct}

@@ -1,5 +1,5 @@
 -- When a list has exactly the numbers below a limit that no object has (`AreSpare`), before and after a malloc, a free and a resize. An order with such a list
--- and the right pages is one of the arrangement.
+-- and the right pages is one of the arrangement, whatever the bounds of the classes.
 use Rattle.std.proofs.Common.{◌≡◌, ◌≢◌, ℕ, ◌+◌, ◌<◌, List, ◌∷◌, Option, Some, None, length, arith, sym, ◌∙◌, ap, subst, inl, inr}
 use Rattle.std.specs.Prelude.{nat_eq}
 use Rattle.std.specs.List.{Contains, IsDistinct}

@@ -1,5 +1,5 @@
 -- For the laws of `order.rt`: a malloc, a free and a resize that have a number and a slot can follow the order, and leave an order of the new arrangement
--- (`CanMalloc`, `CanFree`, `CanResize`).
+-- (`CanMalloc`, `CanFree`, `CanResize`). An order stays one if an object gets other bytes of its class. An added object is one more on its page.
 use Rattle.std.proofs.Common.{◌≡◌, ◌≢◌, ℕ, ◌+◌, ◌<◌, List, ◌∷◌, Option, Some, None, length, arith, refl, sym, ◌∙◌, ap, subst, inl, inr}
 use Rattle.std.proofs.lemmas.Bool.{cases_eq}
 use Rattle.std.proofs.lemmas.List.{length-replicate}

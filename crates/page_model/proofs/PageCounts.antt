@@ -1,5 +1,5 @@
--- For the law `page_counts_of_a_sound_arrangement`: a class of n objects, m to a page, with at most k partly full pages, has a number of pages that arithmetic
--- allows (`CanHold`): at most ⌊n/m⌋ + k.
+-- In a sound arrangement a class of n objects, m to a page, with at most k partly full pages, has a number of pages that arithmetic allows (`CanHold`): at most
+-- ⌊n/m⌋ + k (law `page_counts_of_a_sound_arrangement`). A page has at least one slot, and at most as many objects as slots.
 use Rattle.std.proofs.Common.{◌≡◌, ℕ, zero, suc, ◌+◌, ◌-◌, ◌*◌, ◌/◌, ◌%◌, ◌<◌, ◌≤◌, ◌∷◌, arith, sym, ◌∙◌, inl, inr}
 use Rattle.std.specs.Prelude.{sum_by, count_by, nat_lt}
 use Rattle.std.specs.List.{range_with_len}

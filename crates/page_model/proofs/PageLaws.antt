@@ -1,5 +1,5 @@
--- For the laws of `counts.rt`: n objects, m to a page, with at most k pages partly full, can be on at most ⌊n/m⌋ + k pages; if k is 1, on just ⌈n/m⌉. Also a
--- test of such numbers, and the greatest.
+-- For the laws of `counts.rt`: n objects, m to a page, with at most k pages partly full, can be on at most ⌊n/m⌋ + k pages; if k is 1, on just ⌈n/m⌉, which
+-- every greater k allows too. Also a test of such numbers, the greatest, and the quotient of a number between two multiples.
 use Rattle.std.proofs.Common.{◌≡◌, ℕ, zero, suc, Bool, true, false, ◌+◌, ◌-◌, ◌*◌, ◌/◌, ◌%◌, ◌<◌, ◌≤◌, arith, sym, ◌∙◌, inl, inr, refl}
 use Rattle.std.specs.Prelude.{◌&&◌, ◌||◌, nat_le}
 use Rattle.std.specs.List.{range_with_len, list_any}

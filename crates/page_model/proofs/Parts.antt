@@ -1,5 +1,5 @@
--- For the laws `objects_after_a_step` and `counts_after_a_free`: what a malloc, a free and a resize in place do to the bytes by number, to the addresses by
--- number, and to the counts of objects on each page.
+-- What a malloc, a free and a resize in place do to the bytes by number, to the addresses by number, and to the counts of objects on each page; a rewrite keeps
+-- addresses. Also the bytes of an object by its number, and the class of an object of zeros. Inserting in a map the value that is there changes nothing.
 use Rattle.std.proofs.Common.{◌≡◌, ◌≢◌, ℕ, ◌+◌, List, Option, Some, None, length, replicate, arith, sym, ◌∙◌, inl, inr, ap, refl}
 use Rattle.std.specs.Prelude.{option_map}
 use Rattle.std.proofs.lemmas.Bool.{cases_eq}

@@ -1,5 +1,5 @@
--- For the law `a_malloc_keeps_soundness`: an object added at a free address keeps the arrangement sound. The count of its class on its page rises by one, and
--- no other count changes.
+-- An object added at a free address, as by a malloc, keeps the arrangement sound (law `a_malloc_keeps_soundness`). The count of its class on its page rises by
+-- one, no other count changes, and all objects of the page have its class.
 use Rattle.std.proofs.Common.{◌≡◌, ◌≢◌, ℕ, ◌+◌, ◌<◌, ◌≤◌, Some, None, length, replicate, arith, sym, ◌∙◌, inl, inr}
 use Rattle.std.specs.Prelude.{◌⊎◌}
 use Rattle.std.proofs.lemmas.List.{length-replicate}

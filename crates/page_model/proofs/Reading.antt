@@ -1,5 +1,5 @@
--- For the laws `words_show_what_is_held` and `held_at_has_places`: the words at an object's address determine its length and its bytes. So words and addresses
--- determine the objects (`held_at`).
+-- The words at an object's address determine its length and its bytes; the number that bytes represent has these bytes. So words and addresses determine the
+-- objects (`held_at`), whose addresses are those given and whose bytes are below 256 (laws `words_show_what_is_held`, `held_at_has_places`).
 use Rattle.std.proofs.Common.{◌≡◌, ℕ, zero, suc, ◌+◌, ◌*◌, ◌/◌, ◌%◌, ◌^◌, ◌<◌, List, [], ◌∷◌, Option, Some, None, length, get_or, take, drop, arith, lit<, sym}
 use Rattle.std.proofs.Common.{◌∙◌, inl, inr, ap, refl}
 use Rattle.std.specs.Prelude.{option_map}

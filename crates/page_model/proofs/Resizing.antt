@@ -1,5 +1,5 @@
--- For the laws `a_resize_keeps_soundness` and `a_resize_in_two_steps`: a resize keeps the arrangement sound. To another class it leaves what a free of the
--- object leaves, and the object at a free address, with its new length.
+-- A resize keeps the arrangement sound. To another class it leaves what a free of the object leaves, and the object at a free address, with its new length and
+-- its class (laws `a_resize_keeps_soundness` and `a_resize_in_two_steps`).
 use Rattle.std.proofs.Common.{◌≡◌, ◌≢◌, ℕ, ◌-◌, List, Option, Some, None, length, take, replicate, arith, sym, ◌∙◌, inl, inr, ap, refl, subst, length-append}
 use Rattle.std.proofs.lemmas.List.{length-replicate, length-take}
 use Rattle.std.proofs.lemmas.Bool.{cases_eq}

@@ -1,5 +1,5 @@
--- For the laws of `room.rt` with every bound 1: a class of n objects, m to a page, uses ⌈n/m⌉ pages. It has no slot left if and only if one object more needs
--- more pages than there are.
+-- For the laws of `room.rt` with every bound 1: a class of n objects, m to a page, uses ⌈n/m⌉ pages, so the pages in use are those that the objects need. It
+-- has no slot left if and only if one object more needs more pages than there are.
 use Rattle.std.proofs.Common.{◌≡◌, ℕ, zero, suc, ◌+◌, ◌-◌, ◌*◌, ◌<◌, ◌≤◌, List, None, length, arith, sym, ap, refl, subst}
 use Rattle.std.specs.Prelude.{◌↔◌, nat_eq}
 use Rattle.std.specs.List.{range_with_len}

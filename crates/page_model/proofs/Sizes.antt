@@ -1,5 +1,6 @@
--- For the laws of `classes.rt`: settings in range have slot sizes that rise to the page (`IsPaging`). A request that fits a page has a class, the least whose
--- slots hold it. Sizes counted in blocks are whole blocks.
+-- Settings in range have slot sizes that rise to the page (`IsPaging`). A request has a class if it fits a page, the least whose slots hold it, else none.
+-- Sizes counted in blocks are whole blocks. A page has at most a slot for every four words. With k = 1 each class has the bound 1. For the laws of `classes.rt`
+-- among others.
 use Rattle.std.proofs.Common.{◌≡◌, ℕ, Bool, true, false, ◌-◌, ◌*◌, ◌/◌, ◌<◌, ◌≤◌, List, Some, None, length, get_or, arith, sym, ◌∙◌, inl, inr, refl}
 use Rattle.std.specs.Prelude.{IsTrue, nat_le, nat_lt}
 use Rattle.std.specs.List.{position_or_len}

@@ -1,5 +1,5 @@
--- For the laws of `words.rt`: in a sound arrangement no two slots share a word, and free slots have zeros. The words are the image of the objects' whole slots
--- after a malloc, a write, a free and a move.
+-- In a sound arrangement slots are within the region, no two share a word, and free slots have zeros. The words are the image of the objects' whole slots after
+-- a malloc, a write, a free and a move, and so of their headers and bytes. For the laws of `words.rt` and for `Frames`.
 use Rattle.std.proofs.Common.{◌≡◌, ◌≢◌, ℕ, ◌+◌, ◌*◌, ◌/◌, ◌%◌, ◌<◌, ◌≤◌, List, Some, None, length, get_or, set, replicate, arith, sym, ◌∙◌, subst, inl, inr, ap}
 use Rattle.std.proofs.lemmas.List.{length-replicate}
 use Rattle.std.proofs.lemmas.Bool.{cases_eq, cases_lt, cases_order}

@@ -1,4 +1,4 @@
--- Bounds on the steps of words, runs of words and slots for every kind, and of taking, leaving and filling a slot.
+-- Bounds on the steps of words, runs of words and slots for every kind, of taking, leaving and filling a slot, and of a choice of two.
 use Rattle.std.proofs.Common.{ℕ, Bool, true, false, ◌+◌, ◌*◌, ◌/◌, ◌≤◌, List, [], ◌∷◌, arith}
 use Rattle.std.specs.Prelude.{if◌then◌else◌, nat_eq}
 use Rattle.cf_base.specs.declared.kind.Kind.{Kind}

@@ -1,5 +1,5 @@
--- The objects of a class are the sum of those on each page. A page has at most as many objects as slots, and fewer if a slot has none. Also sums over lists and
--- over the values of maps.
+-- The objects of a class are the sum of those on each page. A page has at most as many objects as slots, and fewer if a slot has none. A slot's number on its
+-- page is below the count of the page's slots. Also sums over lists and over the values of maps, and the count of one number in a range.
 use Rattle.std.proofs.Common.{◌≡◌, ◌≢◌, ℕ, Bool, true, false, ◌+◌, ◌*◌, ◌/◌, ◌%◌, ◌<◌, ◌≤◌, List, [], ◌∷◌, Some, None, length, arith, sym, ◌∙◌, inl, inr, ap}
 use Rattle.std.proofs.Common.{refl}
 use Rattle.std.specs.Prelude.{sum_by, count_by, ◌&&◌, nat_eq}

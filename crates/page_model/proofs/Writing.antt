@@ -1,5 +1,5 @@
--- For the laws of bytes in `words.rt`: each byte of an object is a byte of a word, and eight bytes determine a word. What a write or a resize does to bytes and
--- words. A header shows number and length.
+-- For the laws of bytes in `words.rt`: each byte of an object is a byte of a word, the words of an object fit 64 bits, and eight bytes determine such a word.
+-- What a write or a resize does to bytes and words. Objects stay storable (`AreStorable`). A header shows number and length.
 use Rattle.std.proofs.Common.{◌≡◌, ℕ, zero, suc, ◌+◌, ◌-◌, ◌*◌, ◌/◌, ◌%◌, ◌^◌, ◌<◌, ◌≤◌, List, [], ◌∷◌, ◌++◌, Option, Some, None, length, get_or, replicate}
 use Rattle.std.proofs.Common.{take, drop, arith, lit<, sym, ◌∙◌, subst, inl, inr, ap, refl, length-append, length-drop}
 use Rattle.std.proofs.lemmas.List.{length-take, length-replicate, get_or-take, get_or-drop, get_or_append_left, get_or-append_right, get_or_past}

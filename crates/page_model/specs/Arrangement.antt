@@ -1,5 +1,6 @@
--- The addresses that objects may have, sound arrangements, how many objects and pages a class has, and when it has no slot left. `p` holds the pages and the
--- classes, `m` the objects; a class c is an index into the slot sizes.
+-- The addresses that objects may have, the class of an object, sound arrangements, how many objects are on a page, how many objects, pages and partly full
+-- pages a class has, the pages in use and those that objects need or can be on, and when a class has no slot left. `p` holds the pages and the classes, `m` the
+-- objects; a class c is an index into the slot sizes.
 use Rattle.std.specs.Prelude.{◌≡◌, ◌≢◌, ℕ, Bool, ◌&&◌, ◌+◌, ◌-◌, ◌%◌, ◌≤◌, ◌<◌, Some, length, filter, not, nat_lt, nat_eq, count_by, sum_by, cond}
 use Rattle.std.specs.List.{range_with_len}
 use Rattle.std.specs.FinMap.{get, values}

@@ -1,4 +1,5 @@
--- Bytes in the words of a region, and the objects that words and addresses determine.
+-- Lists of bytes (`AreBytes`), bytes in the words of a region, bytes after some were overwritten, the objects that words and addresses determine, and which
+-- objects words can represent.
 use Rattle.std.specs.Prelude.{ℕ, ◌≡◌, Some, zero, suc, ◌+◌, ◌/◌, ◌%◌, ◌^◌, ◌<◌, List, ◌++◌, map, take, drop, length, slice_index}
 use Rattle.std.specs.List.{range_with_len}
 use Rattle.std.specs.Ordering.{nat_cmp}

@@ -1,5 +1,6 @@
--- The block table of the non-moving manager as a list (`frames`): virtual block v, of four words, is physical block `frames[v]`. How a free or a resize changes
--- the list, and where in the region a word then is.
+-- The block table of the non-moving manager as a list (`frames`): virtual block v, of four words, is physical block `frames[v]`. The list at the start, and
+-- when it has each number once. How a free or a resize changes the list, and where in the region a block and a word then are. When pages and slots are whole
+-- blocks, and what is true of objects and table (`AreFramed`).
 use Rattle.std.specs.Prelude.{◌≡◌, ℕ, ◌+◌, ◌*◌, ◌/◌, ◌%◌, ◌<◌, List, Option, Some, None, length, slice_index}
 use Rattle.std.specs.List.{range_with_len}
 use Rattle.std.specs.List.Sorted.{IsPermutation}
@@ -18,7 +19,7 @@ first_frames n = range_with_len 0 n
 abbrev pub IsPermuted : List ℕ → Type 0
 IsPermuted frames = IsPermutation (first_frames (length frames)) frames
 
--- the block table after an object moved, y before and z after: the blocks of its old slot and of its new one have changed places; if there is none, nothing
+-- the block table after an object moved, y before and z after: the blocks of its old slot and of its new one have changed places; if y or z is none, nothing
 -- changes
 abbrev pub frames_moved : Paging → Option Placed → Option Placed → List ℕ → List ℕ
 frames_moved p None z frames = frames

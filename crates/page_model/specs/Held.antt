@@ -1,4 +1,4 @@
--- What a manager holds: its objects by number, each with its address.
+-- What a manager holds: its objects by number, each with its address; also the bytes by number alone, the addresses alone, and an object encoded for a map.
 use Rattle.std.specs.Prelude.{ℕ, List, refl}
 use Rattle.std.specs.Ordering.{nat_cmp}
 use Rattle.std.specs.FinMap.{FinMap}

@@ -1,5 +1,5 @@
--- The words of a region that objects determine (`IsImage`), and three changes of words: to rewrite, clear or move a range. Words and addresses are counted from
--- the start of the region.
+-- The words of an object and of a region that objects determine (`IsImage`), how many words a slot has, when objects or ranges share no word, and three changes
+-- of words: to rewrite, clear or move a range. Words and addresses are counted from the start of the region.
 use Rattle.std.specs.Prelude.{◌≡◌, ◌≢◌, ℕ, zero, suc, ◌+◌, ◌*◌, ◌^◌, ◌≤◌, ◌<◌, ◌⊎◌, List, [], ◌∷◌, Some, length, take, drop, slice_index}
 use Rattle.std.specs.FinMap.{get}
 use Rattle.cf_base.specs.Classes.{need}

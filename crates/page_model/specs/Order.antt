@@ -1,5 +1,5 @@
--- The order in which a manager uses pages, slots and numbers, when a call follows it, and what such a call costs in steps. A call that follows an order turns
--- the order `old` into `new`.
+-- The order in which a manager uses pages, slots and numbers, when a call follows it, and the steps of taking, finding and freeing slots by it, and of one
+-- word. A call that follows an order turns the order `old` into `new`.
 use Rattle.std.specs.Prelude.{◌≡◌, ℕ, ◌+◌, ◌<◌, ◌⊎◌, ◌↔◌, List, [], ◌∷◌, Option, Some, None, length, slice_index_or, slice_set, nat_eq, not, replicate, if◌then◌else◌}
 use Rattle.std.specs.List.{Contains, IsDistinct, filter, range_with_len}
 use Rattle.std.specs.FinMap.{get, len}

@@ -1,7 +1,8 @@
 //! Laws of the non-moving manager's block table: it stays a permutation, a free or a resize keeps
 //! other objects' physical blocks, no two objects share a block, and where in the region an
 //! object's words are. In the clauses `p` holds the pages, `m` or `old` the objects, `after` what a
-//! call leaves.
+//! call leaves. Where a clause has `AreFramed`, the objects must be a sound arrangement in whole
+//! blocks, and the table must have each block of the region once.
 ghost use Rattle.std.specs.Prelude.{ℕ, ◌≡◌, ◌≢◌, ◌+◌, ◌*◌, ◌/◌, ◌%◌, ◌<◌, List, Some, length, slice_index};
 ghost use Rattle.std.specs.FinMap.{get};
 ghost use Rattle.page_model.specs.Frames.{IsPermuted, IsPhysical, AreFramed, block_of, first_frames, frames_after};

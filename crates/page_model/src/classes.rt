@@ -1,5 +1,6 @@
 //! Laws of the sizes of slots, the class of a request, and the addresses of slots. In the clauses
-//! `p` holds the pages and the classes; a class `c` is the index of its slot size.
+//! `p` holds the pages and the classes; a class `c` is the index of its slot size. Most clauses
+//! require `IsPaging p`: the slot sizes rise to the page, and each class has a bound of at least 1.
 ghost use Rattle.std.specs.Prelude.{ℕ, ◌≡◌, ◌*◌, ◌/◌, ◌%◌, ◌<◌, ◌≤◌, IsTrue, List, None, Some, length, slice_index};
 ghost use Rattle.cf_base.specs.Classes.{class_of, need, sizes};
 ghost use Rattle.cf_base.specs.Limits.{is_page_size};
@@ -10,9 +11,10 @@ ghost use Rattle.page_model.specs.Frames.{AreBlocks};
 ghost use Rattle.page_model.specs.Paging.{EveryBoundIsOne, IsPaging, Paging, address_of, class_for, classes, first_bounds, page_of, paging_of, slot_words, slots_of};
 ghost use Rattle.page_model.specs.Arrangement.{IsSlotAt};
 
-/// The slot sizes of a page, in words or in whole blocks (`layout`), rise from at least 4 words to
-/// the page, and each class has a bound of at least 1 (`IsPaging`). `first`: each class has the
-/// bound k of the settings `s`. `bounded`: the classes have any `bounds` of at least 1.
+/// If the settings have a valid page size (`is_page_size`), the slot sizes of a page, in words or
+/// in whole blocks (`layout`), rise from at least 4 words to the page, and each class has a bound
+/// of at least 1 (`IsPaging`). `first`: each class has the bound k of the settings `s`, at least 1.
+/// `bounded`: the classes have any `bounds` of at least 1.
 pub fn slot_sizes_rise()
     ensures first { (s : Profile) (layout : Layout) → IsTrue (is_page_size s.page_words) → 1 ≤ s.k
         → IsPaging (paging_of s layout (first_bounds s layout)) }
@@ -24,8 +26,8 @@ pub fn slot_sizes_rise()
 {}
 
 /// If k is 1 in the settings `s`, every class has the bound 1 (`ones`). If the sizes are in blocks
-/// of four words, pages and slots are whole blocks (`blocks`). A page has at most one slot of class
-/// `c` for every four words (`few`).
+/// of four words, and the page size is valid, pages and slots are whole blocks (`blocks`). A page
+/// has at most one slot of class `c` for every four words (`few`).
 pub fn slots_are_few_and_in_blocks()
     ensures ones { (s : Profile) (layout : Layout) → s.k ≡ 1
         → EveryBoundIsOne (paging_of s layout (first_bounds s layout)) }

@@ -1,6 +1,7 @@
 //! Laws of the order in which a manager uses pages, slots and the numbers of objects (`Order`). The
 //! order leaves a call no choice, and each call that may succeed can follow the order. In the
-//! clauses the numbers of objects are below `limit`.
+//! clauses the numbers of objects are below `limit`. Most require `IsPaging p`: the slot sizes of
+//! the pages `p` rise to the page, and each class has a bound of at least 1.
 ghost use Rattle.std.specs.Prelude.{ℕ, ◌≡◌, ◌≢◌, ◌<◌, Option, Some, None};
 ghost use Rattle.std.specs.FinMap.{get, insert, len};
 ghost use Rattle.page_model.specs.Arrangement.{IsSound, LacksRoom, class_at};

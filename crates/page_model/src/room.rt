@@ -1,6 +1,7 @@
 //! Laws of when a sound arrangement has no slot left for one more object of a class, and of how
 //! many pages its objects need. `p` holds the pages and the classes, `m` the objects with their
-//! addresses.
+//! addresses. Most clauses require `IsPaging p`: the slot sizes rise to the page, and each class has
+//! a bound of at least 1.
 ghost use Rattle.std.specs.Prelude.{ℕ, ◌≡◌, ◌+◌, ◌/◌, ◌%◌, ◌<◌, ◌≤◌, ◌↔◌, List, None, length};
 ghost use Rattle.std.specs.FinMap.{get, insert};
 ghost use Rattle.page_model.specs.Arrangement.{IsSound, LacksRoom, free_pages, live, most_pages_besides, not_full_pages, pages_needed, pages_needed_with};
@@ -15,9 +16,9 @@ pub fn lack_of_room_is_no_page_left()
         → LacksRoom p m c ↔ ((not_full_pages p m c ≡ 0) × (free_pages p m ≡ 0)) }
 {}
 
-/// If class `c` has no slot left in the sound arrangement `m` on the pages `p`, its objects fill all
-/// slots of their pages. All other pages hold objects of other classes, so they are at most the
-/// pages that those objects can be on (`most_pages_besides`).
+/// If class `c` has no slot left in the sound arrangement `m` on the pages `p`, the number of the class's objects is a
+/// multiple of the slots of a page, so they can fill whole pages. The pages of `p` are at most as many as these whole
+/// pages plus the most pages that the objects of the other classes can be on (`most_pages_besides`).
 pub fn pages_where_room_is_lacking()
     ensures { (p : Paging) (m : Held) (c : ℕ) → IsPaging p → IsSound p m → c < classes p
         → LacksRoom p m c

@@ -1,6 +1,7 @@
 //! Laws of sound arrangements: a malloc, a free and a resize keep an arrangement sound; what they
 //! do to objects and counts; how many pages a class uses. `p` holds the pages and the classes, `m`
-//! or `old` the objects.
+//! or `old` the objects. Most clauses require `IsPaging p`: the slot sizes rise to the page, and
+//! each class has a bound of at least 1.
 ghost use Rattle.std.specs.Prelude.{ℕ, ◌≡◌, ◌≢◌, ◌+◌, ◌/◌, ◌<◌, ◌≤◌, ◌&&◌, Option, Some, None, cond, length, nat_lt, replicate};
 ghost use Rattle.std.specs.FinMap.{empty, get, insert, remove};
 ghost use Rattle.page_model.specs.Arrangement.{IsSound, class_at, pages_of_class, is_on, live, not_full_pages, objects_on};

@@ -1,5 +1,8 @@
 //! Laws of the words of a region with pages: how the objects determine them, how a call changes
-//! them, and how bytes are read back. In the clauses `m` holds the objects with their addresses.
+//! them, how bytes are read back, and that words can still represent the objects after a call. In
+//! the clauses `m` holds the objects with their addresses, `p` the pages and the classes. Clauses
+//! with both require a sound arrangement `m` and `IsPaging p`: the slot sizes rise to the page, and
+//! each class has a bound of at least 1.
 ghost use Rattle.std.specs.Prelude.{ℕ, ◌≡◌, ◌+◌, ◌*◌, ◌/◌, ◌%◌, ◌^◌, ◌<◌, ◌≤◌, List, Option, Some, None, length, replicate, slice_index, slice_set};
 ghost use Rattle.std.specs.FinMap.{FinMap, empty, get, insert, remove};
 ghost use Rattle.std.specs.Ordering.{nat_cmp};
@@ -138,9 +141,9 @@ pub fn held_at_has_places()
         → get (held_at words at) h ≡ Some x → AreBytes x.bytes }
 {}
 
-/// If words can represent the objects `m` (`AreStorable`), they still can after object `h`, of bytes
-/// and below 2^32, is added (`comes`) or removed (`goes`, also if another one moves). The contents of a new, a
-/// resized and a written object are bytes.
+/// If words can represent the objects `m` (`AreStorable`), they still can after object `h` is added, if `h` is below
+/// 2^32 and its contents are bytes (`comes`), and after an object is removed, also if another one moves (`goes`). Zeros
+/// are bytes (`zeros`), and a resize or a write of bytes leaves contents that are bytes (`resized`, `written`).
 pub fn objects_stay_storable()
     ensures comes { (m : Held) (h : ℕ) (x : Placed) → AreStorable m → h < 2 ^ 32 → AreBytes x.bytes
         → AreStorable (insert m h x) }

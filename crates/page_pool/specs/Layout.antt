@@ -2,7 +2,7 @@
 use Rattle.std.specs.Prelude.{ℕ, ◌^◌, ◌<◌, ◌≤◌, List, length, drop}
 use Rattle.page_pool.specs.Pool.{Pool, IsPool}
 
--- the pool that the fields represent: the free pages are those of the stack from index `first` on, and those before it are not free
+-- the pool that the fields represent: the free pages are the entries of the stack from index `first` on; those before it mean nothing
 abbrev pub pool_of : List ℕ → ℕ → Pool
 pool_of stack first = record { pages = length stack; free = drop first stack }
 

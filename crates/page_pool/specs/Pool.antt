@@ -1,4 +1,4 @@
--- What contracts see of `PagePool` (`Pool`): the number of pages, and the list of the free ones, each once, the next to be taken first.
+-- What contracts see of `PagePool` (`Pool`): the number of pages, and the list of the free ones, each once, the next to be taken first; and what a take does.
 use Rattle.std.specs.Prelude.{◌≡◌, ℕ, ◌<◌, Bool, true, false, List, [], ◌∷◌, Option, None, Some, nat_eq, refl, ⊤}
 use Rattle.std.specs.List.{list_any}
 use Rattle.std.specs.Coded.{Coded, code_by, coded×, coded_list, coded_ℕ}

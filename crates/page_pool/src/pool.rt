@@ -48,7 +48,7 @@ impl PagePool {
         }
     }
 
-    /// The memory that a new pool of pages asks for.
+    /// The memory that a new pool of `n` pages asks for.
     pub fn bytes_needed(n: u32) -> BytesNeeded
         ensures { result ≡ pool_bytes n }
     {
@@ -63,8 +63,8 @@ impl PagePool {
         (self.stack.len() - self.first) as u32
     }
 
-    /// Removes the first free page from the pool and returns it; none if no page is free. Costs one
-    /// step.
+    /// Removes the first free page from the pool and returns it; none if no page is free, and then
+    /// nothing changes. Costs one step.
     pub fn take(&mut self, steps: &mut Steps) -> Option<u32>
         ensures taken { TakesFront self.old result self.new }
         ensures steps { RoseBy steps.old steps.new 1 }

@@ -1,4 +1,6 @@
--- What the calls do to the objects at the used slots (`Occupies`) when a slot is taken, freed or filled. The tables of another owner of pages stay.
+-- After a slot is taken, freed or filled, the tables fit the heap's pages, and the objects are at the used slots (`Occupies`); so too after an object gets
+-- other bytes or another number. Also: which object moves to a freed slot, and when one must; when no slot is left; and that another owner's tables and objects
+-- stay.
 use Rattle.std.proofs.Common.{◌≡◌, ℕ, Bool, true, false, ◌<◌, ◌≤◌, List, length, Some, None, arith, refl, sym, ◌∙◌, ap, subst, inl, inr}
 use Rattle.std.specs.Prelude.{◌⊎◌, ◌↔◌, slice_get}
 use Rattle.std.specs.List.{Contains}
@@ -29,9 +31,6 @@ use Rattle.page_slots.proofs.OccupiedAfterTake.{gained_address, gained_unused, o
 use Rattle.page_slots.proofs.OccupiedAfterFree.{occupied_lost}
 use Rattle.page_slots.proofs.PageNumbers.{not_full_pages_are}
 use Rattle.page_slots.proofs.PageNumbers.{lacks_room}
-
--- re-exported: free slots and pages, the head of a list, the tables after a slot is taken, their order, and the next slot
--- re-exported: the tables of a heap without objects, and the numbers of pages
 
 module _ {p : Paging} (ok : IsPaging p) {m : Held} {old new : Tables} (serve : FitPagesShared p old) (o : Occupies p m old)
     (kept : AreTables (class_table p) new) where

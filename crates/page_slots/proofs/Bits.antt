@@ -1,5 +1,5 @@
--- A list with a truth value for each slot of a page (true for used): its entries after one of them changes. For the proofs of the tables after a slot becomes
--- used or free.
+-- A list with a truth value for each slot of a page (true for used): its entries after one of them changes, and whether any is true. For the proofs of what a
+-- call that takes or frees a slot does to the objects at the used slots.
 use Rattle.std.proofs.Common.{◌≡◌, ◌≢◌, ℕ, Bool, true, false, ◌<◌, List, length, get_or, set, replicate, Some, arith, sym, ◌∙◌, ap, inl, inr}
 use Rattle.std.specs.Prelude.{slice_get}
 use Rattle.std.proofs.lemmas.Bool.{cases_lt}

@@ -1,4 +1,5 @@
--- Lemmas that proofs of other crates may cite.
+-- What proofs of other crates may cite, passed on from other files: free pages and lists, what calls do to tables and objects, the order, a new heap's tables,
+-- numbers of pages, an owner's objects, and leaving a slot. Declares nothing.
 pub use Rattle.page_slots.proofs.Occupied.{free_bare, free_of_none}
 pub use Rattle.page_slots.proofs.Pages.{free_page, one_class}
 pub use Rattle.page_slots.proofs.TablesAfterTake.{Gains, front_listed, taken_gains}

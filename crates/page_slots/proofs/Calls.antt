@@ -1,5 +1,5 @@
--- For the calls that take or free a slot: the tables meet what each part of the code requires. What taking a slot on the first partly full or the first free
--- page does, and what each part costs.
+-- For the calls that take or free a slot or find the object to move: what they require of a class's first partly full page, of the first free page and of any
+-- page. Also: the search for a slot, the map of a page after it is written, how many slots stay used, the steps, and a list as its head and the rest.
 use Rattle.std.proofs.Common.{◌≡◌, ◌≢◌, ℕ, Bool, true, false, not, ◌+◌, ◌*◌, ◌^◌, ◌<◌, ◌≤◌, List, [], ◌∷◌, length, drop, get_or, set, Some, None, arith, inl, inr}
 use Rattle.std.proofs.Common.{sym, ◌∙◌, ap, subst}
 use Rattle.std.specs.Prelude.{slice_get, if◌then◌else◌, is_some, nat_eq}

@@ -1,4 +1,5 @@
--- For `NextSlots` and `PageNumbers`: a list of pages without repeats is as long as the count, over all pages, of those in it. Two tests of membership agree.
+-- For `NextSlots` and `PageNumbers`: a list of pages without repeats is as long as the count, over all pages, of those in it. Two tests of membership agree,
+-- and so do two of repeats. If each number passes just one of two tests, the counts add up.
 use Rattle.std.proofs.Common.{◌≡◌, ℕ, zero, suc, Bool, true, false, ◌+◌, ◌<◌, ◌≤◌, List, [], ◌∷◌, length, arith, refl, sym, ◌∙◌, ap, inl, inr}
 use Rattle.std.specs.Prelude.{nat_eq, count_by}
 use Rattle.std.specs.List.{Contains, IsDistinct, range_with_len}

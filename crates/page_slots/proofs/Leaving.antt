@@ -1,4 +1,5 @@
--- For the callers of `leave_slot`: once the number of an owner's object is released, its slot can be left; and the object that then moves there is the other one.
+-- For the callers of `leave_slot`: once the number of an owner's object is released, its slot can be left; and the object that then moves there is the one that
+-- was at the address which the tables give (`other` of `Owner`).
 use Rattle.std.proofs.Common.{◌≡◌, ℕ, ◌+◌, ◌-◌, ◌%◌, ◌^◌, Bool, List, get_or, arith, ◌∙◌, ap, subst, sym}
 use Rattle.std.specs.Prelude.{◌↔◌, IsTrue, is_some}
 use Rattle.std.specs.FinMap.{get, remove}

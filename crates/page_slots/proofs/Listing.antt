@@ -1,5 +1,5 @@
--- For `list_as_full_if_filled`, `list_as_partly_full` and the tables after a call: which pages each list of a class has after one page joined or left it. A page that left
--- its list is in none.
+-- For `list_as_full_if_filled`, `list_as_partly_full` and the tables after a call: which pages each list of a class has after one page joined or left it. A
+-- page that left its list is in none.
 use Rattle.std.proofs.Common.{◌≡◌, ◌≢◌, ℕ, List, ◌∷◌, refl, sym, ◌∙◌, ap, subst, inl, inr}
 use Rattle.std.specs.Prelude.{◌⊎◌}
 use Rattle.std.specs.List.{Contains}

@@ -1,5 +1,5 @@
--- For the laws of `order_laws.rt`: the slots that the tables take and free, and the object that moves, are the next ones of their order. The order afterwards
--- and the steps are the model's.
+-- For the laws of `order_laws.rt`: the order of the tables is one of the arrangement; the slots that they take and free, and the object that moves, are the
+-- next ones of this order. The order afterwards and the steps are the model's. Without objects no page is listed as partly full.
 use Rattle.std.proofs.Common.{◌≡◌, ◌≢◌, ℕ, Bool, true, false, ◌+◌, ◌*◌, ◌<◌, List, [], ◌∷◌, length, drop, get_or, set, replicate, Some, arith, refl, sym, ◌∙◌, ap, subst, inl, inr}
 use Rattle.std.specs.Prelude.{◌↔◌, None, not, nat_eq, slice_get, if◌then◌else◌}
 use Rattle.std.specs.FinMap.{get, len}

@@ -1,5 +1,5 @@
 -- What follows if the objects are at the used slots of the tables (`Occupies`): the pages with objects of a class, those without objects, and the address of
--- each object.
+-- each object. They still are if an object gets another number, or other bytes of its class.
 use Rattle.std.proofs.Common.{◌≡◌, ℕ, true, ◌<◌, List, Some, None, arith, refl, sym, ◌∙◌, ap, subst, inl, inr}
 use Rattle.std.proofs.lemmas.Bool.{cases_eq, cases_lt}
 use Rattle.std.proofs.lemmas.Option.{slice_get_within}

@@ -1,4 +1,4 @@
--- For callers that take a slot: no object was there, and with a new object in it all objects are at the used slots of the tables (`Occupies`).
+-- For callers that take a slot: its address; no object was there, and with a new object in it all objects are at the used slots of the tables (`Occupies`).
 use Rattle.std.proofs.Common.{◌≡◌, ◌≢◌, ℕ, true, false, ◌<◌, length, Some, None, arith, refl, sym, ◌∙◌, ap, subst, inl, inr}
 use Rattle.std.specs.Prelude.{◌⊎◌, slice_get}
 use Rattle.std.proofs.lemmas.Bool.{cases_eq}

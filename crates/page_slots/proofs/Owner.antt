@@ -1,4 +1,6 @@
--- What an owner of pages knows of its objects: the class and the slot of each, whether another object must move to that slot, and the slot of the one that does.
+-- What is known of the objects of an owner of pages if a heap's invariant holds (`OwnsObjects`): their number, the class and the slot of each, the bytes that a
+-- read finds, whether another object must move to that slot, and that object, its slot and the tables then. Also how many classes a class table has, and which
+-- for a length.
 use Rattle.std.proofs.Common.{◌≡◌, ◌≢◌, ℕ, ◌+◌, ◌*◌, ◌/◌, ◌%◌, ◌^◌, ◌<◌, ◌≤◌, List, length, get_or, take, drop, Some, None, arith, sym, ◌∙◌}
 use Rattle.std.proofs.Common.{ap, subst, inl, inr}
 use Rattle.std.specs.Prelude.{◌⊎◌, option_map}

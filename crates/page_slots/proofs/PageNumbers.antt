@@ -1,5 +1,5 @@
--- For callers' figures: the lengths of the pool and of the page lists are the numbers of free pages, of a class's pages and of its partly full ones. Without
--- partly full and free pages no slot is left.
+-- The lengths of the pool and of the page lists are the numbers of free pages, of a class's pages and of its partly full ones. If no page is foreign, each page
+-- that isn't free has an object, and without partly full and free pages no slot is left.
 use Rattle.std.proofs.Common.{◌≡◌, ℕ, Bool, true, false, ◌+◌, ◌<◌, ◌≤◌, [], length, arith, refl, sym, ◌∙◌, ap, subst, inl, inr}
 use Rattle.std.specs.Prelude.{nat_lt, count_by}
 use Rattle.std.specs.List.{Contains, range_with_len}

@@ -1,5 +1,5 @@
--- For all calls: what the tables show of one page, which is free, foreign, or in one list of one class. A call that changes one page keeps every other
--- (`IsSame`), and the rules of the tables.
+-- For all calls: what the tables show of one page, which is free, foreign, or in one list of one class; a class has 1 to 4096 slots on a page. A call that
+-- changes one page keeps every other (`IsSame`), and the rules of the tables.
 use Rattle.std.proofs.Common.{◌≡◌, ◌≢◌, ℕ, Bool, true, false, ◌<◌, ◌≤◌, List, [], ◌∷◌, length, get_or, set, arith, sym, ◌∙◌, ap, subst, inl, inr, eqb}
 use Rattle.std.specs.List.{Contains}
 use Rattle.std.proofs.lemmas.Bool.{cases_eq, true≢false, ne_eqb}

@@ -1,4 +1,5 @@
--- For callers that open a heap: tables in which all pages are free keep their rules, have no foreign page, and fit a heap without objects.
+-- For callers that open a heap: the classes of its layout are a class table, and tables in which all pages are free keep their rules, have no foreign page, and
+-- fit a heap without objects.
 use Rattle.std.proofs.Common.{◌≡◌, ℕ, zero, suc, Bool, false, true, ◌+◌, ◌*◌, ◌^◌, ◌<◌, ◌≤◌, List, [], ◌∷◌, length, get_or}
 use Rattle.std.proofs.Common.{replicate, Some, None, arith, refl, sym, ◌∙◌, ap}
 use Rattle.std.proofs.Common.{subst, inl, inr}

@@ -1,5 +1,5 @@
 -- For `take_slot`: the tables keep their rules after a slot was taken (`Gains`). Only its page changes; it was partly full or, if its class had no such page,
--- free.
+-- free. Also: the head of a list is in it, and that of the pool is a page of no class.
 use Rattle.std.proofs.Common.{◌≡◌, ◌≢◌, ℕ, zero, suc, Bool, true, false, ◌+◌, ◌<◌, ◌≤◌, List, [], ◌∷◌, length, set, replicate, Some, arith, refl, sym, ◌∙◌, ap}
 use Rattle.std.proofs.Common.{subst, inl, inr}
 use Rattle.std.specs.Prelude.{◌⊎◌, slice_get}

@@ -1,5 +1,5 @@
--- What `leave_slot` does with a slot whose object is freed or has moved away, and its steps. An owner is a heap or a task; `old` are its parts before, `new`
--- those after.
+-- What `leave_slot` requires, what it does with a slot whose object is freed or has moved away, and its steps. An owner is a heap or a task; `old` are its
+-- parts before, `new` those after.
 use Rattle.std.specs.Prelude.{◌≡◌, ℕ, ◌+◌, ◌-◌, ◌/◌, ◌%◌, ◌^◌, ◌<◌, ◌≤◌, Bool, IsSome, IsTrue, List, Option, None, Some, length, slice_index}
 use Rattle.std.specs.FinMap.{get}
 use Rattle.block_table.specs.Table.{Table}
@@ -56,8 +56,8 @@ pub record MayMove (kind : Kind) (w : Parts) (s : LeftSlot) (from : ℕ) : Type 
   pub first : s.first ≤ slice_index w.words from % 2 ^ 32
   pub live : IsSome (get w.proxies.places (number_at w s from))
 
--- The tables and proxies keep their rules. The slot is used, has the words of its class, lies in the region, and with a block table is whole blocks. If
--- another object must move there (`moves`), the one that the tables choose can.
+-- What `leave_slot` requires of an owner's parts and the slot: the tables and proxies keep their rules. The slot is used, has the words of its class, lies
+-- in the region, and with a block table is whole blocks. If another object must move there (`moves`), the one that the tables choose can.
 pub record MayLeave (kind : Kind) (w : Parts) (s : LeftSlot) (moves : Bool) : Type 0 where
   pub tables : AreTables w.classes w.tables
   pub used : IsUsed w.tables s.class (page_at w.classes s.place) (slot_at w.classes s.class s.place)

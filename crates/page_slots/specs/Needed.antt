@@ -8,6 +8,6 @@ use Rattle.cf_base.specs.Settings.{Profile}
 use Rattle.cf_base.specs.declared.kind.Layout.{Layout}
 use Rattle.cf_base.specs.declared.needed.BytesNeeded.{BytesNeeded}
 
--- the size classes, the maps of the slots of all pages, and the pool
+-- the memory for the size classes, the maps of the slots of all pages, and the pool
 abbrev pub table_bytes : Profile → Layout → BytesNeeded
 table_bytes p layout = both (both (class_table_bytes p.page_words layout) (map_bytes p.pages (p.page_words / 4))) (pool_bytes p.pages)

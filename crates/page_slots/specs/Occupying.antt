@@ -1,4 +1,4 @@
--- When tables fit the pages and classes of a heap, and when objects are at their used slots.
+-- The class table of a heap's pages, when tables fit the pages and classes of a heap, and when objects are at their used slots.
 use Rattle.std.specs.Prelude.{◌≡◌, ℕ, Some}
 use Rattle.std.specs.FinMap.{get}
 use Rattle.size_classes.specs.Table.{ClassTable}
@@ -11,7 +11,7 @@ use Rattle.page_slots.specs.Tables.{Tables, AreTables, IsOf, IsUsed, NoneForeign
 abbrev pub class_table : Paging → ClassTable
 class_table p = record { page_words = p.page_words; sizes = p.sizes }
 
--- the tables t have the pages and classes of p; some pages may be foreign
+-- the tables t keep their rules, and have the pages and classes of p; some pages may be foreign, used by another owner
 pub record FitPagesShared (p : Paging) (t : Tables) : Type 0 where
   pub tables : AreTables (class_table p) t
   pub pages : t.pool.pages ≡ p.pages

@@ -1,4 +1,5 @@
--- The objects of one owner of pages, a heap or a task of the heap of tasks, at their addresses. No clause of a public function cites this module.
+-- The objects of one owner of pages, a heap or a task of the heap of tasks, at their addresses, and when one must move into a slot that is left. No clause of a
+-- public function cites this module.
 use Rattle.std.specs.Prelude.{◌≡◌, ℕ, ◌+◌, ◌<◌, ◌≤◌, List, Some, length}
 use Rattle.std.specs.Ordering.{nat_cmp}
 use Rattle.std.specs.FinMap.{FinMap, get}
@@ -11,7 +12,7 @@ use Rattle.size_classes.specs.Table.{ClassTable}
 use Rattle.page_slots.specs.Release.{MovesObject}
 use Rattle.page_slots.specs.Tables.{Tables, page_at, slots_on}
 
--- An owner: the pages and classes, and the class table; by class how many pages may be partly full; the words of the region; the addresses of the owner's
+-- An owner: the pages and classes, and the class table; by class how many pages may be partly full; the words that objects see; the addresses of the owner's
 -- objects by number; and the tables as the owner sees them.
 pub record Owner : Type 0 where
   pub paging : Paging

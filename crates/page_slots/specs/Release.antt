@@ -1,4 +1,5 @@
--- What freeing a used slot does to the tables, which object moves into a freed slot, and the steps. `old` are the tables before, `new` those after.
+-- What freeing a used slot does to the tables, whether an object moves into a freed slot and which one, and the steps. `old` are the tables before, `new` those
+-- after.
 use Rattle.std.specs.Prelude.{◌≡◌, ◌≢◌, ℕ, Bool, true, false, ◌<◌, List, [], ◌∷◌, length, Some, nat_eq, slice_get, slice_index_or, slice_set, if◌then◌else◌}
 use Rattle.std.specs.List.{Contains, position}
 use Rattle.size_classes.specs.Table.{ClassTable}
@@ -65,6 +66,6 @@ drop_slot_steps t page = drop_steps (used_in (slots_on t page)) (length (slots_o
 abbrev pub steps_to_vacate : Which → ℕ → ℕ
 steps_to_vacate which used = if nat_eq used 1 then 9 else elim which [ Full ↦ 12 | NotFull ↦ 4 ]
 
--- the steps of `fill_slot`: finding and freeing the slot of the object that moves into a freed slot of class c
+-- the steps of `fill_slot`: finding and freeing the slot of the object that moves into a freed slot of class c; 0 if the class has no partly full page
 abbrev pub fill_slot_steps : Tables → ℕ → ℕ
 fill_slot_steps t c = elim (pages_in t.lists c NotFull) [ [] ↦ 0 | page ∷ rest ↦ fill_steps (used_in (slots_on t page)) ]

@@ -1,4 +1,5 @@
--- The tables of pages, which show the used slots of each page and the pages of each class: what they mean, and their rules.
+-- The tables of pages, which show the used slots of each page and the pages of each class: what they mean, their rules, the address of a slot and the slot at
+-- an address, the pages of other owners (foreign ones), and how a page joins or leaves a list.
 use Rattle.std.specs.Prelude.{◌≡◌, ℕ, Bool, true, false, ◌+◌, ◌*◌, ◌/◌, ◌%◌, ◌^◌, ◌<◌, ◌⊎◌, List, [], ◌∷◌, length, Some, count_by, slice_get, slice_index}
 use Rattle.std.specs.Prelude.{slice_index_or}
 use Rattle.std.specs.List.{Contains}
@@ -65,7 +66,8 @@ pub record IsFreePage (t : Tables) (page : ℕ) : Type 0 where
   pub unlisted : IsUnlisted t.lists page
   pub unused : used_in (slots_on t page) ≡ 0
 
--- the page is in the list `which` of class c, and has the slots of a page of the class, used as the list asks: all, or some but not all (`HasUsed`)
+-- the page is not free, is in the list `which` of class c, and has the slots of a page of the class, used as the list asks: all, or some but not all
+-- (`HasUsed`)
 pub record IsPageOf (k : ClassTable) (t : Tables) (page c : ℕ) (which : Which) : Type 0 where
   pub taken : is_in_pool t.pool.free page ≡ false
   pub listed : Contains (pages_in t.lists c which) page
@@ -82,8 +84,8 @@ pub record IsForeign (t : Tables) (page : ℕ) : Type 0 where
 abbrev pub IsPlaced : ClassTable → Tables → ℕ → Type 0
 IsPlaced k t page = IsFreePage t page ⊎ (IsForeign t page ⊎ ((c : ℕ) × (which : Which) × IsPageOf k t page c which))
 
--- The rules of the tables: each page is free, foreign, or in one list of one class; in a list it has the slots of the class, all of them used or some but not
--- all.
+-- The rules of the tables: the slot sizes are those of a class table; the pages have fewer than 2^32 words in all; maps, lists and pool are of the same pages
+-- and classes. Each page is free, foreign, or in one list of one class; in a list it has the slots of the class, all of them used or some but not all.
 pub record AreTables (k : ClassTable) (t : Tables) : Type 0 where
   pub table : IsClassTable k.page_words k.sizes
   pub small : t.pool.pages * k.page_words < 2 ^ 32

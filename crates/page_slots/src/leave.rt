@@ -31,9 +31,10 @@ pub struct LeftSlot {
 
 impl PageTables {
     /// In page tables, clears and frees the slot `s`, and returns none; or, if `moves`, moves there
-    /// another object of its class, which the tables choose, and returns this object's handle. The
-    /// object's proxy gets the new address, and its old slot becomes free. Costs at most 14 steps
-    /// and one for each word; with a block table 15 and 3/2 for each word.
+    /// another object of its class, which the tables choose, and returns this object's handle. For
+    /// a move the class must have a partly full page; `MayLeave` has all that is required. The
+    /// moved object's proxy gets the new address, and its old slot becomes free. Costs at most 14
+    /// steps and one for each word; with a block table 15 and 3/2 for each word.
     #[inline(always)]
     pub fn leave_slot<A: Mapping>(
         &mut self,

@@ -1,8 +1,8 @@
 //! Laws of the order in which the tables use pages and slots (`order_of`): the slot that a call
 //! takes, or the object that it moves, is the next one. The order after the call and its steps are
-//! those that `page_model` computes. The order is one of the objects (`IsOrderOf`). `p` holds the
-//! pages and classes of the tables, `m` the objects at their used slots, by number, and `spare` the
-//! numbers without an object.
+//! those that `page_model` computes. The order of the tables is an order of the objects
+//! (`IsOrderOf`). `p` holds the pages and classes of the tables (`FitPagesShared`), `m` the objects
+//! at their used slots (`Occupies`), by number, and `spare` the numbers without an object.
 ghost use Rattle.std.specs.Prelude.{ℕ, ◌≡◌, ◌+◌, ◌<◌, List, None, Some, length, nat_eq, slice_get};
 ghost use Rattle.std.specs.List.{Contains, IsDistinct};
 ghost use Rattle.std.specs.FinMap.{get, len};

@@ -1,4 +1,5 @@
-//! `PageTables`: the size classes, the used slots and the free pages of a region.
+//! `PageTables`: the size classes, the used slots and the free pages of a region. `CLASSES`: the
+//! length of arrays with an entry for each class.
 ghost use Rattle.std.specs.Prelude.{◌/◌, ◌^◌, ◌<◌, ◌≤◌};
 
 use cf_base::{BytesNeeded, Layout, OutOfMemory, Settings};
@@ -12,7 +13,9 @@ pub const CLASSES: usize = 128;
 
 /// What all owners of a region's pages share: the size classes, the maps of the slots of all pages,
 /// and the pool of free pages. An owner is a heap, or a task of the heap of tasks; it lists the
-/// pages that it uses, by class, in a `ClassLists`.
+/// pages that it uses, by class, in a `ClassLists`. The public calls that choose, take or free a
+/// slot require that the tables, with the owner's lists, keep their rules (`AreTables`), and that
+/// they have the class. They keep these rules, and leave the pages of other owners unchanged.
 #[derive(Drop)]
 pub struct PageTables {
     pub classes: Classes,

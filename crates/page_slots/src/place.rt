@@ -14,7 +14,8 @@ pub(crate) fn slot_of(classes: &Classes, c: u32, address: u32) -> u32
     classes.offset_of(address) / classes.slot_words(c)
 }
 
-/// In page tables, the address of slot number `slot` of class c on a page.
+/// In page tables, the address of slot number `slot` of class c on a page. Pages of the class must
+/// have this slot, and the page must end below word 2^32.
 pub(crate) fn address_of(classes: &Classes, c: u32, page: u32, slot: u32) -> u32
     requires table { IsClassTable classes.now.page_words classes.now.sizes }
     requires class { c < length classes.now.sizes }

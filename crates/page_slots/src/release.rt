@@ -1,7 +1,7 @@
-//! Frees a used slot of a page (`drop_slot`), or chooses the object that moves into the slot
-//! (`filler`), and frees the old slot of that object (`fill_slot`). `must_move` returns whether a
-//! free moves an object. `lists` has for each class the pages that one owner, a heap or a task,
-//! uses.
+//! Frees the slot of an object that is freed or has moved away (`drop_slot`) or, if another object
+//! moves into this slot, the old slot of that object (`fill_slot`). `must_move` returns whether one
+//! must move, and `filler` the address of the one that does. `lists` has for each class the pages
+//! that one owner, a heap or a task, uses.
 ghost use Rattle.std.specs.Prelude.{◌≡◌, ◌≢◌, ℕ, ◌<◌, ◌≤◌, [], ◌↔◌, IsTrue, length, false, true, slice_get, slice_index_or};
 ghost use Rattle.std.specs.List.{Contains, position};
 ghost use Rattle.step_ledger.specs.Counting.{RoseAtMost, RoseBy};
@@ -22,8 +22,8 @@ use step_ledger::Steps;
 
 impl PageTables {
     /// In page tables, returns whether a free of the slot of class c at the address `at` must move
-    /// an object: its page is full and has several slots, and the class has exactly `bound` partly
-    /// full pages. Costs one step.
+    /// an object: the slot's page is full and has several slots, and the class has exactly `bound`
+    /// partly full pages. Costs one step.
     pub fn must_move(
         &self,
         lists: &ClassLists,

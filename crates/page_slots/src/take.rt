@@ -116,7 +116,8 @@ fn list_as_full_if_filled(
 }
 
 /// In page tables, adds a page of class c with `slots` slots, one of them used, to a list of its
-/// class: to the full pages if `slots` is 1, else to the partly full ones. Costs four steps.
+/// class: to the full pages if `slots` is 1, else to the partly full ones. The page must be in no
+/// list. Costs four steps.
 #[inline(always)]
 fn join_with_one(lists: &mut ClassLists, c: u32, page: u32, slots: u32, steps: &mut Steps)
     requires class { c < lists.old.classes }

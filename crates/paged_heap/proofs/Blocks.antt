@@ -1,5 +1,5 @@
 -- For `free`, `resize`, `set_bound` and `block` of `PagedHeap`: the blocks and the physical words of the other objects, the class that gets a bound, and the
--- blocks of one object.
+-- blocks of one object, with the steps of `block`.
 use Rattle.std.proofs.Common.{◌≡◌, ℕ, ◌+◌, ◌/◌, ◌%◌, ◌<◌, ◌≤◌, true, false, length, get_or, Option, Some, None, Result, Ok, Err, arith, refl, sym, ap, subst}
 use Rattle.std.specs.Prelude.{nat_eq, nat_lt, position}
 use Rattle.std.proofs.lemmas.Bool.Decides.{nat_tests}

@@ -1,5 +1,5 @@
--- For `set_bound`: while no object is live, the heap keeps its invariant when a class gets another bound. For `class_with`: the class that a search by slot
--- size finds.
+-- For `set_bound`: while no object is live, a class gets another bound; the heap keeps its invariant, and nothing else in its state changes. For `class_with`:
+-- the class, if any, that a search by slot size finds.
 use Rattle.std.proofs.Common.{◌≡◌, ◌≢◌, ℕ, ◌<◌, ◌≤◌, length, set, get_or, Some, None, arith, refl, sym, ◌∙◌, ap, subst, inl, inr}
 use Rattle.std.specs.Prelude.{◌⊎◌, nat_eq, position}
 use Rattle.std.proofs.lemmas.Bool.{cases_eq}

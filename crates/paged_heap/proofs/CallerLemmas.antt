@@ -1,4 +1,5 @@
--- What other crates' proofs may cite: the bytes of each object, and that a heap in whose words bytes of an object were written keeps its invariant.
+-- What other crates' proofs may cite: the object at a live number's address, and which bytes lie in it; and that after a write into the words of an object the
+-- heap keeps its invariant, and its state has the written bytes.
 use Rattle.std.proofs.Common.{◌≡◌, ℕ, ◌+◌, ◌≤◌, length, Some, None}
 use Rattle.std.specs.FinMap.{get}
 use Rattle.page_model.specs.Bytes.{bytes_at}

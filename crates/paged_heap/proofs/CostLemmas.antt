@@ -1,5 +1,5 @@
--- For the clauses `cost` of `malloc_inner` and `free_inner`: the steps of a call's parts add up to its exact cost, which the order determines. The tables and
--- the order yield the same steps.
+-- For the clauses `cost` of mallocs, frees and resizes: the tables and the order yield the same steps of taking, freeing and filling a slot; and the steps of a
+-- malloc's and a free's parts add up to the exact cost, which the order determines.
 use Rattle.std.proofs.Common.{◌≡◌, ℕ, ◌+◌, ◌<◌, length, get_or, Option, None, Some, Ok, arith, refl, sym, ◌∙◌, ap, subst}
 use Rattle.std.specs.Prelude.{IsSome, slice_get}
 use Rattle.std.proofs.lemmas.Bool.{false≢true}

@@ -1,4 +1,5 @@
--- For `empty`: an open heap of new parts (`IsFirst`) keeps its invariant, and its state is that of an empty heap, with pages and numbers in rising order.
+-- For `empty`: an open heap of new parts (`IsFirst`) keeps its invariant, and its state is that of an empty heap, with pages and numbers in rising order. For
+-- `set_bound` too: a heap that holds nothing has no objects.
 use Rattle.std.proofs.Common.{◌≡◌, ℕ, ◌*◌, ◌<◌, ◌≤◌, [], length, take, replicate, get_or, arith, sym, ◌∙◌, ap, subst}
 use Rattle.std.proofs.lemmas.List.{get_or-replicate, length-replicate, take-replicate}
 use Rattle.std.specs.FinMap.{empty}

@@ -1,5 +1,5 @@
--- For `figures` and `totals`: the lengths of the page lists, of the pool and of the proxies are the model's counts of pages and objects. So each number that
--- the code returns is the model's.
+-- For `pages_of`, `not_full`, `free_pages` and `totals`: the lengths of the page lists, of the pool and of the proxies are the model's counts of pages and
+-- objects, so that each number that the code returns is the model's. A class has at most 4,096 pages. Mallocs too use the count of partly full pages.
 use Rattle.std.proofs.Common.{◌≡◌, ℕ, ◌+◌, ◌*◌, ◌≤◌, length, arith, refl, sym, ◌∙◌}
 use Rattle.std.specs.Prelude.{if◌then◌else◌, nat_eq}
 use Rattle.std.specs.FinMap.{len}

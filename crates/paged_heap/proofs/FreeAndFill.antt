@@ -1,5 +1,5 @@
--- For `free_object`, a free that moves another object to the freed slot: that object is the next one of the order, its words and its proxy can be moved, and
--- the heap keeps its invariant.
+-- For `free_object`, a free that moves another object to the freed slot: that object is the next one of the order, and its header holds its number; the heap
+-- after `leave_slot`, by its fields; and that this heap keeps its invariant.
 use Rattle.std.proofs.Common.{◌≡◌, ℕ, ◌/◌, ◌%◌, ◌^◌, ◌<◌, ◌∷◌, List, length, get_or, Some, arith, sym, ◌∙◌, ap, subst}
 use Rattle.std.specs.FinMap.{get, insert, remove}
 use Rattle.cf_base.proofs.Maps.{get_inserted}

@@ -1,5 +1,5 @@
--- For a free, with a move or without one: the counts of the freed object, and the heap afterwards, which keeps its invariant if objects, words, tables and
--- counts change together.
+-- For a free, with a move or without one: the counts of the freed object, which resizes use too; and the heap afterwards, which keeps its invariant if objects,
+-- words, tables and counts change together, and follows the order if its tables do.
 use Rattle.std.proofs.Common.{◌≡◌, ℕ, ◌-◌, ◌*◌, ◌<◌, ◌≤◌, ◌∷◌, length, get_or, set, Option, arith, sym, ◌∙◌, ap, subst}
 use Rattle.std.specs.Prelude.{nat_eq}
 use Rattle.std.proofs.lemmas.List.{length-set}

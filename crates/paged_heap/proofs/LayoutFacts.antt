@@ -1,5 +1,6 @@
--- What follows from an open heap's invariant: its tables have the pages and classes of its settings, a live number's proxy has its object's address, and it
--- keeps the rules of a manager and promises an order.
+-- What follows from an open heap's invariant: its kind has pages, its tables have the pages and classes of its settings, its bounds are at most 64, it owns its
+-- objects, and each live number is below the number of proxies. It keeps the rules of a manager and, open or closed, promises an order. Also, an open heap with
+-- other tables.
 use Rattle.std.proofs.Common.{◌≡◌, ℕ, ◌<◌, ◌≤◌, length, take, get_or, Option, Some, None, arith, refl, sym, ◌∙◌, ap, subst, inl, inr}
 use Rattle.std.specs.Prelude.{IsSome, IsTrue, is_some}
 use Rattle.std.proofs.lemmas.Bool.{cases_lt, false≢true}

@@ -1,5 +1,5 @@
--- For `malloc_inner` and `has_room`: when a slot and a number are free, why a malloc is refused otherwise, and the parts of a malloc put together: the slot,
--- the number, the counts.
+-- For mallocs, `has_room` and `enter_class`: when a slot and a number are free, why a malloc is refused otherwise, and the parts of a malloc put together: the
+-- slot, which is in the region, the number, the counts. What a malloc does is independent of the stored cost.
 use Rattle.std.proofs.Common.{◌≡◌, ◌≢◌, ℕ, ◌+◌, ◌*◌, ◌<◌, ◌∷◌, length, get_or, set, None, Some, Result, Ok, Err, arith, refl}
 use Rattle.std.proofs.Common.{sym, ◌∙◌, ap, subst, inl, inr}
 use Rattle.std.proofs.lemmas.Bool.{cases_lt}

@@ -1,4 +1,5 @@
--- For `malloc_inner`: the heap keeps its invariant with a new object in a free slot (`IsAdded`), and the number and the slot are the next ones of the order.
+-- For `malloc_inner`: with a new object in a free slot (`IsAdded`) the heap keeps its invariant, its state has that object too, all zeros, and the number and
+-- the slot are the next ones of the order.
 use Rattle.std.proofs.Common.{◌≡◌, ℕ, ◌+◌, ◌*◌, ◌^◌, ◌<◌, ◌≤◌, ◌∷◌, length, get_or, set, replicate, Option, Some, None, arith, refl, sym, ◌∙◌, ap, subst}
 use Rattle.std.specs.Prelude.{IfSome, nat_eq, option_map}
 use Rattle.std.proofs.lemmas.List.{length-set, length-replicate}

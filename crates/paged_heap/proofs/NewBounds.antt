@@ -1,5 +1,5 @@
--- For `set_bounds`: the heap keeps its invariant when the settings and all classes get another bound, if no class has more partly full pages. No other rule
--- is on the bounds.
+-- For `set_bounds`: the heap keeps its invariant when the settings and all classes get another bound, if no class has more partly full pages, and its state has
+-- these bounds.
 use Rattle.std.proofs.Common.{◌≡◌, ℕ, ◌*◌, ◌^◌, ◌<◌, ◌≤◌, length, take, get_or, replicate, arith, refl, ◌∙◌, ap}
 use Rattle.std.specs.Prelude.{IsTrue}
 use Rattle.std.proofs.lemmas.List.{get_or-replicate, get_or-take, length-replicate, take-replicate}

@@ -1,4 +1,4 @@
--- For a resize: the words of an object's slot, byte by byte, with its old length and with the new one.
+-- For a resize: the words of an object's slot, byte by byte, with its old length and with the new one. The object's number is below 2^32.
 use Rattle.std.proofs.Common.{◌≡◌, ℕ, zero, suc, ◌+◌, ◌*◌, ◌/◌, ◌%◌, ◌^◌, ◌<◌, ◌≤◌, List, length, get_or, arith, refl, sym, ◌∙◌, ap, inl, inr}
 use Rattle.std.proofs.lemmas.Bool.{cases_lt}
 use Rattle.std.proofs.lemmas.List.{get_or_past}

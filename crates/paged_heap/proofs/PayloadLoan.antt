@@ -1,5 +1,6 @@
--- For `payload_mut` and `lend`, which lend the whole words of an object, eight bytes to a word: after the borrow the heap keeps its invariant, and the object
--- has the words that were written.
+-- For `payload_mut` and `lend`, which lend the whole words of an object, eight bytes to a word: after the borrow the heap keeps its invariant and its rules,
+-- and the object has the words that were written. If the number has no object, nothing changes. To write over the words that `find_words` finds is to write
+-- over those.
 use Rattle.std.proofs.Common.{◌≡◌, ℕ, ◌+◌, ◌-◌, ◌*◌, ◌/◌, ◌%◌, ◌^◌, ◌<◌, ◌≤◌, List, ◌++◌, length, get_or, take, drop, Option, Some, None, arith, sym, ◌∙◌, ap}
 use Rattle.std.proofs.Common.{refl, subst, lit<, inl, inr}
 use Rattle.std.proofs.lemmas.Bool.{cases_lt, false≢true}

@@ -1,5 +1,5 @@
--- For `payload` and `find_words`: the words after an object's header that are lent are its whole words, eight bytes to a word. A number that is not live has
--- none. The steps of lending.
+-- For `payload`, `payload_mut` and `find_words`: the words after an object's header that are lent are its whole words, eight bytes to a word, and lie in the
+-- region. A number that is not live has none. The steps of lending.
 use Rattle.std.proofs.Common.{◌≡◌, ℕ, suc, ◌+◌, ◌*◌, ◌/◌, ◌^◌, ◌<◌, ◌≤◌, Bool, List, length, get_or, take, drop, Option, Some, None, arith, sym, refl, subst}
 use Rattle.std.proofs.Common.{◌∙◌, ap}
 use Rattle.std.proofs.lemmas.Grind.{same_number_lists}

@@ -1,5 +1,5 @@
--- For all calls: an open heap keeps its invariant if its objects, words, tables, proxies and counts change together (`Becomes`). Its state then has the new
--- objects.
+-- For all calls: an open heap keeps its invariant if its objects, words, tables, proxies and counts change together (`Becomes`), and its state then has the new
+-- objects; also if only the stored cost changes. Words can represent the objects of each valid heap (`AreStorable`).
 use Rattle.std.proofs.Common.{◌≡◌, ℕ, ◌<◌, length, get_or, arith, sym, ◌∙◌, ap, subst}
 use Rattle.cf_base.specs.declared.kind.Kind.{Kind}
 use Rattle.cf_base.specs.declared.kind.Kind.TheVariants.{Moving, NonMoving, Tlsf, HalfFit}

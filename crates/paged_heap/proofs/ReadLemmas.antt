@@ -1,4 +1,5 @@
--- For `find` and `read`: a live number's proxy has its object's address; the bytes that are read are the object's.
+-- For `find`, `place`, `read` and `write`: a live number's proxy has its object's address; which bytes pass the object's end; the bytes that are read are the
+-- object's.
 use Rattle.std.proofs.Common.{◌≡◌, ℕ, ◌+◌, ◌/◌, ◌%◌, ◌^◌, ◌<◌, ◌≤◌, List, length, get_or, Some, arith, sym, ◌∙◌, ap}
 use Rattle.std.specs.FinMap.{get}
 use Rattle.cf_base.proofs.MapValues.{get-map_values}

@@ -1,5 +1,5 @@
--- For `resize_to_class`, a resize to another class that moves another object (the filler) to the old slot: the filler is the next one of the order, and
--- the heap keeps its invariant.
+-- For `resize_to_class`, a resize to another class that moves another object (the filler) to the old slot: there is a filler, it is the next one of the order,
+-- its header holds its number, and its slot is apart from the old one; the heap after `leave_slot`, by its fields; and that this heap keeps its invariant.
 use Rattle.std.proofs.Common.{◌≡◌, ◌≢◌, ℕ, ◌+◌, ◌/◌, ◌%◌, ◌^◌, ◌<◌, ◌≤◌, List, length, get_or, Some, None, arith, sym, ◌∙◌, ap, subst, inl, inr}
 use Rattle.std.specs.Prelude.{◌⊎◌, IsSome, is_some}
 use Rattle.std.proofs.lemmas.Bool.{cases_eq}

@@ -1,5 +1,5 @@
--- For `copy_to_slot`: after an object is copied to a slot of another class, that slot has its header and its bytes, then zeros. No word outside of its two
--- slots has changed.
+-- For resizes to another class: after `copy_to_slot` copied the object to a slot of that class, that slot has its header and its bytes, then zeros, and no word
+-- outside of its two slots has changed.
 use Rattle.std.proofs.Common.{◌≡◌, ◌≢◌, ℕ, zero, suc, ◌+◌, ◌*◌, ◌/◌, ◌%◌, ◌^◌, ◌<◌, ◌≤◌, List, length, get_or, set, arith, sym, ◌∙◌, ap, inl, inr}
 use Rattle.std.specs.Prelude.{◌⊎◌}
 use Rattle.std.proofs.lemmas.Bool.{cases_lt}

@@ -1,4 +1,5 @@
--- For the clauses `cost` of a resize: the steps of its parts, in the same slot and to another class, add up to its exact cost, which the order determines.
+-- For the clauses `cost` of a resize: the steps of its parts, in the same slot and to another class, add up to its exact cost, which the order determines. The
+-- most steps of a resize are below 2^62.
 use Rattle.std.proofs.Common.{◌≡◌, ℕ, ◌+◌, ◌*◌, ◌^◌, ◌<◌, List, true, false, length, Option, None, Some, Result, Ok, Err, arith, sym, ◌∙◌, ap, subst}
 use Rattle.std.specs.Prelude.{IfErr, IsSome, if◌then◌else◌, nat_eq, slice_get}
 use Rattle.std.proofs.lemmas.Bool.{false≢true}

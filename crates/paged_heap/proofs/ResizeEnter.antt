@@ -1,5 +1,5 @@
 -- For `enter_class`, the first half of a resize to another class: the object takes a free slot, apart from its old one, and both classes are counted anew; or
--- no slot is free, and nothing changes.
+-- there is none, nothing changes, and the resize is refused. Also, a number that no object has (`none_spare`).
 use Rattle.std.proofs.Common.{◌≡◌, ℕ, ◌+◌, ◌-◌, ◌*◌, ◌/◌, ◌≤◌, length, get_or, set, Option, Some, None, Err, arith, refl, sym, ◌∙◌, ap, subst, inl, inr}
 use Rattle.std.proofs.lemmas.List.{get_or-set_other}
 use Rattle.proxy_table.specs.Proxies.{AreBelowLimit, with_place}

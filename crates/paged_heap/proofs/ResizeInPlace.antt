@@ -1,5 +1,5 @@
 -- For `resize_in_place` and `zero_tail`: an object gets another length in its slot, and the bytes that are cut off become zeros. The heap keeps its invariant
--- and its order.
+-- and its order. For resizes to another class too: an object's bytes lie in its slot and in the region.
 use Rattle.std.proofs.Common.{◌≡◌, ◌≢◌, ℕ, zero, suc, ◌+◌, ◌-◌, ◌*◌, ◌/◌, ◌%◌, ◌^◌, ◌<◌, ◌≤◌, List, length, get_or, set, take, drop, replicate, None, arith}
 use Rattle.std.proofs.Common.{sym, ◌∙◌, ap, subst, inl, inr}
 use Rattle.std.proofs.lemmas.Bool.{cases_eq, cases_lt}

@@ -1,5 +1,5 @@
--- For `resize_inner`: a length without a class is larger than a page, and a length of another class makes a change of class (`IsChange`). The most steps of a
--- resize. What it does is independent of the stored cost.
+-- For `resize` and `resize_inner`: a length without a class is larger than a page, and a length of another class makes a change of class (`IsChange`). The most
+-- steps of a resize. What a resize does is independent of the stored cost.
 use Rattle.std.proofs.Common.{◌≡◌, ◌≢◌, ℕ, ◌+◌, ◌/◌, ◌<◌, ◌≤◌, length, get_or, Some, None, Result, Ok, Err, arith, sym, ◌∙◌, ap, subst, inl, inr}
 use Rattle.std.specs.Prelude.{IfErr}
 use Rattle.cf_base.specs.declared.results.ResizeFault.TheVariants as resize

@@ -1,5 +1,5 @@
--- For the clauses `steps` and `bound`: a range of words within a slot costs the same wherever the slot begins. The steps of a read, a write, a cut and a copy,
--- and the most of a resize in place.
+-- For the clauses `steps` and `bound`: a range of words within a slot costs the same wherever the slot begins; the steps of a read, a write, a cut and a copy,
+-- and the most of a resize in place. The most steps of a call are within the bounds of `Manager`. Also, two classes have two slot sizes.
 use Rattle.std.proofs.Common.{◌≡◌, ◌≢◌, ℕ, ◌+◌, ◌-◌, ◌*◌, ◌/◌, ◌%◌, ◌<◌, ◌≤◌, List, get_or, Ok, Err, arith, refl, sym, ◌∙◌, ap, subst, inl, inr}
 use Rattle.std.specs.Prelude.{Result, if◌then◌else◌, length, min, nat_lt}
 use Rattle.std.proofs.lemmas.Bool.{cases_eq, cases_lt}

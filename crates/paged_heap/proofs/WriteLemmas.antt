@@ -1,5 +1,5 @@
--- For `write` and `resize_in_place`: the heap keeps its invariant when an object gets other bytes of its class in its slot. A write replaces just the bytes of
--- its range; without bytes it changes nothing.
+-- For writes and resizes: how the counts change when an object gets other bytes, and that the heap keeps its invariant if these are of its class and in its
+-- slot. A write replaces just the bytes of its range; without bytes it changes nothing.
 use Rattle.std.proofs.Common.{◌≡◌, ℕ, ◌+◌, ◌*◌, ◌/◌, ◌%◌, List, [], ◌∷◌, length, get_or, Some, arith, refl, sym, ◌∙◌, ap, subst}
 use Rattle.std.specs.Prelude.{nat_eq}
 use Rattle.std.specs.FinMap.{get, insert, remove}

@@ -1,4 +1,4 @@
--- The most steps of a malloc, a free and a resize; some call takes exactly that number. The steps of reads and writes are exact for every call.
+-- The most steps of a malloc, a free and a resize; with some sizes a call takes exactly that number. The steps of reads and writes are exact for every call.
 use Rattle.std.specs.Prelude.{ℕ, ◌+◌, ◌-◌, ◌*◌, ◌/◌, Result, Ok, Err, if◌then◌else◌, min, nat_eq}
 use Rattle.cf_base.specs.declared.results.AccessFault.{AccessFault}
 use Rattle.cf_base.specs.declared.results.AccessFault.TheVariants as access

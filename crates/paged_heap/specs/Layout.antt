@@ -1,5 +1,5 @@
--- For the clauses of `OpenHeap`: the state of a manager (`HeapState`) that an open or a closed heap shows, and the heap's invariant (`IsValid`, and with its
--- region `Holds`).
+-- For the clauses of `OpenHeap`: an open heap as the model sees it (its objects, tables, order, pages and classes); the state of a manager (`HeapState`) that
+-- an open or a closed heap shows; and the heap's invariant (`IsValid`, and with its region `Holds`).
 use Rattle.std.specs.Prelude.{◌≡◌, ℕ, ◌*◌, ◌≤◌, ◌<◌, [], true, Option, Some, None, length, take, slice_index}
 use Rattle.cf_base.specs.Settings.{profile_of}
 use Rattle.cf_base.specs.declared.kind.Kind.{Kind}

@@ -14,13 +14,15 @@ use Rattle.page_slots.specs.Needed.{table_bytes}
 use Rattle.class_lists.specs.Needed.{list_bytes}
 use Rattle.proxy_table.specs.Needed.{proxy_bytes}
 
--- the tables of the pages, the region, the lists of the pages of each class, and the proxies
+-- the memory that `OpenHeap::new` asks for: for the tables of the pages, the region, the lists of
+-- the pages of each class, and the proxies
 abbrev pub open_bytes : Profile → Layout → BytesNeeded
 open_bytes p layout =
     both (both (table_bytes p layout) (region_bytes (p.pages * p.page_words)))
     (both (list_bytes (length (sizes p.page_words layout)) p.pages) (proxy_bytes p.proxies))
 
--- an open heap of each kind with pages; the non-moving one has a block table
+-- the memory that opening a heap of this kind asks for, for the non-moving kind with a block table;
+-- no heap with pages is of the kind TLSF or Half-Fit
 abbrev pub paged_bytes : Kind → Profile → BytesNeeded
 paged_bytes Moving p = open_bytes p Words
 paged_bytes NonMoving p = both (open_bytes p Blocks) (block_table_bytes p.pages (p.page_words / 4))

@@ -1,4 +1,5 @@
--- What contracts see of a manager with pages: the state that every manager has, and the physical words of its region.
+-- What contracts see of a manager with pages: the state that every manager has, and the physical words of its region; which word is which by the block table,
+-- and that the words of other objects stay in place.
 use Rattle.std.specs.Prelude.{◌≡◌, ◌≢◌, ℕ, ◌+◌, ◌*◌, ◌/◌, ◌<◌, ⊤, List, [], Option, Some, None, length, slice_index, refl}
 use Rattle.std.specs.Coded.{Coded, code_by, coded×, coded_ℕ, coded_list}
 use Rattle.std.specs.FinMap.{get}
@@ -42,7 +43,8 @@ OthersStayInPlace old h new = (q : ℕ) (x y : Placed) → q ≢ h → get old.s
     → i < slot_for (paging_in old.state) (length x.bytes) / 4 → j < 4
     → slice_index new.physical (4 * block_of old.state.frames x.place i + j) ≡ slice_index old.physical (4 * block_of old.state.frames x.place i + j)
 
--- `OthersStayInPlace` for the non-moving kind; the moving kind, which copies words, claims nothing
+-- `OthersStayInPlace` for the non-moving kind; the moving kind, which copies words, claims nothing, nor do the kinds
+-- with blocks
 abbrev pub OthersStayIn : Kind → PagedState → ℕ → PagedState → Type 0
 OthersStayIn Moving old h new = ⊤
 OthersStayIn NonMoving old h new = OthersStayInPlace old h new

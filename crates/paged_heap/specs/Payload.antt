@@ -1,4 +1,5 @@
--- The whole words of an object, eight bytes to a word, the least significant first. Bytes after the last whole word are not among them.
+-- For `payload`, `payload_mut` and `lend` of the moving manager: the whole words of an object, the most steps of lending them, and the state after other
+-- words were written over them. A word has eight bytes, the least significant first. Bytes after the last whole word are not lent.
 use Rattle.std.specs.Prelude.{ℕ, ◌+◌, ◌*◌, ◌/◌, ◌%◌, List, Option, Some, None, length, map, take, drop, slice_index, option_map, Bool, if◌then◌else◌}
 use Rattle.std.specs.List.{range_with_len}
 use Rattle.std.specs.FinMap.{get, insert}
@@ -34,7 +35,8 @@ bytes_of_words ws = map (λ i. byte_of (i % 8) (slice_index ws (i / 8))) (range_
 abbrev pub with_payload : List ℕ → List ℕ → List ℕ
 with_payload v ws = written v 0 (bytes_of_words (fit (length v / 8) ws))
 
--- the state after the words ws were written over the whole words of the object x of number q, which is the same in the region and among the objects' words
+-- the state after the words ws were written over the whole words of the object x, of number q: its bytes change, and alike the words that objects see and
+-- those of the region
 abbrev pub with_object : PagedState → ℕ → Placed → List ℕ → PagedState
 with_object s q x ws =
     record {

@@ -1,4 +1,4 @@
--- The open heap after a borrow of words of its region. No public clause cites this module.
+-- The open heap after a borrow of words of its region, and what `find_words` returns. No public clause cites this module.
 use Rattle.std.specs.Prelude.{ℕ, ◌+◌, ◌/◌, ◌^◌, Bool, true, false, List, Option, Some, None, slice_index}
 use Rattle.std.specs.Borrow.{Lends, MutBor, Fml, u64, Array}
 use Rattle.std.specs.FinMap.{get}

@@ -65,7 +65,7 @@ pub record EntersAt (h : Heap) (x : Change) (b : ℕ) (n : Heap) : Type 0 where
   pub asked : n.asked ≡ h.asked - x.length + x.bytes
   pub all_taken : n.taken ≡ h.taken - 8 * old_words h x + 8 * slice_index h.classes.sizes x.to
 
--- no slot of the object's new class is free in the heap h, and the heap n is unchanged
+-- in the heap h the object's new class has no partly full page, and no page is free; the heap n is unchanged
 pub record FindsNoRoom (h : Heap) (x : Change) (n : Heap) : Type 0 where
   pub lacking : LacksRoom (paging_at h) (held_in h) x.to
   pub tables : tables_in n ≡ tables_in h
@@ -76,7 +76,8 @@ abbrev pub EntersClass : Heap → Change → Option ℕ → Heap → Type 0
 EntersClass h x None n = FindsNoRoom h x n
 EntersClass h x (Some b) n = EntersAt h x b n
 
--- the most steps of a change of class in the heap h, by the kind, the kept words and the words of the old slot; none if refused
+-- the most steps of a change of class in the heap h, by the kind, the kept words and the words of the old slot; no steps if refused. In both cases the one
+-- step of `must_move` is not counted.
 abbrev pub changing_steps : Kind → Heap → Change → Result Resized ResizeFault → ℕ
 changing_steps kind h x (Ok done) = 27 + 3 * word_steps kind + copy_steps kind 1 (kept_words x) + slot_steps kind (old_words h x)
 changing_steps kind h x (Err e) = 0
@@ -85,7 +86,8 @@ changing_steps kind h x (Err e) = 0
 abbrev pub entering_cost : Heap → Change → ℕ
 entering_cost h x = steps_to_take (paging_at h) (held_in h) (order_in h) x.to + carrying_cost h.kind x.length x.bytes
 
--- the exact steps of a change of class: those of `enter_class`, and those of freeing or filling the old slot; none if refused
+-- the exact steps of a change of class, without the one step of `must_move`: those of `enter_class`, and those of freeing or filling the old slot; no steps if
+-- refused
 abbrev pub changing_cost : Heap → Change → Result Resized ResizeFault → ℕ
 changing_cost h x (Ok done) = entering_cost h x + leaving_cost (state_of h) (order_in h) (placed_at (owner_in h) x.place) done.moved
 changing_cost h x (Err e) = 0

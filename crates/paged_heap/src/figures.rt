@@ -1,4 +1,4 @@
-//! The figures of an open heap with pages: counts of live objects, bytes, pages and slots.
+//! The figures of an open heap with pages: counts of classes, live objects, bytes, pages and slots.
 ghost use Rattle.std.specs.Prelude.{◌≡◌, ◌*◌, ◌<◌, ◌≤◌, if◌then◌else◌, nat_eq, nat_lt, Some, None};
 ghost use Rattle.page_model.specs.Arrangement.{pages_of_class, not_full_pages, free_pages};
 ghost use Rattle.page_model.specs.Figures.{figures_of, totals_of};
@@ -12,7 +12,7 @@ use class_lists::Which;
 use virtual_words::Mapping;
 
 impl OpenHeap {
-    /// With pages, the number of size classes.
+    /// The number of size classes of an open heap with pages.
     pub fn class_count<A: Mapping>(&self) -> u32
         requires { Holds A.kind self.now }
         ensures value { result ≡ classes (paging_at (seen A.kind self.now)) }
@@ -21,7 +21,8 @@ impl OpenHeap {
         self.tables.classes.len()
     }
 
-    /// With pages, the number of pages of class c, full or partly full.
+    /// The number of pages of class c of an open heap, full or partly full. The heap must have this
+    /// class.
     pub fn pages_of<A: Mapping>(&self, c: u32) -> u32
         requires kept { Holds A.kind self.now }
         requires class { c < classes (paging_at (seen A.kind self.now)) }
@@ -30,7 +31,7 @@ impl OpenHeap {
         self.lists.len(c, Which::Full) + self.lists.len(c, Which::NotFull)
     }
 
-    /// With pages, the number of partly full pages of class c.
+    /// The number of partly full pages of class c of an open heap. The heap must have this class.
     pub fn not_full<A: Mapping>(&self, c: u32) -> u32
         requires kept { Holds A.kind self.now }
         requires class { c < classes (paging_at (seen A.kind self.now)) }
@@ -39,7 +40,7 @@ impl OpenHeap {
         self.lists.len(c, Which::NotFull)
     }
 
-    /// With pages, the number of free pages.
+    /// The number of free pages of an open heap with pages.
     pub fn free_pages<A: Mapping>(&self) -> u32
         requires { Holds A.kind self.now }
         ensures value { result ≡ free_pages (paging_at (seen A.kind self.now)) (held_in (seen A.kind self.now)) }
@@ -48,8 +49,8 @@ impl OpenHeap {
         self.tables.pool.left()
     }
 
-    /// With pages, the figures of class c: its slot size, slots of a page, live objects, pages and
-    /// partly full pages. None if there is no such class.
+    /// The figures of class c of an open heap with pages: its slot size, slots of a page, live
+    /// objects, pages and partly full pages. None if there is no such class.
     pub fn figures<A: Mapping>(&self, c: u32) -> Option<Figures>
         requires { Holds A.kind self.now }
         ensures { result ≡ if nat_lt c (classes (paging_at (seen A.kind self.now)))
@@ -62,7 +63,7 @@ impl OpenHeap {
         }
     }
 
-    /// With pages, the figures of class c, as `figures` returns them. The heap must have this
+    /// The figures of class c of an open heap, as `figures` returns them. The heap must have this
     /// class.
     fn figures_of<A: Mapping>(&self, c: u32) -> Figures
         requires kept { Holds A.kind self.now }
@@ -78,7 +79,7 @@ impl OpenHeap {
         }
     }
 
-    /// With pages, the figures of the whole heap: live objects, their bytes and those of their
+    /// The figures of a whole open heap with pages: live objects, their bytes and those of their
     /// slots, the used pages and their bytes, the free pages, and the words of a page if one is
     /// free, else 0.
     pub fn totals<A: Mapping>(&self) -> Totals
@@ -98,7 +99,7 @@ impl OpenHeap {
         }
     }
 
-    /// With pages, the number of bytes in `pages` pages of the heap.
+    /// The number of bytes in `pages` pages of an open heap. The heap must have so many pages.
     fn bytes_of<A: Mapping>(&self, pages: u32) -> u64
         requires kept { Holds A.kind self.now }
         requires few { pages ≤ self.now.settings.pages }
@@ -107,8 +108,8 @@ impl OpenHeap {
         8 * u64::from(self.settings.page_words) * u64::from(pages)
     }
 
-    /// With pages, the figure `largest`: the words of a page, or 0 if `free`, the number of free
-    /// pages, is 0.
+    /// The figure `largest` of an open heap with pages: the words of a page, or 0 if `free`, the
+    /// number of free pages, is 0.
     fn largest(&self, free: u32) -> u32
         ensures { result ≡ if nat_eq free 0 then 0 else self.now.settings.page_words }
     {

@@ -20,11 +20,11 @@ use step_ledger::Steps;
 use virtual_words::Mapping;
 
 impl OpenHeap {
-    /// With pages, frees an object; fails if the handle is not live, and then changes only `cost`.
-    /// If its page was full, has several slots, and the class has as many partly full pages as its
-    /// bound, another object moves to the freed slot: the one at the lowest used slot of the
-    /// class's first partly full page. Else the slot is cleared. The next malloc that succeeds uses
-    /// the freed number. Sets `cost` to the steps of this call.
+    /// Frees an object of an open heap with pages; fails if the handle is not live, and then changes only `cost`. If
+    /// the object's page was full, has several slots, and the class has as many partly full pages as its bound, another
+    /// object moves to the freed slot: the one at the lowest used slot of the class's first partly full page. Else the
+    /// slot is cleared. The freed number becomes the next that a malloc uses. Sets `cost` to the steps of this call (at
+    /// most `free_steps`).
     pub fn free<A: Mapping>(&mut self, h: Handle, steps: &mut Steps) -> Result<Freed, NotLive>
         requires kept { Holds A.kind self.old }
         requires room { steps.old ≤ 2 ^ 63 }
@@ -41,8 +41,7 @@ impl OpenHeap {
         result
     }
 
-    /// With pages, frees an object as `free` does, but leaves `cost` unchanged. Fails if the handle
-    /// is not live.
+    /// Frees an object of an open heap as `free` does, but leaves `cost` unchanged. Fails if the handle is not live.
     fn free_inner<A: Mapping>(&mut self, h: Handle, steps: &mut Steps) -> Result<Freed, NotLive>
         requires { Holds A.kind self.old }
         ensures step { IsFreeStep (state_at A.kind self.old) h.0 result (state_at A.kind self.new) }
@@ -63,8 +62,9 @@ impl OpenHeap {
         Ok(self.free_object::<A>(h, place, length, c, moves, steps))
     }
 
-    /// With pages, frees the object h of class c, which has `length` bytes and the address `place`.
-    /// `moves` is whether another object of the class must move to its slot.
+    /// Frees the object h of class c of an open heap, which has `length` bytes and the address `place`. `moves` is
+    /// whether another object of the class must move to the freed slot. Costs at most 16 steps and one for each word of
+    /// the slot; non-moving 17 and 3/2 for each word.
     fn free_object<A: Mapping>(
         &mut self,
         h: Handle,
@@ -105,8 +105,9 @@ impl OpenHeap {
         Freed { slot_words, moved }
     }
 
-    /// With pages, takes an object of `bytes` bytes out of the counts: the live objects of class c, the bytes asked,
-    /// and the bytes taken, which are those of its slot of `slot_words` words. Costs no step.
+    /// Takes an object of `bytes` bytes out of an open heap's counts: the live objects of class c, the bytes asked, and
+    /// the bytes taken, which are those of its slot of `slot_words` words. The counts must include the object. Costs no
+    /// step.
     pub(crate) fn count_out(&mut self, c: u32, slot_words: u32, bytes: u32)
         requires words { slot_words ≡ slice_index self.old.tables.classes.sizes c }
         requires class { c < length self.old.tables.classes.sizes }

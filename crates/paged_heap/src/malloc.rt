@@ -27,10 +27,10 @@ use step_ledger::Steps;
 use virtual_words::Mapping;
 
 impl OpenHeap {
-    /// With pages, makes an object of `bytes` bytes, all zero, and returns its handle. The heap's
-    /// order determines the free number and the slot that it gets. Refused, in this order: `Size`
-    /// if it needs more than a page, `Proxy` if no number is free, `Space` if its class has no free
-    /// slot; then only `cost` changes. Sets `cost` to the steps of this call.
+    /// Makes an object of `bytes` bytes, all zero, in an open heap with pages, and returns its handle. The heap's order
+    /// determines the free number and the slot that the object gets. Refused, in this order: `Size` if it needs more
+    /// than a page, `Proxy` if no number is free, `Space` if its class has no partly full page and no page is free;
+    /// then only `cost` changes. Sets `cost` to the steps of this call, at most 17 moving, 18 non-moving.
     pub fn malloc<A: Mapping>(&mut self, bytes: u32, steps: &mut Steps) -> Result<Handle, Refusal>
         requires kept { Holds A.kind self.old }
         requires room { steps.old ≤ 2 ^ 63 }
@@ -47,8 +47,8 @@ impl OpenHeap {
         result
     }
 
-    /// With pages, makes an object as `malloc` does, or refuses it for the same causes, but leaves
-    /// `cost` unchanged.
+    /// Makes an object in an open heap as `malloc` does, or refuses it for the same causes, but leaves `cost`
+    /// unchanged.
     fn malloc_inner<A: Mapping>(&mut self, bytes: u32, steps: &mut Steps) -> Result<Handle, Refusal>
         requires { Holds A.kind self.old }
         ensures step { IsMallocStep (state_at A.kind self.old) bytes result (state_at A.kind self.new) }
@@ -66,8 +66,8 @@ impl OpenHeap {
         Ok(handle)
     }
 
-    /// With pages, returns what a malloc of `bytes` bytes would return now, without the handle:
-    /// `Ok`, or its refusal. Changes nothing, and costs one step.
+    /// Returns what a malloc of `bytes` bytes in an open heap with pages would return now, without the handle: `Ok`, or
+    /// its refusal. Changes nothing, and costs one step.
     pub fn has_room<A: Mapping>(&self, bytes: u32, steps: &mut Steps) -> Result<(), Refusal>
         requires { Holds A.kind self.now }
         ensures ok { IfOk result (λ u. (e : Refusal) → ¬ IsRefusedBy (state_at A.kind self.now) bytes e) }
@@ -80,9 +80,8 @@ impl OpenHeap {
         }
     }
 
-    /// With pages, returns the class of an object of `bytes` bytes, if a number and a slot of this
-    /// class are free. Else fails with the refusal that a malloc of `bytes` bytes returns. Costs
-    /// one step.
+    /// Returns the class of an object of `bytes` bytes in an open heap, if a number and a slot of this class are free.
+    /// Else fails with the refusal that a malloc of `bytes` bytes returns. Costs one step.
     fn class_with_room<A: Mapping>(&self, bytes: u32, steps: &mut Steps) -> Result<u32, Refusal>
         requires { Holds A.kind self.now }
         ensures class { IfOk result (λ c. Some c ≡ class_of self.now.tables.classes.sizes bytes) }
@@ -104,8 +103,8 @@ impl OpenHeap {
         }
     }
 
-    /// With pages, returns whether class c has a free slot: whether it has a partly full page, or a page is free. Costs
-    /// no step.
+    /// Returns whether class c of an open heap has a free slot: whether it has a partly full page, or a page is free.
+    /// Costs no step.
     pub(crate) fn has_slot(&self, c: u32) -> bool
         requires { c < self.now.lists.classes }
         ensures some { IsTrue result → HasSlot self.now.lists self.now.tables.pool c }
@@ -114,9 +113,8 @@ impl OpenHeap {
         self.lists.len(c, Which::NotFull) > 0 || self.tables.pool.left() > 0
     }
 
-    /// With pages, binds the next free number to the address `place`, writes the header of an
-    /// object of `bytes` bytes there, and returns the number. Costs three steps moving, four
-    /// non-moving.
+    /// Binds the next free number of an open heap to the address `place`, writes the header of an object of `bytes`
+    /// bytes there, and returns the number. A number must be free. Costs three steps moving, four non-moving.
     fn bind<A: Mapping>(&mut self, place: u32, bytes: u32, steps: &mut Steps) -> Handle
         requires laid { FitTable A.kind self.old.blocks self.old.region }
         requires some { map.len self.old.proxies.places ≢ self.old.proxies.limit }
@@ -143,8 +141,9 @@ impl OpenHeap {
         handle
     }
 
-    /// With pages, adds an object of `bytes` bytes to the counts: the live objects of class c, the bytes asked, and the
-    /// bytes taken, which are those of its slot. Costs no step.
+    /// Adds an object of `bytes` bytes to an open heap's counts: the live objects of class c, the bytes asked, and the
+    /// bytes taken, which are those of its slot. The counts must be at most those of 65,536 objects of 131,072 bytes.
+    /// Costs no step.
     pub(crate) fn count_in(&mut self, c: u32, bytes: u32)
         requires class { c < length self.old.tables.classes.sizes }
         requires listed { c < length self.old.live }

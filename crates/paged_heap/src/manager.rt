@@ -33,9 +33,9 @@ use std::marker::{Model, PhantomData};
 use step_ledger::Steps;
 use virtual_words::Mapped;
 
-/// The manager with pages of the kind `A`: `alloc` is the allocator with which it opens, and `inner`
-/// the heap while it is open. Contracts see the state that every manager has, and the physical words
-/// of the region.
+/// The manager with pages of the kind `A`: `alloc` is the allocator with which it opens, and `inner` the heap while it
+/// is open. Contracts see the state that every manager has, and the physical words of the region. The calls besides
+/// those of `Manager` need an open heap, but for `closed` and `bytes_needed`.
 #[derive(Drop)]
 pub struct PagedHeap<A: PageKind> {
     alloc: Global,
@@ -306,7 +306,7 @@ impl<A: PageKind> PagedHeap<A> {
         self.open().class_of::<A>(bytes, steps)
     }
 
-    /// `PagedHeap`: the number of pages of class c, full or partly full.
+    /// `PagedHeap`: the number of pages of class c, full or partly full. There must be such a class.
     pub fn pages_of(&self, c: u32) -> u32
         requires open { IsTrue self.now.state.is_open }
         requires class { c < classes_in self.now.state.kind self.now.state }
@@ -315,7 +315,7 @@ impl<A: PageKind> PagedHeap<A> {
         self.open().pages_of::<A>(c)
     }
 
-    /// `PagedHeap`: the number of partly full pages of class c.
+    /// `PagedHeap`: the number of partly full pages of class c. There must be such a class.
     pub fn not_full(&self, c: u32) -> u32
         requires open { IsTrue self.now.state.is_open }
         requires class { c < classes_in self.now.state.kind self.now.state }

@@ -1,4 +1,4 @@
-//! `OpenHeap`, the heap of the managers with pages while it is open, and how it is opened.
+//! `OpenHeap`, the heap of the managers with pages while it is open, how it is opened, and what memory that needs.
 ghost use Rattle.std.specs.Prelude.{◌≡◌, ◌*◌, ◌^◌, ◌<◌, length, replicate, IfOk};
 ghost use Rattle.cf_base.specs.declared.kind.Layout.{Layout};
 ghost use Rattle.cf_base.specs.Settings.{profile_of};
@@ -20,11 +20,12 @@ use region::Region;
 use std::alloc::Global;
 use virtual_words::Mapping;
 
-/// An open heap with pages. By class, `bounds` is how many pages may be partly full, and `live` the
-/// number of live objects. `asked` and `taken` are the bytes of all objects and of their slots. `cost`
-/// is the steps of the last malloc, free or resize, 0 before the first. `blocks` is the block table,
-/// which only the non-moving manager has. `tables` has the slot sizes, the used slots of each page and
-/// the free pages, `lists` the pages of each class, and `proxies` the objects' addresses by number.
+/// An open heap with pages. By class, `bounds` is how many pages may be partly full, and `live` the number of live
+/// objects. `asked` and `taken` are the bytes of all objects and of their slots. `cost` is the steps of the last
+/// malloc, free or resize, 0 before the first. `blocks` is the block table, which only the non-moving manager has.
+/// `tables` has the slot sizes, the used slots of each page and the free pages, `lists` the pages of each class, and
+/// `proxies` the address of each object by its number, which is that of its proxy. The public calls require and keep
+/// the heap's invariant (`Holds`); before a malloc, free or resize the ledger's count must be at most 2 ^ 63.
 #[derive(Drop)]
 pub struct OpenHeap {
     pub settings: Settings,
@@ -41,9 +42,9 @@ pub struct OpenHeap {
 }
 
 impl OpenHeap {
-    /// With pages, opens a heap without objects: with the settings s, the slot sizes of this
-    /// layout, and this block table, if the kind has one. Fails if out of memory; no other call of
-    /// the heap allocates.
+    /// Opens a heap with pages without objects: with the settings s, the slot sizes of this layout, which must be the
+    /// kind's, and the block table of a new heap (`IsFirstTable`), if the kind has one. Fails if out of memory; no
+    /// other call of the heap allocates.
     pub fn new<A: Mapping>(
         alloc: Global,
         s: &Settings,
@@ -62,7 +63,7 @@ impl OpenHeap {
         Ok(OpenHeap::empty::<A>(s, region, blocks, tables, lists, proxies))
     }
 
-    /// The memory that `OpenHeap::new` with pages asks for.
+    /// The memory that `OpenHeap::new` asks for.
     pub(crate) fn bytes_needed(s: &Settings, layout: Layout) -> BytesNeeded
         ensures needed { result ≡ open_bytes (profile_of s.now) layout }
         ensures few { result.total < 2 ^ 44 }
@@ -74,7 +75,7 @@ impl OpenHeap {
         words.and(lists.and(ProxyTable::bytes_needed(s.proxies)))
     }
 
-    /// With pages, returns the open heap that consists of these parts, which have no objects.
+    /// Returns the open heap with pages that consists of these parts, which must be those of a heap without objects.
     fn empty<A: Mapping>(
         s: &Settings,
         region: Region,

@@ -58,7 +58,8 @@ impl PagedHeap<Direct> {
     }
 }
 
-/// Lends the whole words of an object for reading; none if the handle is not live.
+/// Lends the whole words of an object of an open heap for reading; none if the handle is not live. Costs as much as
+/// `PagedHeap::payload`.
 fn payload<'a>(heap: &'a OpenHeap, h: Handle, steps: &mut Steps) -> Option<&'a [u64]>
     requires kept { Holds Moving heap.now }
     ensures value { option_copied result ≡ payload_of (state_at Moving heap.now) h.0 }
@@ -71,8 +72,8 @@ fn payload<'a>(heap: &'a OpenHeap, h: Handle, steps: &mut Steps) -> Option<&'a [
     Some(heap.region.payload(place + 1, count, steps))
 }
 
-/// Returns whether the handle is live, and lends the whole words of its object for writing; no words if
-/// it is not live.
+/// Returns whether the handle is live, and lends the whole words of its object for writing; no words if it is not live.
+/// Costs as much as `PagedHeap::lend`; after the borrow the object has the words that were written.
 fn payload_mut<'a>(heap: &'a mut OpenHeap, h: Handle, steps: &mut Steps) -> (bool, &'a mut [u64])
     requires kept { Holds Moving heap.old }
     ensures* writes_back { sem 𝓛 (LendsPayloadOf heap.entry h.0 result.1) }
@@ -83,8 +84,8 @@ fn payload_mut<'a>(heap: &'a mut OpenHeap, h: Handle, steps: &mut Steps) -> (boo
     (live, run_of(heap, first, count, steps))
 }
 
-/// Returns whether the handle is live, the index in the region of the first of its object's whole
-/// words, and how many these are; both numbers are 0 if it is not live.
+/// Returns whether the handle is live, the index in the region of the first of its object's whole words, and how many
+/// these are; both numbers are 0 if it is not live. Costs at most two steps.
 fn find_words(heap: &OpenHeap, h: Handle, steps: &mut Steps) -> (bool, u32, u32)
     requires kept { Holds Moving heap.now }
     ensures found { result ≡ words_found heap.now (map.get heap.now.proxies.places h.0) }
@@ -100,8 +101,8 @@ fn find_words(heap: &OpenHeap, h: Handle, steps: &mut Steps) -> (bool, u32, u32)
     }
 }
 
-/// For a payload, lends `count` words of the region from word `first` on, for writing. After the borrow the region has
-/// the words that were written. Costs a step for each word.
+/// Lends `count` words of an open heap's region, which must have them, from word `first` on, for writing. After the
+/// borrow the region has the words that were written. Costs a step for each word.
 fn run_of<'a>(heap: &'a mut OpenHeap, first: u32, count: u32, steps: &mut Steps) -> &'a mut [u64]
     requires within { first + count ≤ length heap.old.region }
     ensures* writes_back { sem 𝓛 (LendsRun heap.entry first count result) }

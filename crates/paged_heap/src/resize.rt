@@ -24,12 +24,11 @@ use step_ledger::Steps;
 use virtual_words::Mapping;
 
 impl OpenHeap {
-    /// With pages, changes an object's length to `bytes` bytes; added bytes are zeros. If its class
-    /// changes, the object moves to a slot of the new class, which the heap's order determines. Its
-    /// old slot is then freed as by `free`. Fails, in this order, if the handle is not live
-    /// (`Unknown`), the length needs more than a page (`Size`), or the class changes and the new
-    /// one has no free slot (`Space`); then only `cost` changes. Sets `cost` to the steps of this
-    /// call.
+    /// Changes the length of an object of an open heap with pages to `bytes` bytes; added bytes are zeros. If its class
+    /// changes, the object moves to a slot of the new class, which the heap's order determines. Its old slot is then
+    /// freed as by `free`. Fails, in this order, if the handle is not live (`Unknown`), the length needs more than a
+    /// page (`Size`), or the class changes, the new one has no partly full page and no page is free (`Space`); then
+    /// only `cost` changes. Sets `cost` to the steps of this call (at most `resize_steps`).
     pub fn resize<A: Mapping>(
         &mut self,
         h: Handle,
@@ -51,8 +50,8 @@ impl OpenHeap {
         result
     }
 
-    /// With pages, changes an object's length as `resize` does, or fails for the same causes, but
-    /// leaves `cost` unchanged.
+    /// Changes the length of an object of an open heap as `resize` does, or fails for the same causes, but leaves
+    /// `cost` unchanged.
     fn resize_inner<A: Mapping>(
         &mut self,
         h: Handle,
@@ -92,7 +91,8 @@ impl OpenHeap {
     }
 
     /// Resizes the object h of class c at the address `place` from `length` to `bytes` bytes, also
-    /// a length of class c. The object stays in its slot.
+    /// a length of class c. The object stays in its slot. Costs as much as `zero_tail`, and one step
+    /// moving, two non-moving, for the header.
     pub(crate) fn resize_in_place<A: Mapping>(
         &mut self,
         h: Handle,
@@ -128,8 +128,10 @@ impl OpenHeap {
         }
     }
 
-    /// In a resize, clears the bytes of an object from byte `keep` on, up to the end of the word that has its byte
-    /// `bytes - 1`. The object's header is the word `place`. Does nothing if `keep` is `bytes` or more.
+    /// In a resize, clears the bytes of an object from byte `keep` on, up to the end of the word of its byte
+    /// `bytes - 1`, which must be in the region. The object's header is the word `place`. Does nothing if `keep` is
+    /// `bytes` or more. Costs a step for each word that holds such a byte; non-moving one more for the first of these
+    /// words, and one for each block that the others are in (`tail_steps`).
     pub(crate) fn zero_tail<A: Mapping>(
         &mut self,
         place: u32,

@@ -35,8 +35,8 @@ pub(crate) struct Change {
 }
 
 impl Change {
-    /// In a resize, the number of words that hold the kept bytes, without the header. The kept
-    /// bytes are those that both the old and the new length have.
+    /// The number of words that hold the bytes kept by a resize, without the header. The kept bytes are those that both
+    /// the old and the new length have.
     fn words(self) -> u32
         ensures { result ≡ kept_words self }
     {
@@ -45,9 +45,9 @@ impl Change {
 }
 
 impl OpenHeap {
-    /// With pages, does the resize `x`: moves the object to a slot of its new class, and frees its
-    /// old slot, into which another object may move. Fails with `Space`, with the objects
-    /// unchanged, if the new class has no free slot.
+    /// Does the resize `x` of an object of an open heap: moves the object to a slot of its new class, and frees its old
+    /// slot, into which another object may move. Fails with `Space`, with the objects unchanged, if the new class has
+    /// no partly full page and no page is free. Costs at most `1 + changing_steps`; one step if it fails.
     pub(crate) fn resize_to_class<A: Mapping>(
         &mut self,
         x: Change,
@@ -94,8 +94,9 @@ impl OpenHeap {
     }
 
     /// Begins the resize `x`: takes a slot of the new class, copies the object there, changes the counts
-    /// of both classes, and returns the new address. The old slot stays used in the tables. Returns none
-    /// if no slot of the new class is free; then nothing changes.
+    /// of both classes, and returns the new address. The old slot stays used in the tables. Returns none if
+    /// the new class has no partly full page and no page is free; then nothing changes, at no step. Else
+    /// costs `entering_cost`.
     fn enter_class<A: Mapping>(&mut self, x: Change, steps: &mut Steps) -> Option<u32>
         requires kept { Holds A.kind self.old }
         requires change { IsChange (seen A.kind self.old) x }
@@ -120,7 +121,8 @@ impl OpenHeap {
 
     /// Copies the bytes that the resize `x` keeps to the slot at the address `to`, and clears their
     /// words in the old slot. Then writes a header with the new length at `to`, and changes the
-    /// address in the proxy. The caller clears or fills the old slot.
+    /// address in the proxy. The caller clears or fills the old slot. The object must be live, and
+    /// both slots in the region and apart, non-moving at the same offset in a block.
     fn copy_to_slot<A: Mapping>(&mut self, x: Change, to: u32, steps: &mut Steps)
         requires laid { FitTable A.kind self.old.blocks self.old.region }
         requires live { IsSome (map.get self.old.proxies.places x.handle.0) }

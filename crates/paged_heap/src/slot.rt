@@ -1,4 +1,5 @@
-//! With pages, the words of an object's slot and the class of a length, for callers that plan a call.
+//! How many words an object's slot has in an open heap with pages, and the class of a length, for callers that plan a
+//! call.
 ghost use Rattle.std.specs.Prelude.{◌≡◌, option_map};
 ghost use Rattle.std.specs.FinMap as map;
 ghost use Rattle.step_ledger.specs.Counting.{RoseBy};
@@ -14,8 +15,8 @@ use step_ledger::Steps;
 use virtual_words::Mapping;
 
 impl OpenHeap {
-    /// With pages, the number of words of an object's slot; none if the handle is not live. Costs
-    /// three steps moving, four non-moving; one if not live.
+    /// The number of words of an object's slot in an open heap with pages; none if the handle is not live. Costs three
+    /// steps moving, four non-moving; one if not live.
     pub fn slot_words<A: Mapping>(&self, h: Handle, steps: &mut Steps) -> Option<u32>
         requires { Holds A.kind self.now }
         ensures value { result ≡ option_map (slot_in A.kind (state_at A.kind self.now)) (map.get (state_at A.kind self.now).held h.0) }
@@ -31,7 +32,8 @@ impl OpenHeap {
         Some(self.tables.classes.slot_words(c))
     }
 
-    /// With pages, the class of an object of `bytes` bytes; none if it needs more than a page. Costs one step.
+    /// The class of an object of `bytes` bytes in an open heap with pages; none if it needs more than a page. Costs one
+    /// step.
     pub fn class_of<A: Mapping>(&self, bytes: u32, steps: &mut Steps) -> Option<u32>
         requires { Holds A.kind self.now }
         ensures value { result ≡ class_of (paging_in (state_at A.kind self.now)).sizes bytes }

@@ -13,7 +13,7 @@ ghost use Rattle.sizing.specs.Certificates.{AreBudgetLevels, AreForResizes, IsBu
 ghost use Rattle.sizing.specs.Checks.{HasFew, needs_of, with_pages};
 ghost use Rattle.sizing.specs.Demands.{ArePrices, KeepsBudget, KeepsTo, KeepsToOne};
 ghost use Rattle.sizing.specs.Heaps.{IsFresh, ServesHeapMallocs, ServesHeapResizes};
-ghost use Rattle.sizing.specs.Needs.{HasFault};
+ghost use Rattle.sizing.specs.Needs.{HasFault, HasNoFault};
 ghost use Rattle.sizing.specs.Runs.{CanBeRefused, IsServed, ServesMallocsAcross, ServesResizesAcross};
 ghost use Rattle.sizing.specs.declared.by_numbers.NeedsFault.{NeedsFault};
 ghost use Rattle.plan_library.specs.Slots.{layout_if};
@@ -25,8 +25,9 @@ use sizing::{
 };
 
 /// Writes into `pages` the least number of pages with which no call of a program is refused for space while it keeps to its
-/// needs (`pages_needed`). Returns false only if there are more than 64 entries, the bytes of a page are out of range, an
-/// object is larger than a page, or more than 65,536 objects are declared (`fault`).
+/// needs (`pages_needed`). Returns false, and leaves `pages` unchanged, if and only if one of these holds: there are more
+/// than 64 entries; the bytes of a page are out of range; an entry, even of count 0, has a length that doesn't fit a page
+/// with a header of 8 bytes; or more than 65,536 objects are declared (`fault`, `none`).
 #[unsafe(no_mangle)]
 pub extern "C" fn plan_pages_needed(
     page_bytes: u32,
@@ -41,7 +42,8 @@ pub extern "C" fn plan_pages_needed(
     ensures least { IsTrue result → (p : Paging) → IsPaging p
         → p.page_words ≡ page_bytes / 8 → p.sizes ≡ sizes (page_bytes / 8) (layout_if in_blocks)
         → p.pages < pages.new → CanBeRefused p (KeepsTo needs.now) empty }
-    ensures fault { result ≡ false → (e : NeedsFault) × HasFault page_bytes 1 needs.now e }
+    ensures none { IsTrue result → HasNoFault page_bytes 1 needs.now }
+    ensures fault { result ≡ false → ((e : NeedsFault) × HasFault page_bytes 1 needs.now e) × (pages.new ≡ pages.old) }
 {
     match pages_needed(page_bytes, 1, slots_if(in_blocks), needs) {
         Ok(found) => {
@@ -55,7 +57,9 @@ pub extern "C" fn plan_pages_needed(
 /// Whether the lists of pages in `points` are a certificate for `pages` pages of `page_bytes` bytes and these bounds
 /// and modes and, if the program `resizes`, for its resizes (`is_certified`). Then, if it never resizes an object to
 /// another length of its class, no malloc is refused for space (`mallocs`), and with one page more no resize
-/// (`spare`). If it `resizes`, no malloc and no resize is (`resizes`).
+/// (`spare`). If it `resizes`, no malloc and no resize is (`resizes`). There must be one bound, at least 1, for each
+/// class, and at most 65,536 objects in each mode, else the result is false (`bounds`). It is also false if the
+/// settings are out of range, which no clause says.
 #[unsafe(no_mangle)]
 pub extern "C" fn plan_is_certified(
     pages: u32,
@@ -70,6 +74,8 @@ pub extern "C" fn plan_is_certified(
         → IsPaging (paging_of (profile_from pages page_bytes 1 65536) (layout_if in_blocks) bounds.now) → All HasFew modes.now
         → IsTrue result ↔ IsCertificate (paging_of (profile_from pages page_bytes 1 65536) (layout_if in_blocks) bounds.now) (needs_of modes.now) points.now
         × (IsTrue resizes → AreForResizes (paging_of (profile_from pages page_bytes 1 65536) (layout_if in_blocks) bounds.now) (needs_of modes.now) points.now) }
+    ensures bounds { IsTrue result
+        → IsPaging (paging_of (profile_from pages page_bytes 1 65536) (layout_if in_blocks) bounds.now) × All HasFew modes.now }
     ensures mallocs { IsTrue result
         → ServesMallocsAcross (paging_of (profile_from pages page_bytes 1 65536) (layout_if in_blocks) bounds.now) (KeepsToOne (needs_of modes.now)) }
     ensures resizes { IsTrue result → IsTrue resizes
@@ -89,8 +95,9 @@ pub extern "C" fn plan_is_certified(
 }
 
 /// Whether the levels, one of each class, show that `pages` pages of `page_bytes` bytes are enough for a budget with
-/// these bounds, if an object of each class costs at least its price (`are_budget_levels`). With one page more they
-/// are enough for resizes too (`resizes`). False unless there is one bound, price and level for each class.
+/// these bounds, if each object costs at least its class's price (`are_budget_levels`). With one page more they
+/// are enough for resizes too (`resizes`). The settings must be in range, and there must be one bound, at least 1, one
+/// price and one level for each class, else the result is false, which no clause says.
 #[unsafe(no_mangle)]
 pub extern "C" fn plan_are_budget_levels(
     pages: u32,
@@ -127,9 +134,11 @@ pub extern "C" fn plan_are_budget_levels(
 }
 
 /// Whether the levels and the pages `opened` of each class are a certificate that `pages` pages of `page_bytes` bytes
-/// are the least for a budget, if every bound is 1 and an object of each class costs at least its price
-/// (`is_budget_certificate`). With one page more no resize is refused either (`resizes`). False unless each class has
-/// a price, a level and a number of opened pages.
+/// are the least for a budget, if every bound is 1 and each object costs at least its class's price
+/// (`is_budget_certificate`). With one page more no resize is refused either (`resizes`). Fewer are too few if each
+/// class with opened pages has an object that costs no more than the class's price (`least`). The settings must be in
+/// range, and there must be one price, one level and one number of opened pages for each class, else the result is
+/// false, which no clause says.
 #[unsafe(no_mangle)]
 pub extern "C" fn plan_is_budget_certified(
     pages: u32,

@@ -1,4 +1,5 @@
--- For the calls of `ProxyTable`: the proxies that its fields represent, after an address is changed, added or removed.
+-- For the calls of `ProxyTable`: the proxies that its fields represent: their limit, addresses, number and free ones, in a new table and after an address is
+-- changed, added or removed.
 use Rattle.std.proofs.Common.{◌≡◌, ◌≢◌, ℕ, zero, suc, ◌+◌, ◌-◌, ◌<◌, List, ◌∷◌, Option, Some, None, length, get_or, set, arith, refl, sym, ◌∙◌, ap, subst}
 use Rattle.std.specs.Prelude.{IsSome, is_some, count_by}
 use Rattle.std.proofs.lemmas.List.{length-set, length-replicate}

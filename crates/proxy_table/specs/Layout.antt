@@ -1,4 +1,4 @@
--- How a proxy table keeps its numbers in memory. No public clause cites this module.
+-- How a proxy table keeps its numbers in memory: the addresses, the stack of the free numbers, and the invariant of both. No public clause cites this module.
 use Rattle.std.specs.Prelude.{◌≡◌, ◌≢◌, ℕ, zero, suc, ◌+◌, ◌-◌, ◌^◌, ◌<◌, List, [], ◌∷◌, Option, None, length, slice_index, slice_index_or, count_by, is_some}
 use Rattle.cf_base.specs.Maps.{numbered}
 use Rattle.proxy_table.specs.Proxies.{Proxies}
@@ -18,7 +18,8 @@ pub record IsFalling (n : ℕ) (numbers : List ℕ) : Type 0 where
   pub long : length numbers ≡ n
   pub falls : (i : ℕ) → i < length numbers → slice_index numbers i ≡ n - 1 - i
 
--- the invariant of `ProxyTable`: the first `left` entries of the stack are the numbers without an address, each once
+-- the invariant of `ProxyTable`: there are fewer than 2^32 numbers, and as many entries of the stack; the first `left` entries are the numbers without an
+-- address, each once
 pub record IsValid (places : List (Option ℕ)) (stack : List ℕ) (left : ℕ) : Type 0 where
   pub as_long : length stack ≡ length places
   pub counted : left + count_by is_some places ≡ length places

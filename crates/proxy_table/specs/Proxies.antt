@@ -1,4 +1,5 @@
--- What contracts see of a proxy table: a finite map from the live numbers, all below a limit, to addresses, and the free numbers in the order of their use.
+-- What contracts see of a proxy table: a finite map from the live numbers, all below a limit, to addresses, and the free numbers in the order of their use;
+-- and both after a number gets an address or is released.
 use Rattle.std.specs.Prelude.{◌≡◌, ℕ, ◌+◌, ◌<◌, ◌≤◌, List, ◌∷◌, None, Some, length, nat_eq, refl}
 use Rattle.std.specs.List.{Contains, IsDistinct, range_with_len}
 use Rattle.std.specs.Ordering.{nat_cmp}
@@ -25,7 +26,7 @@ with_place proxies number place =
 abbrev pub without_place : Proxies → ℕ → Proxies
 without_place proxies number = record proxies { places = map.remove proxies.places number; free = number ∷ proxies.free }
 
--- each number below the limit is either live or free, and none is free twice
+-- all live and free numbers are below the limit; each number below it is either live or free, and none is free twice
 pub record AreBelowLimit (proxies : Proxies) : Type 0 where
   pub below : (number place : ℕ) → map.get proxies.places number ≡ Some place → number < proxies.limit
   pub few : map.len proxies.places ≤ proxies.limit

@@ -62,7 +62,7 @@ impl ProxyTable {
         })
     }
 
-    /// The memory that a new proxy table asks for.
+    /// The memory that a new proxy table of `n` numbers asks for.
     pub fn bytes_needed(n: u32) -> BytesNeeded
         ensures { result ≡ proxy_bytes n }
     {

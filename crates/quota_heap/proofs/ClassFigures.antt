@@ -1,5 +1,5 @@
--- For `figures`: the figures of a class of a task (a slot's words, a page's slots, live objects, pages, partly full pages) that the code returns are those of
--- the task's objects.
+-- For `figures_of` and `refusal`: a task has lists for each class, and at most 4,096 pages in them. The figures of a class of a task (a slot's words, a page's
+-- slots, live objects, pages, partly full pages) that the code returns are those of the task's objects.
 use Rattle.std.proofs.Common.{◌≡◌, ℕ, ◌+◌, ◌<◌, ◌≤◌, length, get_or, arith, refl, sym, ◌∙◌, ap}
 use Rattle.cf_base.specs.declared.results.Figures.{Figures}
 use Rattle.class_lists.specs.PageLists.{pages_in}

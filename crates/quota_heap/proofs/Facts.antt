@@ -1,5 +1,5 @@
--- For all other files here: what follows from the invariants of what all tasks share (`ArePages`) and of one task (`IsTask`) for classes, proxies, counts, and
--- the slots of the task's objects.
+-- For most other files here: what follows from the invariants of what all tasks share (`ArePages`) and of one task (`IsTask`) for classes, tables, proxies,
+-- counts, free pages, and the slots of the task's objects.
 use Rattle.std.proofs.Common.{◌≡◌, ℕ, ◌<◌, ◌≤◌, length, get_or, Some, arith, sym, ◌∙◌, ap, subst}
 use Rattle.std.specs.FinMap.{get, len}
 use Rattle.cf_base.specs.Classes.{sizes}

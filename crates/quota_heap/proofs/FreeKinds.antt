@@ -1,5 +1,6 @@
--- For `free_inner`: a free of a task that moves no other object, and one that moves an object into the freed slot, leave the heap valid and
--- are frees as contracts show them.
+-- For `free` and `free_inner`: what `leave_slot` does to the parts of a task; and after a free of a task that moves no other object, or one that moves an
+-- object into the freed slot: the tables still fit the task and the pages, at most the pages of the task became free, the heap is valid, and the free is one as
+-- contracts show it. The moved object's header holds its key.
 use Rattle.std.proofs.Common.{◌≡◌, ℕ, ◌+◌, ◌*◌, ◌%◌, ◌^◌, ◌<◌, ◌≤◌, List, length, get_or, set, Option, Some, None, arith, refl, sym, ◌∙◌, ap, subst}
 use Rattle.std.specs.Prelude.{◌↔◌, IsSome, option_map}
 use Rattle.std.proofs.lemmas.Bool.{false≢true}

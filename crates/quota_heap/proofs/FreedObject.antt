@@ -1,4 +1,5 @@
--- For `free_inner`: the counts of the freed object, and the objects and counts of the tasks after the free.
+-- For `free_inner`: the freed object counts among those of its class; and the objects of all tasks after the free (`after`), with which the heap is valid and
+-- the free is one as contracts show it.
 use Rattle.std.proofs.Common.{◌≡◌, ℕ, ◌-◌, ◌<◌, ◌≤◌, length, get_or, set, Option, Some, arith, refl, sym, ◌∙◌, ap, subst}
 use Rattle.std.specs.Prelude.{nat_eq, option_map}
 use Rattle.std.proofs.lemmas.List.{length-set}

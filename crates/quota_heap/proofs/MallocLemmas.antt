@@ -1,5 +1,5 @@
--- For `malloc_inner`: a malloc of a task takes a slot on a page that no other task uses, adds an object of zeros, changes no other task's objects, and leaves
--- the heap valid.
+-- For `malloc` and `malloc_inner`: a malloc of a task takes a slot on a page that no other task uses, adds an object of zeros, changes no other task's objects,
+-- and leaves the heap valid.
 use Rattle.std.proofs.Common.{◌≡◌, ◌≢◌, ℕ, ◌+◌, ◌<◌, ◌≤◌, length, get_or, set, replicate, Some, None, arith, refl, sym, ◌∙◌, ap, subst, inl, inr}
 use Rattle.std.specs.Prelude.{nat_eq}
 use Rattle.std.proofs.lemmas.Bool.{cases_eq}

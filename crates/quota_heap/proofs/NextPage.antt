@@ -1,4 +1,5 @@
--- For `refusal`: one more object of a task needs one more page if no page of its class is partly full, else none, since each class has bound 1.
+-- For `Refusals` and `PartlyFull`: since each class has bound 1, a class has at most one partly full page, and one more object of a task needs one more page if
+-- no page of its class is partly full, else none.
 use Rattle.std.proofs.Common.{◌≡◌, ℕ, zero, suc, ◌+◌, ◌-◌, ◌*◌, ◌<◌, ◌≤◌, cond, arith, refl, sym, subst, inl, inr}
 use Rattle.std.specs.Prelude.{nat_eq}
 use Rattle.std.proofs.lemmas.Bool.{cases_eq, cases_lt}

@@ -1,5 +1,5 @@
--- For `find`, `read` and `write`: the object found for a task, or the fault, is the one that contracts show; a read returns its bytes, and a write changes
--- these bytes alone and leaves the heap valid.
+-- For `find`, `object`, `read` and `write`: the object found for a task, or the fault, is the one that contracts show; a read returns its bytes, and a write
+-- changes these bytes alone and leaves the heap valid. Also, two facts about options.
 use Rattle.std.proofs.Common.{◌≡◌, ℕ, ◌+◌, ◌-◌, ◌/◌, ◌%◌, ◌^◌, ◌<◌, ◌≤◌, List, [], ◌∷◌, length, get_or, set, Some, None, Result}
 use Rattle.std.proofs.Common.{Ok, Err, arith, refl, sym, ◌∙◌, ap, subst}
 use Rattle.std.specs.Prelude.{IfNone, IfSome, Option}

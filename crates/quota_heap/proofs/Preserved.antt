@@ -1,5 +1,6 @@
--- For each call that changes a heap of tasks: if only one task and what all tasks share changed, and both fit the objects, words and counts after the call
--- (`Becomes`), the heap is valid.
+-- For `malloc`, `free` and `write` of a heap of tasks: if only one task and what all tasks share changed, and both fit the objects, words and counts after the
+-- call (`Becomes`), the heap is valid, and its state has these objects and words, else is as before. In each valid heap the tasks' addresses are those of the
+-- objects, and words can represent these (`AreStorable`).
 use Rattle.std.proofs.Math.Bridge.{le_prop}
 use Rattle.std.proofs.Common.{◌≡◌, ◌≢◌, ℕ, ◌+◌, ◌/◌, ◌<◌, ◌≤◌, length, get_or, set, Some, arith, sym, ◌∙◌, ap, subst, inl, inr}
 use Rattle.std.specs.Prelude.{slice_get, sum}

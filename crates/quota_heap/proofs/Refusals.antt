@@ -1,5 +1,5 @@
--- For `refusal`: the tests of a task's proxies, quota and partly full pages find the cause for which a malloc is refused; if there is none, a proxy is left,
--- and a partly full page or a free one.
+-- For `refusal`, `malloc` and `pages`: a task's objects and quota in contracts are those of its record. The tests of its proxies, quota and partly full pages
+-- find the cause for which a malloc is refused; if there is none, a proxy is left, and a partly full page or a free one.
 use Rattle.std.proofs.Common.{◌≡◌, ◌≢◌, ℕ, Bool, true, false, cond, ◌+◌, ◌-◌, ◌<◌, ◌≤◌, List, [], ◌∷◌, length, Option, Some, None, arith, refl}
 use Rattle.std.proofs.Common.{sym, ◌∙◌, ap, subst}
 use Rattle.std.proofs.Common.{inl, inr}

@@ -1,5 +1,5 @@
--- For the clauses `kept` and `rules` of `QuotaHeap`: in an open heap no page has objects of two tasks, each task is within its quota, and the words are the
--- image of all objects (`KeepsTasks`).
+-- For the clauses of `QuotaHeap`: in an open heap no page has objects of two tasks, each task is within its quota, and the words are the image of all objects
+-- (`KeepsTasks`); the pages that a task uses are those that its objects need.
 use Rattle.std.proofs.Common.{◌≡◌, ℕ, Option, Some, None, refl}
 use Rattle.std.specs.Prelude.{is_some, true}
 use Rattle.std.proofs.lemmas.Bool.{false≢true}

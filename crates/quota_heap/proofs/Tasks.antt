@@ -1,4 +1,4 @@
--- For all other files here: what the invariant of an open heap says of its task t, and which objects of the map of all tasks are those of t. Also, lists of
+-- For most other files here: what the invariant of an open heap says of its task t, and which objects of the map of all tasks are those of t. Also, lists of
 -- which one element changes.
 use Rattle.std.proofs.Common.{◌≡◌, ◌≢◌, ℕ, zero, suc, ◌<◌, ◌≤◌, List, [], ◌∷◌, length, get_or, set, map, Option, Some, None, arith, refl, sym, ◌∙◌, ap, subst}
 use Rattle.std.proofs.Common.{inl, inr}

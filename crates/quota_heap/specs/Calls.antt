@@ -1,5 +1,5 @@
 -- What a call of one task finds and does in what all tasks share (g: settings, region, used slots, free pages) and in the task (x); after it they are g' and
--- x'. No public clause cites this module.
+-- x'. Also the steps of `find`. No public clause cites this module.
 use Rattle.std.specs.Prelude.{◌≡◌, ℕ, ◌+◌, ◌-◌, ◌*◌, ◌<◌, ◌↔◌, IsSome, Option, Some, None, Result, Ok, Err, length, slice_get, slice_index, slice_set}
 use Rattle.std.specs.FinMap.{get}
 use Rattle.cf_base.specs.declared.results.AccessFault.{AccessFault}
@@ -46,15 +46,15 @@ pub record IsAdded (g : SharedPages) (x : Task) (t c bytes q : ℕ) (g' : Shared
   pub words : g'.region ≡ slice_set g.region place (header_word (key_of t q) bytes)
   pub live : x'.live ≡ slice_set x.live c (slice_index x.live c + 1)
 
--- the parts of the task that change when a slot is left
+-- the parts of task x, and of what all tasks share, that change when the slot of an object of x is left
 abbrev pub parts_of : SharedPages → Task → Parts
 parts_of g x = parts Moving g.tables x.lists x.proxies (record { blocks = None; region = g.region })
 
--- the parts of the task once the number q is released
+-- those of `parts_of` once the number q of task x is released
 abbrev pub parts_without : SharedPages → Task → ℕ → Parts
 parts_without g x q = record (parts_of g x) { proxies = without_place x.proxies q }
 
--- the slot of class c at the address `place`; the headers of task t hold the keys of its objects
+-- the slot of class c at the address `place`; the headers of task t hold the keys of its objects, `t * 65536` (`first`) plus their numbers
 abbrev pub slot_of : SharedPages → ℕ → ℕ → ℕ → LeftSlot
 slot_of g t c place = record { class = c; place = place; words = slice_index g.tables.classes.sizes c; first = t * 65536 }
 
@@ -66,7 +66,7 @@ pub record IsRemoved (g : SharedPages) (x : Task) (q : ℕ) (s : LeftSlot) (move
   pub left : Leaves (parts_without g x q) s moved (parts_of g' x')
   pub live : x'.live ≡ slice_set x.live s.class (slice_index x.live s.class - 1)
 
--- object `position.number` of task x is live, but has fewer than `count` bytes from byte `position.from` on
+-- object `position.number` of task x is live, but `position.from` plus `count` exceeds the object's length
 pub record IsPastEnd (g : SharedPages) (x : Task) (position : Position) (count : ℕ) : Type 0 where
   pub place : ℕ
   pub found : get x.proxies.places position.number ≡ Some place
@@ -87,7 +87,7 @@ abbrev pub task_find_steps : Result ℕ AccessFault → ℕ
 task_find_steps (Ok place) = 2
 task_find_steps (Err e) = task_fault_steps e
 
--- as `IsTaskFound`, for task t of an open heap
+-- what `find` of the open heap h returns for the object `position.number` of task t: its address, or the fault, whose cause holds
 abbrev pub IsFoundIn : OpenTasks → ℕ → Position → ℕ → Result ℕ AccessFault → Type 0
 IsFoundIn h t position count (Ok place) =
     (x : Task) → slice_get h.tasks.items t ≡ Some x → HoldsBytesAt (as_owner h.shared_pages x) position.number position.from count place

@@ -1,5 +1,5 @@
--- The exact steps of each call of a task, from the state s before it and the result; and the most of a malloc, a free, a read and a write. Of the objects they
--- depend on those of the task alone. Each comment lists what the steps pay for.
+-- The exact steps of each call of a task, from the state s before it and the result; and the most of a malloc, a free, a read and a write. The
+-- steps depend on no other task's objects. Each comment lists what the steps pay for.
 use Rattle.std.specs.Prelude.{ℕ, ◌+◌, ◌%◌, Option, Some, None, Result, Ok, Err, if◌then◌else◌, length, nat_eq}
 use Rattle.std.specs.FinMap.{get}
 use Rattle.cf_base.specs.declared.results.AccessFault.{AccessFault}
@@ -31,7 +31,7 @@ task_malloc_cost s task bytes (Ok h) = 4 + taking_steps (on_partly_full s task (
     (slots_of (task_paging s.profile) (class_for (task_paging s.profile) bytes))
 task_malloc_cost s task bytes (Err e) = 1
 
--- freeing the slot of the object x, whose words are cleared or moved into; if an object moves in, finding it and freeing its slot, reading its header and
+-- freeing the slot of the object x, without the steps for its words; if an object moves in instead, finding it and freeing its slot, reading its header and
 -- setting its proxy
 abbrev pub task_leaving_cost : QuotaState → ℕ → Placed → Option Handle → ℕ
 task_leaving_cost s task x None = steps_to_drop (task_paging s.profile) (held_by s task) (class_at (task_paging s.profile) x) (page_of (task_paging s.profile) x.place)
@@ -51,7 +51,8 @@ abbrev pub task_fault_steps : AccessFault → ℕ
 task_fault_steps Unknown = 1
 task_fault_steps Range = 2
 
--- the most steps of a read or a write of `count` bytes from byte `from` on, taken unless it is refused: the proxy, the header, and each word that holds one of the bytes
+-- the most steps of a read or a write of `count` bytes from byte `from` on, taken unless it is refused: the proxy, the header, and each word that holds
+-- one of the bytes
 abbrev pub most_of_access : ℕ → ℕ → ℕ
 most_of_access from count = 2 + words_touched from count
 
@@ -70,11 +71,11 @@ abbrev pub task_peek_steps : Option ℕ → ℕ
 task_peek_steps None = 0
 task_peek_steps (Some word) = 1
 
--- the most steps of a malloc: those of one whose object makes its page full
+-- the most steps of a malloc: those of one whose object fills up a partly full page
 abbrev pub most_of_malloc : ℕ
 most_of_malloc = 17
 
--- the most steps of a free of an object in a slot of this many words: those of one that moves an object and empties its page
+-- the most steps of a free of an object in a slot of this many words: those of one that moves an object and empties the page from which that moves
 abbrev pub most_of_free : ℕ → ℕ
 most_of_free slot_words = 20 + slot_words
 

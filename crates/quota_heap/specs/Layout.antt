@@ -1,4 +1,5 @@
--- The state that contracts show of an open heap of tasks, and the heap's invariant. g is what all tasks share (settings, region, used slots, free pages), x a
+-- A heap of tasks and each of its tasks, as the model sees them: classes, tables, objects, addresses, quotas and pages; the state that contracts show; the
+-- invariant; and what all tasks share, and a task, in a heap that was just opened. g is what all tasks share (settings, region, used slots, free pages), x a
 -- task, h the heap. No public clause cites this module.
 use Rattle.std.specs.Prelude.{◌≡◌, ◌≢◌, ℕ, ◌+◌, ◌*◌, ◌<◌, List, true, Option, Some, None, length, map, replicate, slice_get, slice_index, sum, sum_by}
 use Rattle.std.specs.Ordering.{nat_cmp}

@@ -1,4 +1,5 @@
--- What each call of a task, by its result, does to the state of the heap that tasks share: `old` is the state before the call, `new` after it.
+-- What each call of a task, by its result, does to the state of the heap that tasks share: `old` is the state before the call, `new` after it. Also what
+-- `figures` and `length` return in a state.
 use Rattle.std.specs.Prelude.{◌≡◌, ℕ, ◌+◌, ◌<◌, ◌≤◌, List, Option, Some, None, Result, Ok, Err, length, option_map, take, drop, if◌then◌else◌, nat_lt, slice_set}
 use Rattle.std.specs.FinMap.{get, insert}
 use Rattle.cf_base.specs.declared.results.AccessFault.{AccessFault}
@@ -55,7 +56,7 @@ abbrev pub IsTaskFreeStep : QuotaState → ℕ → ℕ → Result Freed NotLive 
 IsTaskFreeStep old task h (Ok freed) new = FreesOfTask old task h freed new
 IsTaskFreeStep old task h (Err e) new = (get (held_by old task) h ≡ None) × (new ≡ old)
 
--- the task's object `position.number` is live, but has fewer than `count` bytes from byte `position.from` on
+-- the task's object `position.number` is live, but `position.from` plus `count` exceeds the object's length
 pub record PassesTaskEnd (s : QuotaState) (task : ℕ) (position : Position) (count : ℕ) : Type 0 where
   pub object : Placed
   pub found : get (held_by s task) position.number ≡ Some object

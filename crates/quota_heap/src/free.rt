@@ -18,7 +18,8 @@ impl SharedPages {
     /// In `SharedPages`, frees object `h` of `task`, task number `t`; `x` is the object's address,
     /// length and class. If its page was full and the task has a partly full page of the class, the
     /// object at the lowest used slot of that page moves to the freed slot; else the slot is
-    /// cleared. Returns the number of words of the slot, and which object moved.
+    /// cleared. Returns the number of words of the slot, and which object moved, if one did. Costs
+    /// three steps, and those of leaving the slot (`leaving_steps`).
     pub(crate) fn free_inner(
         &mut self,
         task: &mut Task,

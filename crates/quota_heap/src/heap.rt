@@ -52,9 +52,9 @@ impl QuotaHeap {
         QuotaHeap { alloc, inner: None }
     }
 
-    /// `QuotaHeap`: opens the heap of tasks with the settings `s`; an open heap is closed first. No task has an object,
-    /// and all quotas are 0. Each task gets as many proxies of its own as `s` has. Each class of a task has bound 1,
-    /// whatever bound `s` has. Fails if out of memory; the heap is closed then.
+    /// `QuotaHeap`: opens the heap of tasks with the settings `s`; an open heap loses its objects. No task has an object
+    /// then, and all quotas are 0. Each task gets as many proxies of its own as `s` has. Each class of a task has bound
+    /// 1, whatever bound `s` has. Fails if out of memory; the heap is closed then.
     pub fn open_heap(&mut self, s: &Settings) -> Result<(), OutOfMemory>
         ensures opened { IfOk result (λ done. self.new ≡ empty_state (profile_of s.now)) }
         ensures kept { IfOk result (λ done. KeepsTasks self.new) }
@@ -161,9 +161,9 @@ impl QuotaHeap {
 
     /// `QuotaHeap`: makes an object of `bytes` bytes, all zero, for a task, under a handle that was
     /// not live in this task. If it fails, nothing changes. The causes, tested in this order:
-    /// `Size`, the object needs more than a page; `Proxy`, the task's proxies are all in use;
-    /// `Space`, the task's objects with this one need more pages than its quota. Costs at most 17
-    /// steps; one if it fails.
+    /// `Size`, the object with its header needs more than a page; `Proxy`, the task's proxies are
+    /// all in use; `Space`, the task's objects with this one need more pages than its quota. Costs
+    /// at most 17 steps; one if it fails.
     pub fn malloc(&mut self, task: u32, bytes: u32, steps: &mut Steps) -> Result<Handle, Refusal>
         requires opened { IsTrue self.old.is_open }
         requires sixteen { task < 16 }
@@ -200,9 +200,9 @@ impl QuotaHeap {
     }
 
     /// `QuotaHeap`: writes `bytes` into object `h` of a task from byte `at` on. Fails, with nothing
-    /// changed, with `Unknown` if the handle is not live in this task, else with `Range` if the
-    /// bytes pass the object's end. Costs two steps, and one for each word that holds one of the
-    /// bytes; if it fails, one (`Unknown`) or two.
+    /// changed, with `Unknown` if the handle is not live in this task, else with `Range` if `at`
+    /// plus the number of bytes exceeds the object's length. Costs two steps, and one for each word
+    /// that holds one of the bytes; if it fails, one (`Unknown`) or two.
     pub fn write(
         &mut self,
         task: u32,
@@ -226,7 +226,7 @@ impl QuotaHeap {
 
     /// `QuotaHeap`: fills `out` with the bytes of object `h` of a task from byte `at` on. Fails,
     /// with `out` unchanged, with `Unknown` if the handle is not live in this task, else with
-    /// `Range` if `out` is longer than the object's bytes from byte `at` on. Costs two steps, and
+    /// `Range` if `at` plus the length of `out` exceeds the object's length. Costs two steps, and
     /// one for each word that holds one of the bytes; if it fails, one (`Unknown`) or two.
     pub fn read(
         &self,

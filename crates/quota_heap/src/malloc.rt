@@ -20,7 +20,7 @@ impl SharedPages {
     /// In `SharedPages`, makes an object of `bytes` zeros, of class `c`, for `task`, task number
     /// `t`, and returns its handle. The task must have a free proxy. There must be a partly full
     /// page of the class in the task, or a free page in the pool. The header holds `t` and the
-    /// handle in one number.
+    /// handle in one number. Costs three steps, and those of taking the slot (`take_slot_steps`).
     pub(crate) fn malloc_inner(
         &mut self,
         task: &mut Task,

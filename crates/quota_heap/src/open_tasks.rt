@@ -32,7 +32,8 @@ use std::alloc::Global;
 use step_ledger::Steps;
 
 /// The pages that the tasks share, the sixteen tasks, and in `granted` the sum of their quotas in pages.
-/// In each call `t` is the number of the calling task, from 0 to 15.
+/// In each call `t` is the number of the calling task, from 0 to 15. All calls but `new`, `bytes_needed` and `peek`
+/// require the invariant `IsValid`, and those that change something keep it.
 #[derive(Drop)]
 pub(crate) struct OpenTasks {
     pub(crate) shared_pages: SharedPages,
@@ -126,7 +127,7 @@ impl OpenTasks {
     }
 
     /// In `OpenTasks`, sets the quota of task `t` to `pages` pages, and the field `granted` to the parameter `granted`:
-    /// the sum of all quotas after the call.
+    /// the sum of all quotas after the call. The new quota must have no cause to be refused.
     fn grant(&mut self, t: u32, pages: u32, granted: u32)
         requires kept { IsValid self.old }
         requires sixteen { t < 16 }
@@ -142,9 +143,9 @@ impl OpenTasks {
 
     /// `OpenTasks`: makes an object of `bytes` bytes, all zero, for task `t`, and returns its
     /// handle. If it is refused, nothing changes. The causes, tested in this order: `Size`, the
-    /// object needs more than a page; `Proxy`, the task's proxies are all in use; `Space`, the task
-    /// would need more pages than its quota. Costs one step if refused, else four and those of
-    /// taking the slot.
+    /// object with its header needs more than a page; `Proxy`, the task's proxies are all in use;
+    /// `Space`, the task would need more pages than its quota. Costs one step if refused, else four
+    /// and those of taking the slot.
     pub(crate) fn malloc(
         &mut self,
         t: u32,
@@ -168,7 +169,7 @@ impl OpenTasks {
     }
 
     /// `OpenTasks`: returns the cause for which a malloc of class `c` by task `t` is refused, `Proxy` or `Space`;
-    /// `None` if it isn't refused.
+    /// `None` if it isn't refused. c must be one of the heap's classes.
     fn refusal(&self, t: u32, c: u32) -> Option<Refusal>
         requires kept { IsValid self.now }
         requires sixteen { t < 16 }
@@ -232,8 +233,8 @@ impl OpenTasks {
     }
 
     /// `OpenTasks`: returns the address of object `h` of task `t`. Fails with `Unknown` if the
-    /// handle is not live in this task, else with `Range` if the object has fewer than `count`
-    /// bytes from byte `at` on. Costs two steps; one at `Unknown`.
+    /// handle is not live in this task, else with `Range` if `at` plus `count` exceeds the object's
+    /// length. Costs two steps; one at `Unknown`.
     fn find(
         &self,
         t: u32,
@@ -253,8 +254,8 @@ impl OpenTasks {
 
     /// `OpenTasks`: writes `bytes` into object `h` of task `t` from byte `at` on. Fails, with
     /// nothing changed, with `Unknown` if the handle is not live in this task, else with `Range` if
-    /// the bytes pass the object's end. Costs two steps, and one for each word that holds one of
-    /// the bytes; if it fails, one (`Unknown`) or two.
+    /// `at` plus the number of bytes exceeds the object's length. Costs two steps, and one for each
+    /// word that holds one of the bytes; if it fails, one (`Unknown`) or two.
     pub(crate) fn write(
         &mut self,
         t: u32,
@@ -283,8 +284,8 @@ impl OpenTasks {
 
     /// `OpenTasks`: fills `out` with the bytes of object `h` of task `t` from byte `at` on. Fails,
     /// with `out` unchanged, with `Unknown` if the handle is not live in this task, else with
-    /// `Range` if the bytes pass the object's end. Costs two steps, and one for each word that
-    /// holds one of the bytes; if it fails, one (`Unknown`) or two.
+    /// `Range` if `at` plus the length of `out` exceeds the object's length. Costs two steps, and
+    /// one for each word that holds one of the bytes; if it fails, one (`Unknown`) or two.
     pub(crate) fn read(
         &self,
         t: u32,

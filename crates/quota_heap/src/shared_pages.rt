@@ -17,7 +17,9 @@ use std::alloc::Global;
 use step_ledger::Steps;
 
 /// The settings, the words of the region, and in `tables` the size classes, the used slots of each
-/// page, and the pool: the pages that no task uses.
+/// page, and the pool: the pages that no task uses. Each call but `new` requires
+/// `ArePages` of these pages, and `IsTask` of its `task`: the task's objects, tables and counts fit
+/// these pages. `malloc_inner` and `free_inner` also require that the task uses at most 4,096 pages.
 #[derive(Drop)]
 pub(crate) struct SharedPages {
     pub(crate) settings: Settings,
@@ -84,8 +86,8 @@ impl SharedPages {
     }
 
     /// `SharedPages`: returns the address of object `h` of a task. Fails with `Unknown` if the
-    /// handle is not live in this task, else with `Range` if the object has fewer than `count`
-    /// bytes from byte `at` on. Costs two steps; one at `Unknown`.
+    /// handle is not live in this task, else with `Range` if `at` plus `count` exceeds the object's
+    /// length. Costs two steps; one at `Unknown`.
     pub(crate) fn find(
         &self,
         task: &Task,

@@ -1,5 +1,5 @@
 //! One task of the heap of tasks: its quota, its counts, page lists and proxies, which it shares with no other
-//! task; and how sixteen tasks without objects are made.
+//! task; how sixteen tasks without objects are made, and what memory they need.
 ghost use Rattle.std.specs.Prelude.{◌≡◌, ◌^◌, ◌<◌, ◌≤◌, IfOk, replicate};
 ghost use Rattle.proxy_table.specs.Proxies.{AreBelowLimit, no_proxies};
 ghost use Rattle.quota_heap.specs.Layout.{first_task};
@@ -86,7 +86,7 @@ pub(crate) fn first_tasks(
     Ok(tasks)
 }
 
-/// The memory that `first_tasks` asks for.
+/// The memory that `first_tasks` asks for with these arguments. There are at most 67 `classes`.
 pub(crate) fn tasks_bytes(classes: u32, pages: u32, proxies: u32) -> BytesNeeded
     requires { classes ≤ 67 }
     ensures needed { result ≡ task_bytes classes pages proxies }

@@ -1,4 +1,4 @@
--- For the laws of `admitting.rt`: a quota is enough if and only if all declared objects need at most its pages; which declared malloc is refused first; and the
+-- For `there_is_one_admission`: a quota is enough if and only if all declared objects need at most its pages; which declared malloc is refused first; and the
 -- admission test has one result.
 use Rattle.std.proofs.Common.{◌≡◌, ℕ, zero, suc, Bool, ◌-◌, ◌<◌, ◌≤◌, List, [], ◌∷◌, Option, Some, None, length, take}
 use Rattle.std.proofs.Common.{arith, ap, sym, ◌∙◌, inl, inr, refl, subst}

@@ -1,5 +1,5 @@
--- The lemmas that other crates' proofs cite: admission, counts by class and the pages that they need, the objects, quotas and addresses of tasks before and
--- after a call, and the region's words after it.
+-- The lemmas that other crates' proofs cite, re-exported: admission and the declared mallocs, lists (counts, tests, zeros), the pages that lengths need, the
+-- paging of tasks, and the objects, quotas, addresses and words of tasks before and after a call. Declares nothing.
 pub use Rattle.quota_model.proofs.Ceilings.{count-append, count-cons, pages_of_none, pages_few}
 pub use Rattle.quota_model.proofs.Contained.{contained, times}
 pub use Rattle.quota_model.proofs.Declared.{AllFit, all_fail, all_fit, counted_by, declared_is, length-in_order}

@@ -1,5 +1,5 @@
--- For the laws of `admitting.rt`: the pages that a list of lengths needs, counted by class and rounded up, grow with the list, are 0 for none, and are at most
--- one for each object.
+-- For proofs about admission and quotas: counts over longer lists; and the pages that a list of lengths needs, counted by class and rounded up, grow with the
+-- list, are 0 for none, and are at most one for each object.
 use Rattle.std.proofs.Common.{◌≡◌, ◌≢◌, ℕ, zero, suc, Bool, cond, ◌+◌, ◌-◌, ◌<◌, ◌≤◌, List, [], ◌∷◌, ◌++◌, length, arith, ap, refl, inl, inr}
 use Rattle.std.specs.Prelude.{count_by, nat_eq, sum_by}
 use Rattle.std.specs.List.{range_with_len}

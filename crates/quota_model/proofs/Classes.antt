@@ -1,5 +1,5 @@
 -- For `class_at` and `slots_at`: a table of slot sizes determines the class of a request and the slots of a class, as in the model; it has at most 67 classes,
--- each with 1 to 4,096 slots to a page.
+-- none of size 0, each with 1 to 4,096 slots to a page. Also, `task_paging` is valid (`IsPaging`).
 use Rattle.std.proofs.Common.{◌≡◌, ℕ, ◌<◌, ◌≤◌, ◌/◌, List, Some, length, get_or, arith, ap, sym, ◌∙◌, subst}
 use Rattle.std.specs.Prelude.{IsTrue}
 use Rattle.cf_base.specs.Classes.{class_of, need, sizes, slots}

@@ -1,4 +1,4 @@
--- For `a_quota_is_enough_by_ceilings`: if a list has each number at most as often as another list, it also has at most as many numbers with any given property.
+-- For proofs about admission: if a list has each number at most as often as another list, it also has at most as many numbers with any given property.
 use Rattle.std.proofs.Common.{◌≡◌, ℕ, Bool, cond, ◌+◌, ◌<◌, ◌≤◌, List, [], ◌∷◌, arith, ap, inl, inr, refl}
 use Rattle.std.specs.Prelude.{count_by, nat_eq}
 use Rattle.std.proofs.lemmas.Bool.{cases_eq}

@@ -1,5 +1,5 @@
--- For `count_pages` and `admit`: the objects of each class and the pages that they need, after some entries of what a task declares, one more,
--- and all; a quota of at least these pages is enough.
+-- For `count_pages` and `admit`: the objects of each class and the pages that they need, after some entries of what a task declares, one more, and all; these
+-- objects fit a page, and no count exceeds the proxies. A quota of at least these pages is enough.
 use Rattle.std.proofs.Common.{◌≡◌, ◌≢◌, ℕ, false, ◌+◌, ◌-◌, ◌<◌, ◌≤◌, List, [], ◌++◌, Some, length, get_or, set, replicate, take}
 use Rattle.std.proofs.Common.{arith, ap, sym, ◌∙◌, inl, inr, refl, subst}
 use Rattle.std.specs.Prelude.{IsTrue, nat_eq, nat_lt}

@@ -1,5 +1,5 @@
--- For the laws of `admitting.rt`: the list of the declared mallocs in order has each length as often as the entries declare it; if no entry is too large, each
--- of these objects fits a page.
+-- For proofs about admission: the list of the declared mallocs in order has each length as often as the entries declare it; if no entry is too large, each of
+-- these objects fits a page. Also, if `position` finds no element that passes a test, none passes it.
 use Rattle.std.proofs.Common.{◌≡◌, ℕ, zero, suc, Bool, true, false, cond, ◌*◌, ◌<◌, ◌≤◌, List, [], ◌∷◌, ◌++◌, Some, None, length, get_or, replicate}
 use Rattle.std.proofs.Common.{arith, ap, sym, ◌∙◌, inl, inr, refl}
 use Rattle.std.specs.Prelude.{⊤, count_by, nat_eq, nat_lt, position, sum_by}

@@ -1,5 +1,5 @@
--- For `a_quota_is_enough_by_ceilings`: if the declared objects together need at most the quota's pages, no malloc within the declared numbers is refused for
--- space, whatever was allocated and freed before.
+-- For proofs about admission: if the declared objects together need at most the quota's pages, no malloc within the declared numbers is refused for space,
+-- whatever was allocated and freed before. Also, counts over a mapped list, and the live objects of a length when one is added.
 use Rattle.std.proofs.Common.{◌≡◌, ℕ, Bool, true, false, cond, ◌+◌, ◌<◌, ◌≤◌, List, [], ◌∷◌, Option, Some, None, length, map, replicate}
 use Rattle.std.proofs.Common.{arith, ap, sym, ◌∙◌, inl, inr, refl}
 use Rattle.std.specs.Prelude.{IsSome, count_by, nat_eq, nat_lt}

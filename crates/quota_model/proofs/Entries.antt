@@ -1,5 +1,5 @@
--- For `count_pages`: an entry of what a task declares, some objects of one length, adds only pages of their class; and where its mallocs are in the list of all
--- declared mallocs.
+-- For `count_pages`: an entry of what a task declares, some objects of one length, adds only pages of their class; the objects of one class need at most the
+-- pages of all; and where the mallocs of an entry are in the list of all declared mallocs.
 use Rattle.std.proofs.Common.{◌≡◌, ◌≢◌, ℕ, suc, ◌+◌, ◌-◌, ◌*◌, ◌<◌, ◌≤◌, List, [], ◌∷◌, ◌++◌, length, get_or, replicate, take, drop}
 use Rattle.std.proofs.Common.{arith, ap, sym, ◌∙◌, refl}
 use Rattle.std.specs.Prelude.{nat_eq}

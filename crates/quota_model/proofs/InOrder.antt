@@ -1,5 +1,5 @@
--- For the laws of `admitting.rt`: of the declared mallocs, made in order, the first that is refused for space is the first with which the objects need more
--- pages than the quota has.
+-- For `AdmissionLaws`: of the declared mallocs, made in order, the first that is refused for space is the first with which the objects need more pages than the
+-- quota has. These mallocs are within what is declared (`CallsAreWithin`).
 use Rattle.std.proofs.Common.{◌≡◌, ◌≢◌, ℕ, suc, Bool, true, false, cond, ◌+◌, ◌<◌, ◌≤◌, List, [], ◌∷◌, ◌++◌, Option, Some, None, length, replicate, take}
 use Rattle.std.proofs.Common.{arith, ap, sym, ◌∙◌, inl, inr, refl, subst}
 use Rattle.std.specs.Prelude.{count_by, nat_eq, nat_lt, ◌⊎◌}

@@ -1,5 +1,6 @@
--- For `addresses_are_found_by_key`: the joined map has each address of a task under the object's key (task times 65,536, plus number), also after an address of
--- one task is added or removed.
+-- For proofs about `joined_places`: the joined map has each address of a task under the object's key (task times 65,536, plus number), also after an address of
+-- one task is added or removed. The objects of one task at the joined addresses are its own. If a task's map is replaced by one with numbers below 65,536, all
+-- numbers still are.
 use Rattle.std.proofs.Common.{◌≡◌, ◌≢◌, ℕ, zero, suc, cond, ◌+◌, ◌<◌, ◌≤◌, List, [], ◌∷◌, ◌++◌, Option, Some, None, length, set, arith, ap}
 use Rattle.std.proofs.Common.{sym, ◌∙◌, refl, inl, inr}
 use Rattle.std.proofs.lemmas.Bool.{cases_eq, cases_lt}

@@ -1,5 +1,5 @@
--- For `quotas_fit`: sixteen quotas of 0 pages are valid while no task has an object, and quotas stay valid when one is set to a number of pages that isn't
--- refused.
+-- For proofs about `IsShared` and `AreQuotas`: both hold while no task has an object, with sixteen quotas of 0 pages; and quotas stay valid when one is set to
+-- a number of pages that isn't refused. Also, the elements and the sum of a list of zeros.
 use Rattle.std.proofs.Common.{◌≡◌, ℕ, zero, suc, Bool, true, false, cond, ◌<◌, ◌≤◌, List, Some, None, length, get_or, replicate, set, arith, ap, sym, ◌∙◌, refl}
 use Rattle.std.proofs.Common.{inl, inr, subst}
 use Rattle.std.specs.Prelude.{count_by, nat_eq, nat_lt, sum}

@@ -1,4 +1,4 @@
--- For `a_free_keeps_tasks_apart`: a free removes one object of its task, may move another of this task, and changes no other task's objects; no page has two
+-- For proofs about `RemovesForTask`: a free removes one object of its task, may move another of this task, and changes no other task's objects; no page has two
 -- tasks, and the quotas stay valid.
 use Rattle.std.proofs.Common.{◌≡◌, ◌≢◌, ℕ, ◌<◌, ◌≤◌, List, Option, Some, None, get_or, arith, ap, sym, ◌∙◌, refl, inl, inr, subst}
 use Rattle.std.specs.Prelude.{IsTrue, option_map}

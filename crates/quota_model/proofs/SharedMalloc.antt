@@ -1,4 +1,4 @@
--- For `a_malloc_keeps_tasks_apart`: a malloc adds an object to its task and changes no other task's objects; no page has two tasks, and if it isn't refused the
+-- For proofs about `PlacesForTask`: a malloc adds an object to its task and changes no other task's objects; no page has two tasks, and if it isn't refused the
 -- quotas stay valid.
 use Rattle.std.proofs.Common.{◌≡◌, ◌≢◌, ℕ, Bool, true, false, cond, ◌+◌, ◌<◌, ◌≤◌, List, Some, None, length, get_or, replicate}
 use Rattle.std.proofs.Common.{arith, ap, sym, ◌∙◌, refl, inl, inr, subst}

@@ -1,5 +1,5 @@
 -- For `a_page_is_there_for_each_quota`: each page in use is some task's and the quotas sum to at most all pages, so while a task uses fewer pages than its
--- quota, some page is free.
+-- quota, some page is free. Also, `task_paging` is valid (`IsPaging`), and its bounds are all 1.
 use Rattle.std.proofs.Common.{◌≡◌, ℕ, zero, suc, Bool, ◌+◌, ◌<◌, ◌≤◌, List, [], ◌∷◌, length, get_or, arith, ap, sym, ◌∙◌, refl, inl, inr, subst}
 use Rattle.std.specs.Prelude.{IsTrue, count_by, nat_lt, sum, sum_by}
 use Rattle.std.specs.List.{range_with_len}

@@ -1,5 +1,5 @@
--- For the laws of `images.rt`: if the words are the image of all tasks' objects, they are so after a malloc of a task, a free with or without another object
--- that moves, and a write.
+-- For proofs about the words of a heap of tasks: if the words are the image of all tasks' objects, they are so after a malloc of a task, a free with or without
+-- another object that moves, and a write. A free slot is in the region, all zeros, and no two objects share a word.
 use Rattle.std.proofs.Common.{◌≡◌, ◌≢◌, ℕ, zero, suc, ◌+◌, ◌*◌, ◌/◌, ◌%◌, ◌<◌, ◌≤◌, List, Some, None, length, get_or, set, replicate, arith, ap, sym}
 use Rattle.std.proofs.Common.{◌∙◌, inl, inr, subst}
 use Rattle.std.specs.Prelude.{IsTrue}

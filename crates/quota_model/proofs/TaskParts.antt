@@ -1,5 +1,5 @@
--- For the laws of `sharing.rt`: the objects of one task (`objects_of_task`) found by number in the map that has all tasks' objects by key, and how a change of
--- one object in that map changes each task's.
+-- For all proofs about tasks on shared pages: the objects of one task (`objects_of_task`) found by number in the map that has all tasks' objects by key, and
+-- how a change of one object in that map changes each task's.
 use Rattle.std.proofs.Common.{◌≡◌, ◌≢◌, ℕ, true, false, cond, ◌<◌, ◌≤◌, List, [], ◌∷◌, Some, None, map, arith, ap, sym, ◌∙◌, refl, inl, inr}
 use Rattle.std.specs.Prelude.{filter, nat_eq}
 use Rattle.std.proofs.lemmas.Bool.{cases_eq, cases_lt}

@@ -1,5 +1,5 @@
--- For the laws of `images.rt`: if any number of pages of a class may be partly full, the objects of all tasks together are a sound arrangement; their image is
--- the same with bound 1.
+-- For `TaskImages`: if any number of pages of a class may be partly full, the objects of all tasks together are a sound arrangement; their image is the same
+-- with bound 1.
 use Rattle.std.proofs.Common.{◌≡◌, ℕ, ◌+◌, ◌≤◌, List, Some, length, get_or, arith, ap, sym, ◌∙◌, refl, inl, inr}
 use Rattle.std.specs.Prelude.{IsTrue}
 use Rattle.std.proofs.lemmas.Bool.{cases_eq}

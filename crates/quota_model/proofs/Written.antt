@@ -1,5 +1,5 @@
--- For `a_write_keeps_tasks_apart`: if an object of a task gets other bytes of the same class, no other object changes, no page has two tasks, and the quotas
--- stay valid.
+-- For proofs about writes of a task: if an object of a task gets other bytes of the same class, no other object changes, the task has as many objects of each
+-- class and needs as many pages as before, no page has two tasks, and the quotas stay valid.
 use Rattle.std.proofs.Common.{◌≡◌, ◌≢◌, ℕ, ◌<◌, List, Some, length, get_or, arith, ap, sym, ◌∙◌, refl, inl, inr, subst}
 use Rattle.std.specs.Prelude.{option_map}
 use Rattle.std.proofs.lemmas.Bool.{cases_eq}

@@ -87,7 +87,7 @@ is_short (Some refusal.Proxy) = false
 is_short (Some refusal.Space) = true
 
 -- The number of the first malloc that is refused for space, if one is, when objects of these lengths are allocated one after the other, beginning with the
--- objects o. The mallocs are counted from k + 1 on.
+-- objects o, under the numbers k, k + 1 and so on. The mallocs are counted from k + 1 on.
 abbrev pub first_refused_for_space : Share → Objects → ℕ → List ℕ → Option ℕ
 first_refused_for_space t o k [] = None
 first_refused_for_space t o k (n ∷ ns) =
@@ -102,7 +102,7 @@ count_of_class p ns c = count_by (λ n. nat_eq (class_for p n) c) ns
 abbrev pub pages_needed_by : Paging → List ℕ → ℕ
 pages_needed_by p ns = pages_for p (count_of_class p ns)
 
--- the index, from 0 on, of the first entry whose objects are larger than a page, if there is one
+-- the index, from 0 on, of the first entry, even of count 0, whose length doesn't fit a page with a header of 8 bytes, if there is one
 abbrev pub first_large : Profile → List Need → Option ℕ
 first_large s needs = position (λ (e : Need). nat_lt s.page_words (need e.bytes)) needs
 
@@ -110,14 +110,14 @@ first_large s needs = position (λ (e : Need). nat_lt s.page_words (need e.bytes
 abbrev pub declared_in_all : List Need → ℕ
 declared_in_all needs = sum_by (λ (e : Need). e.count) needs
 
--- each declared object fits a page, and the proxies are enough for all of them
+-- the length of each entry, even of count 0, fits a page with a header, and the proxies are enough for all declared objects
 pub record CanBeAsked (s : Profile) (needs : List Need) : Type 0 where
   pub none_large : first_large s needs ≡ None
   pub few : declared_in_all needs ≤ s.proxies
 
--- What each result of the admission test means. `Size`: this entry is the first whose objects are larger than a page. `Proxies`: there is no such entry, but
--- more objects are declared than there are proxies. Else `Yes`: the quota is enough; or `No`: if the declared objects are allocated in order, malloc number
--- `nth`, counted from 1, is the first that is refused for space.
+-- What each result of the admission test means. `Size`: this entry is the first, even of count 0, whose length doesn't fit a page with a header of 8 bytes.
+-- `Proxies`: there is no such entry, but more objects are declared than there are proxies. Else `Yes`: the quota is enough; or `No`: if the declared objects
+-- are allocated in order, malloc number `nth`, counted from 1, is the first that is refused for space.
 abbrev pub IsAdmission : Share → List Need → Admission → Type 0
 IsAdmission t needs (Size entry) = first_large t.profile needs ≡ Some entry
 IsAdmission t needs Proxies = (first_large t.profile needs ≡ None) × (t.profile.proxies < declared_in_all needs)

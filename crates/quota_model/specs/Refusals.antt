@@ -1,4 +1,4 @@
--- Why a task's malloc is refused, and why a new quota for a task is refused.
+-- Why a task's malloc is refused, and why a new quota for a task is refused; and the pages and classes as each task sees them.
 use Rattle.std.specs.Prelude.{ℕ, List, Option, Some, None, if◌then◌else◌, nat_eq, nat_lt, slice_set, sum}
 use Rattle.std.specs.FinMap.{len}
 use Rattle.cf_base.specs.Classes.{need}
@@ -16,8 +16,8 @@ use Rattle.quota_model.specs.declared.results.QuotaFault.TheVariants.{Sum, Used}
 abbrev pub task_paging : Profile → Paging
 task_paging s = paging_of s Words (first_bounds (record s { k = 1 }) Words)
 
--- Why a malloc of n bytes is refused to a task with these objects and this quota of pages; none if it isn't. The object is larger than a page; else all
--- proxies are in use; else the task's objects with the new one need more pages than its quota.
+-- Why a malloc of n bytes is refused to a task with these objects and this quota of pages; none if it isn't. The object with its header is larger
+-- than a page; else all proxies are in use; else the task's objects with the new one need more pages than its quota.
 abbrev pub malloc_refusal : Profile → ℕ → Objects → ℕ → Option Refusal
 malloc_refusal s quota o n =
     if nat_lt s.page_words (need n) then Some Size

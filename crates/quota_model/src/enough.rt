@@ -15,12 +15,13 @@ use cf_base::{Layout, Settings, need_of};
 
 /// Tests whether `quota` pages are enough for a task with the settings `s` that declares `needs`:
 /// for each length, how many objects of that length it has at most at one time. There are at most 64
-/// entries; those of the same length add up.
+/// entries; those of the same length add up. Each class has the bound 1, whatever bound `s` has.
 ///
-/// The result is `Size` with the first entry whose object is larger than a page, if there is one, else
-/// `Proxies` if the counts sum to more than the proxies. Else it is `Yes` if no malloc is refused for
-/// space as long as the task keeps to its needs. If one may be, it is `No`: if the declared objects are
-/// allocated in order, malloc number `nth`, counted from 1, is the first that is refused for space.
+/// The result is `Size` with the first entry, even of count 0, whose length doesn't fit a page with a
+/// header of 8 bytes, if there is one. Else it is `Proxies` if the counts sum to more than the proxies.
+/// Else it is `Yes` if no malloc is refused for space as long as the task keeps to its needs. If one may
+/// be, it is `No`: if the declared objects are allocated in order, malloc number `nth`, counted from 1,
+/// is the first that is refused for space.
 pub fn admit(s: &Settings, quota: u32, needs: &[Need]) -> Admission
     requires few { length needs.now ≤ 64 }
     ensures { IsAdmission (record { profile = profile_of s.now; quota = quota }) needs.now result }
@@ -39,7 +40,8 @@ pub fn admit(s: &Settings, quota: u32, needs: &[Need]) -> Admission
     }
 }
 
-/// The index of the first declared entry whose object is larger than a page of `page_words` words, if there is one.
+/// The index, from 0 on, of the first declared entry, even of count 0, whose length doesn't fit a page of `page_words`
+/// words with a header of 8 bytes; none if there is no such entry.
 pub fn first_large(page_words: u32, needs: &[Need]) -> Option<usize>
     ensures { result ≡ position (λ e. nat_lt page_words (need e.bytes)) needs.now }
 {
@@ -48,7 +50,7 @@ pub fn first_large(page_words: u32, needs: &[Need]) -> Option<usize>
         .position(|entry| page_words < need_of(entry.bytes))
 }
 
-/// How many objects, of any length, all entries of `needs` declare together.
+/// How many objects, of any length, all entries of `needs`, at most 64, declare together.
 pub fn count_in_all(needs: &[Need]) -> u64
     requires few { length needs.now ≤ 64 }
     ensures { result ≡ declared_in_all needs.now }
@@ -56,7 +58,8 @@ pub fn count_in_all(needs: &[Need]) -> u64
     needs.iter().map(|entry| entry.count as u64).sum()
 }
 
-/// How many pages, with `slots` slots each, `count` objects of one class need: the quotient, rounded up.
+/// How many pages, with `slots` slots each, `count` objects of one class need: the quotient, rounded up. `slots` is at
+/// least 1, and `count` plus `slots` below 2^63.
 pub fn pages_for(count: u64, slots: u64) -> u64
     requires some { 1 ≤ slots }
     requires few { count + slots < 2 ^ 63 }
@@ -66,8 +69,9 @@ pub fn pages_for(count: u64, slots: u64) -> u64
 }
 
 /// For an admission, returns how many pages all objects need once `more` objects of a class are added. The objects so
-/// far need `pages` pages, and `had` of them are of that class, with `slots` slots to a page. If the pages exceed
-/// `quota`, fails with how many of the added objects still fit.
+/// far need `pages` pages, at most `quota`, and `had` of them are of that class, with `slots` slots to a page, 1 to
+/// 4,096. `had` plus `more` is below 2^40, and `quota` below 2^32. If the pages for all exceed `quota`, fails with how
+/// many of the added objects still fit.
 fn pages_with(quota: u64, pages: u64, had: u64, more: u64, slots: u64) -> Result<u64, u64>
     requires some { 1 ≤ slots }
     requires low { slots ≤ 4096 }
@@ -89,7 +93,8 @@ fn pages_with(quota: u64, pages: u64, had: u64, more: u64, slots: u64) -> Result
 }
 
 /// For an admission, returns the number of pages that all declared objects need. If it exceeds `quota`, fails with the
-/// number, counted from 1, of the first of their mallocs, in order, that is refused for space.
+/// number, counted from 1, of the first of their mallocs, in order, that is refused for space. The length of each
+/// entry, even of count 0, must fit a page with a header, and the proxies be enough for all objects (`CanBeAsked`).
 fn pages_within(s: &Settings, quota: u32, needs: &[Need]) -> Result<u32, u32>
     requires asked { CanBeAsked (profile_of s.now) needs.now }
     ensures pages { IfOk result (λ pages. pages ≡ pages_needed_by (task_paging (profile_of s.now)) (in_order needs.now)) }
@@ -103,7 +108,8 @@ fn pages_within(s: &Settings, quota: u32, needs: &[Need]) -> Result<u32, u32>
 
 /// For an admission, counts the pages that all declared objects need, by the words of a slot of each class
 /// (`slot_sizes`). If they exceed `quota`, fails with the number, counted from 1, of the first of their mallocs, in
-/// order, that is refused for space.
+/// order, that is refused for space. The length of each entry, even of count 0, must fit a page with a header, and the
+/// proxies be enough for all objects (`CanBeAsked`).
 fn count_pages(s: &Settings, quota: u32, slot_sizes: &[u32], needs: &[Need]) -> Result<u32, u32>
     requires sized { slot_sizes.now ≡ sizes s.now.page_words Words }
     requires asked { CanBeAsked (profile_of s.now) needs.now }

@@ -29,8 +29,8 @@ pub enum Admission {
     /// The quota is not enough. If the declared objects are allocated in the order of the entries,
     /// the `nth` malloc, counted from 1, is the first that is refused for space.
     No { nth: u32 },
-    /// An object of entry number `entry`, counted from 0, is larger than a page; it is the first
-    /// such entry.
+    /// The length of entry number `entry`, counted from 0, doesn't fit a page with a header of 8
+    /// bytes; it is the first such entry. An entry of count 0 is tested too.
     Size { entry: u32 },
     /// The task declares more objects in all than it has proxies.
     Proxies,

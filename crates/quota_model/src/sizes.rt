@@ -14,7 +14,7 @@ use cf_base::{Layout, Settings, class_in};
 pub const CLASSES: usize = 67;
 
 /// Writes into `table`, which has 67 entries, the slot sizes of this layout for pages of `page_words` words: in words,
-/// in rising order. Returns how many there are.
+/// in rising order. Returns how many there are. `page_words` is a power of two from 64 to 16,384.
 pub fn fill_sizes(page_words: u32, layout: Layout, table: &mut [u32]) -> usize
     requires room { length table.old ≡ 67 }
     requires page { IsTrue (is_page_size page_words) }
@@ -28,7 +28,8 @@ pub fn fill_sizes(page_words: u32, layout: Layout, table: &mut [u32]) -> usize
 }
 
 /// Writes into `table`, in words, the sizes from `first` up to `page`, each 9/8 of the one before, rounded up; the
-/// last is `page`. `first` and `page` count units of `unit` words. Returns how many sizes there are.
+/// last is `page`. `first` and `page` count units of `unit` words. Returns how many sizes there are. There must be at
+/// most 67, the entries of `table`. `first` and `unit` are at least 1, and a page has at most 16,384 words.
 fn fill_rising(unit: u32, first: u32, page: u32, table: &mut [u32]) -> usize
     requires room { length table.old ≡ 67 }
     requires some { 1 ≤ first }
@@ -49,8 +50,8 @@ fn fill_rising(unit: u32, first: u32, page: u32, table: &mut [u32]) -> usize
     count + 1
 }
 
-/// For `admit`, the class of an object of `bytes` bytes, which must fit a page. `slot_sizes` has the words of a
-/// slot of each class.
+/// For `admit`, the class of an object of `bytes` bytes, which with its header must fit a page. `slot_sizes` has the
+/// words of a slot of each class.
 pub(crate) fn class_at(s: &Settings, slot_sizes: &[u32], bytes: u32) -> usize
     requires sized { slot_sizes.now ≡ sizes s.now.page_words Words }
     requires fits { need bytes ≤ s.now.page_words }
@@ -65,7 +66,8 @@ pub(crate) fn class_at(s: &Settings, slot_sizes: &[u32], bytes: u32) -> usize
     }
 }
 
-/// For `admit`, how many slots of the class a page has. `slot_sizes` has the words of a slot of each class.
+/// For `admit`, how many slots of class `class`, which must exist, a page has. `slot_sizes` has the words of a slot of
+/// each class.
 pub(crate) fn slots_at(s: &Settings, slot_sizes: &[u32], class: usize) -> u32
     requires sized { slot_sizes.now ≡ sizes s.now.page_words Words }
     requires within { class < length slot_sizes.now }

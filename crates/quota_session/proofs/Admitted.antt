@@ -1,5 +1,5 @@
 -- For `an_admitted_task_is_served`: after `yes` to `admit`, no malloc of the task is refused while it stays within what it declared. Also, `admit` has one
--- result.
+-- result; and a byte of the first line of a reply (`byte_at`).
 use Rattle.std.proofs.Common.{◌≡◌, ℕ, suc, Bool, true, false, ◌+◌, ◌≤◌, List, [], ◌∷◌, ◌++◌, Option, Some, None, Err, length, drop, get_or, arith, ap, sym, ◌∙◌, refl, inl, inr, subst, ◌⊎◌, codes, nat_eq, nat_lt}
 use Rattle.run_model.specs.Terms.{asks, bad, Command, empty, get, Item, Reply, said, starts}
 use Rattle.std.proofs.lemmas.Bool.{cases_lt}

@@ -1,5 +1,5 @@
 -- For `CommandSteps`: each malloc, free and write of a task has a result and a heap after it. A malloc that isn't refused finds a slot, and some words are the
--- image of the objects after the call.
+-- image of the objects after the call. A premise (`PageLaw`): while a task is below its quota, some page holds no object.
 use Rattle.std.proofs.Common.{◌≡◌, ◌≢◌, ℕ, zero, suc, ◌+◌, ◌-◌, ◌*◌, ◌/◌, ◌%◌, ◌<◌, ◌≤◌, List, Bool, true, false, cond, Some, None, length, get_or, set, arith, sym, ◌∙◌, ap, refl, subst, inl, inr, IsTrue, Option, Result, Ok, Err, nat_eq, nat_lt, length-set}
 use Rattle.std.specs.List.{range_with_len}
 use Rattle.std.proofs.lemmas.Bool.{cases_eq, cases_lt, false≢true}

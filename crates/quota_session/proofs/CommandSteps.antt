@@ -1,5 +1,5 @@
--- For `each_command_has_its_turn` and `a_run_of_tasks_can_always_go_on`: a run over tasks can begin with any settings in their ranges, and each command then
--- has a reply and a state after it.
+-- For the laws `each_command_has_its_turn`, `a_run_of_tasks_can_always_go_on` and `what_was_cut_is_a_prefix`: a run over tasks can begin with any settings in
+-- their ranges, and each command then has a reply and a state after it.
 use Rattle.std.proofs.Common.{◌≡◌, ℕ, ◌<◌, List, Some, None, refl, inl, inr, Option, codes}
 use Rattle.run_model.specs.Terms.{AreInRange, at_bound_one, Command, empty, need, Profile, region_words, Reply, said}
 use Rattle.std.proofs.lemmas.List.{length-replicate}

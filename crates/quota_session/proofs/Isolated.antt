@@ -19,7 +19,7 @@ use Rattle.quota_session.specs.Runs.{is_accepted, own_calls, replies_to}
 use Rattle.quota_session.specs.Transcript.{MeetsTasks, TaskState, admission, admission_text, command_reply, first_state, need_text, one_need_more, present_after, state_after, task_replies}
 use Rattle.script_reader.specs.declared.command.Command.TheVariants as command
 
--- For `a_reply_follows_from_the_task_alone`: the reply to a command of a task, and its objects after it, follow from the settings, its quota and its objects;
+-- The reply to a command of a task, and its objects after it, follow from the settings, its quota and its objects;
 -- so does the cause of a refused malloc.
 
 -- the heap that a task would have for itself, from its settings, quota and objects

@@ -33,8 +33,8 @@ use Rattle.quota_session.specs.Runs.{AreTaskCommands, LeaveQuota, own_commands, 
 use Rattle.cf_base.specs.declared.results.Refusal.TheVariants as refusal
 use Rattle.script_reader.specs.declared.command.Command.TheVariants as command
 
--- For `OwnTask`: the cause of a refused malloc of a task, and its `walk` report, follow from the settings, the task's quota and its objects by id, without
--- handles and addresses.
+-- For `IsOwnReply` below: the cause of a refused malloc of a task, and its `walk` report, follow from the settings, the task's quota and its objects by id,
+-- without handles and addresses.
 
 -- the cause of refusal of a task's malloc is the same for the objects m and n, if they have the same counts (`CountAlike`)
 pub refusal_alike : (s : Profile) (quota bytes : ℕ) (m n : Objects) → CountAlike m n → malloc_refusal s quota n bytes ≡ malloc_refusal s quota m bytes

@@ -1,4 +1,5 @@
--- A run over tasks: what each call keeps, its invariant, its `heap` line and its commands.
+-- A run over tasks is in progress (`IsGoingQuotas`) after its `heap` line, and each command keeps it so. What each call does to the task's objects, and keeps
+-- of the others; and what the code does is a step of the run, with the reply to `walk`.
 use Rattle.std.proofs.Common.{◌≡◌, ◌≢◌, ℕ, List, Some, None, length, replicate, sym, ◌∙◌, ap, refl, subst, ◌<◌, ◌≤◌, [], ◌∷◌, ◌++◌, cond, arith, inl, inr, zero, suc, get_or, lit<, ◌-◌, Option, option_map, Result, Ok, Err, IsTrue}
 use Rattle.run_model.specs.Terms.{AccessFault, at_bound_one, Command, empty, Failed, Freed, get, Handle, Ids, insert, IsWellFormed, led, len, Objects, objects, Placed, Position, Profile, Refusal, remove, Reply, SinkState, Walk, Writes, written}
 use Rattle.cf_base.proofs.MapValues.{get-map_values}
@@ -154,8 +155,7 @@ task_keeps task = record {
   kept = λ e. absurd e;
 }
 
--- For clause `going` of `apply_ref` and the law `each_command_has_its_turn`: after each command the heap of tasks keeps its rules, and each task's ids name
--- its objects (`IsGoingQuotas`).
+-- After each command the heap of tasks keeps its rules, and each task's ids name its objects (`IsGoingQuotas`).
 
 -- `with_ids` replaces the ids of the present task, and keeps the ids of every other task
 pub ids_here : (s : TaskSession) (ids : Ids) → HasSixteen s → ids_of (with_ids s ids) s.present ≡ ids
@@ -277,8 +277,8 @@ going_before p session view heap opened rules profile is sixteen tied = record {
   tied = subst (λ (s : TaskSession). AreTasksTied s heap) (sym is) tied;
 }
 
--- For `open` and the law `each_command_has_its_turn`: a run over tasks begins without objects and ids and with quotas of 0, and is then in progress
--- (`IsGoingQuotas`): the heap keeps its rules, ids name its objects.
+-- A run over tasks begins without objects and ids and with quotas of 0, and is then in progress (`IsGoingQuotas`): the heap keeps its rules, ids name its
+-- objects.
 
 -- in a list of n equal values every value is this one, and so is the default
 pub all_same : {X : Type 0} (n i : ℕ) (x : X) → get_or (replicate n x) i x ≡ x

@@ -1,5 +1,4 @@
--- For the laws of `laws.rt`: the replies of a run over tasks are those of the transcript, a function of the lines alone; so two runs that are alike for a task
--- give it the same replies.
+-- The replies of a run over tasks are those of the transcript, a function of the lines alone; so two runs that are alike for a task give it the same replies.
 use Rattle.std.proofs.Common.{◌≡◌, ℕ, ◌<◌, ◌≤◌, List, [], ◌∷◌, Some, None, true, false, cond, get_or, length, take, arith, sym, ◌∙◌, ap, refl, subst, inl, inr, get_or-set_same, get_or-set_other}
 use Rattle.std.specs.Prelude.{⊤, Option, nat_eq, nat_le, nat_lt, option_map, slice_set, sum}
 use Rattle.std.proofs.lemmas.Bool.{cases_eq}

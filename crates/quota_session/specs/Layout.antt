@@ -1,4 +1,5 @@
--- The session that the stored records of sixteen tasks represent, and which commands have a reply of one line. No public clause cites this module.
+-- The session that the stored records of sixteen tasks represent; which commands have a reply of one line, and which of these name no task. No public
+-- clause cites this module.
 use Rattle.run_model.specs.Terms.{Admit, Command, Need, Quota, Task, Walk}
 use Rattle.quota_session.specs.QuotaRun.{TaskSession}
 use Rattle.quota_session.specs.declared.records.Records.{Records}

@@ -1,4 +1,5 @@
--- A session over a heap that sixteen tasks share: its state, and for each command the reply and the state after it.
+-- A session over a heap that sixteen tasks share: its state, when a run over it is in progress (`IsGoingQuotas`), and for each command the reply and the state
+-- after it.
 use Rattle.std.specs.Prelude.{◌≡◌, ℕ, ◌<◌, ◌≤◌, IsTrue, List, [], Option, Some, codes, length, replicate, refl, slice_index_or, slice_set}
 use Rattle.std.specs.Coded.{Coded, code_by, coded×, coded_ℕ, coded_list}
 use Rattle.run_model.specs.Terms.{Command, empty, Ids, Profile, Reply, said}

@@ -1,4 +1,5 @@
--- For isolation of calls: in a list of calls and quota lines of many tasks (`TaskItem`), the items that concern one task, and the replies to it.
+-- For `tasks_are_isolated` and `a_task_has_a_heap_of_its_own`: in a list of calls and quota lines of many tasks (`TaskItem`), the items that concern one task,
+-- also as a script of its own, and the replies to it.
 use Rattle.std.specs.Prelude.{◌≡◌, ◌≢◌, ⊤, ℕ, Bool, true, false, ◌&&◌, List, [], ◌∷◌, Option, Some, None, if◌then◌else◌, nat_eq}
 use Rattle.quota_model.specs.declared.results.QuotaFault.{QuotaFault}
 use Rattle.run_model.specs.Terms.{asks, Item, Reply}

@@ -21,7 +21,7 @@ TaskRun = ObjectRun QuotaState
 abbrev pub task_run : Ids → QuotaState → TaskRun
 task_run ids heap = object_run ids heap
 
--- the object that an id of the task names, if it is live
+-- the object that an id of the task names; None if the id isn't live, or its handle isn't
 abbrev pub task_object : ℕ → TaskRun → ℕ → Option Placed
 task_object task s id = elim (get s.ids id) [ None ↦ None | Some h ↦ get (held_by s.heap task) h ]
 

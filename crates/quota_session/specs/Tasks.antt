@@ -1,5 +1,5 @@
--- The tasks of a script in mode `quota`, each with a quota of pages and its objects by id; and for a call of a task and a quota line the reply and the state
--- after it.
+-- The tasks of a script in mode `quota`, each with a quota of pages and its objects by id; the heap that a task would have for itself (`own_heap`); and for a
+-- call of a task and a quota line the reply and the state after it.
 use Rattle.std.specs.Prelude.{ℕ, Bool, true, false, List, Option, Some, None, codes, if◌then◌else◌, nat_eq, replicate, slice_index, slice_set}
 use Rattle.run_model.specs.Terms.{Command, empty, Free, Malloc, Moving, Objects, Profile, Read, Reply, said, Walk, Write}
 use Rattle.quota_model.specs.Refusals.{quota_refusal}

@@ -35,9 +35,9 @@ admission_text Proxies = codes "proxies"
 admission_text (No nth) = with_number (codes "no ") nth
 admission_text Yes = codes "yes"
 
--- The result of `admit`, by the results of three tests. It is `Size` if there is an `entry`, the first that declares objects longer than a page. Else it is
--- `Proxies` if `exceeds`: more objects are declared than there are proxies. Else it is `No` if one of the declared mallocs, made in order, is refused for space;
--- `short` is the number of the first such malloc, counted from 1. Else it is `Yes`.
+-- The result of `admit`, by the results of three tests. It is `Size` if there is an `entry`, the first, even of count 0, whose length doesn't fit a page with a
+-- header. Else it is `Proxies` if `exceeds`: more objects are declared than there are proxies. Else it is `No` if one of the declared mallocs, made in order, is refused
+-- for space; `short` is the number of the first such malloc, counted from 1. Else it is `Yes`.
 abbrev pub admission_by : Option ℕ → Bool → Option ℕ → Admission
 admission_by (Some entry) exceeds short = Size entry
 admission_by None true short = Proxies

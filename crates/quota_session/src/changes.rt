@@ -1,5 +1,6 @@
-//! The commands `m`, `f`, `w` and `r` of one task on its objects, which a script names by ids. `task` is the
-//! task's number, 0 to 15; `ids` maps its live ids to handles.
+//! The commands of one task on its objects, which a script names by ids: `m`, `f` and `w`, which change objects,
+//! and `r`, which reads one. `task` is the task's number, 0 to 15; `ids` maps its live ids to handles. The heap
+//! must be open. The ledger `steps`, which has counted at most 2^63 steps, gets those of the heap's call.
 ghost use Rattle.std.specs.Prelude.{◌≡◌, ◌^◌, ◌<◌, ◌≤◌, [], IsTrue, length};
 ghost use Rattle.step_ledger.specs.Counting.{RoseAtMost};
 ghost use Rattle.cf_io.specs.Lines.{line_capacity};
@@ -49,7 +50,8 @@ pub(crate) fn malloc(
 }
 
 /// `f`: frees the object of a live id of the task, and the id. The reply is `ok`; or `unknown` if
-/// the id isn't live, and then nothing changes.
+/// the id isn't live, and then nothing changes. The ids must name exactly the task's objects
+/// (`AreTiedTo`).
 pub(crate) fn free(
     ids: &mut IdTable,
     heap: &mut QuotaHeap,
@@ -75,8 +77,8 @@ pub(crate) fn free(
 }
 
 /// `w`: writes `bytes` into the object of a live id of the task, from byte `at` on. The reply is
-/// `ok`; or `unknown` if the id isn't live, or `range` if the bytes pass the object's end, and then
-/// nothing changes.
+/// `ok`; or `unknown` if the id isn't live, or `range` if `at` plus the number of bytes exceeds the
+/// object's length, and then nothing changes.
 pub(crate) fn write(
     ids: &IdTable,
     heap: &mut QuotaHeap,
@@ -101,9 +103,10 @@ pub(crate) fn write(
     }
 }
 
-/// `r`: reads as many bytes as `buffer` holds from the object of a live id of the task, from byte `at` on. The
-/// reply in `line` is `=` and the bytes in hexadecimal; or `unknown` if the id isn't live, or `range` if the
-/// bytes pass the object's end.
+/// `r`: reads as many bytes as `buffer` has, at most 4,096, from the object of a live id of the task, from byte
+/// `at` on. The reply in `line`, which is empty before, is `=` and the bytes in hexadecimal; or `unknown` if the
+/// id isn't live, or `range` if `at` plus the number of bytes exceeds the object's length. Returns the reply's
+/// outcome.
 pub(crate) fn read(
     ids: &IdTable,
     heap: &QuotaHeap,

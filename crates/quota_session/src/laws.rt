@@ -1,7 +1,7 @@
 //! Laws of mode `quota`: the replies to every script are a function of its lines (`MeetsTasks`), tasks that
-//! share a region don't see one another, an admitted task is served, reads give what was written, runs can go
-//! on, cut output is a prefix, and wrong replies violate the claim. The functions do nothing: their clauses are
-//! the laws.
+//! share a region don't see one another, each is answered as by a heap of its own, an admitted task is served,
+//! reads give what was written, runs can go on, cut output is a prefix, and wrong replies violate the claim.
+//! The functions do nothing: their clauses are the laws.
 ghost use Rattle.std.specs.Prelude.{◌≡◌, ℕ, ◌++◌, Bool, List, [], None, Option, true, ◌+◌, ◌<◌, codes, drop, length, ◌∷◌, Some, slice_index, slice_index_or};
 ghost use Rattle.run_model.specs.Terms.{Admit, AreInRange, asks, Command, IsWellFormed, Item, items, Moving, Objects, Profile, Reply, said, text_of};
 ghost use Rattle.quota_session.specs.Tasks.{is_for_task, task_reply, TaskItem, Tasks, no_tasks, own_heap, task_leaves};
@@ -45,8 +45,9 @@ pub fn a_task_is_answered_from_its_own()
 }
 
 /// In every script in mode `quota`, each read prints the bytes last written through its id by the
-/// present task. These bytes follow from the lines and their replies alone: `t` makes a task
-/// present, and each task has ids of its own.
+/// present task, or `range` if it passes the object's end, `unknown` if the id isn't live. These
+/// bytes follow from the lines and their replies alone: `t` makes a task present, and each task has
+/// ids of its own.
 pub fn reads_give_what_was_written()
     ensures run { (items : List Item) (replies : List Reply) (new : Option QuotaRun)
         → AreValidItems items → RunsQuotas None items replies new → AreReadsOfTasks None items replies }
@@ -124,7 +125,7 @@ pub fn a_reply_follows_from_the_task_alone()
 {}
 
 /// Isolation in mode `quota`: remove from a list of calls and quota lines those of the other tasks, and every refused
-/// quota line. The replies to the task are the same, in the same order.
+/// quota line. The replies to the task's calls are the same, in the same order.
 pub fn tasks_are_isolated()
     ensures { (s : Profile) (task : ℕ) (items : List TaskItem) → task < 16
         → replies_to task (no_tasks s) (own_calls task (no_tasks s) items)

@@ -1,5 +1,6 @@
 //! Mode `quota`: a session over a heap that sixteen tasks share. It holds each task's ids and
 //! declared needs, and the number of the present task, for which `m`, `f`, `w`, `r` and `walk` act.
+//! Also the mode's handler (`QuotaHandler`), and laws of the replies.
 #![tactic(auto)]
 
 mod changes;

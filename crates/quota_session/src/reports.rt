@@ -1,4 +1,5 @@
 //! `walk` for one task: a line for each class with live objects of the task, and a line with its totals.
+//! `task` is the task's number, 0 to 15. The heap must be open.
 ghost use Rattle.std.specs.Prelude.{◌≡◌, ◌<◌, [], IfOk, IsTrue};
 ghost use Rattle.run_model.specs.Terms.{led, Writes};
 ghost use Rattle.page_model.specs.Arrangement.{used_pages};
@@ -18,7 +19,8 @@ const CLASSES: u32 = 67;
 
 /// `walk`: writes a line for each class of the task with live objects, and then the line of the totals: the
 /// task's live objects, its pages in use, and the pages of its quota that it doesn't use. Each line is
-/// built in `line`. If the sink fails, the result is `Failed`, and a prefix of the report was written.
+/// built in `line`. `ids` must name exactly the task's objects (`AreTiedTo`). If the sink fails, the result is
+/// `Failed`, and a prefix of the report was written.
 pub(crate) fn walk<K: Sink>(
     ids: &IdTable,
     heap: &QuotaHeap,

@@ -1,5 +1,6 @@
 //! A session over a heap that sixteen tasks share: it does each command, for the present task or
-//! the one that the command names, and writes its reply.
+//! the one that the command names, and writes its reply. Each function with a ledger `steps`, which
+//! has counted at most 2^63 steps before, adds the command's steps to it. A `buffer` has 4,096 bytes.
 ghost use Rattle.std.specs.Prelude.{◌≡◌, ◌<◌, ◌^◌, ◌≤◌, [], IfOk, IsTrue, Option, Some, length};
 ghost use Rattle.step_ledger.specs.Counting.{RoseAtMost};
 ghost use Rattle.run_model.specs.Terms.{IsWellFormed, owned_command, Profile, profile_of, said, SinkFailsIf};
@@ -30,7 +31,9 @@ use std::alloc::Global;
 use std::marker::Model;
 use step_ledger::{Meter, Steps};
 
-/// For each of sixteen tasks its ids and its declared needs; and which task is present.
+/// For each of sixteen tasks its ids and its declared needs; and which task is present. Each
+/// command requires that the heap is open, that the ids of each task name exactly its objects in the
+/// heap (`AreTasksTied`), and that the command is well formed (`IsWellFormed`).
 #[derive(Drop)]
 pub struct QuotaSession {
     records: Records,
@@ -68,8 +71,8 @@ impl QuotaSession {
 
     /// Resets the ledger of `meter` to 0, does the command c on the heap of tasks, which is open
     /// with the settings `s`, and writes its reply to the sink `out`. Returns the reply's outcome.
-    /// If the sink fails, the result is `Failed`: the command has taken effect, and a prefix of its
-    /// reply was written.
+    /// The ledger then has at most `most_tasks_steps` of the command. If the sink fails, the result
+    /// is `Failed`: the command has taken effect, and a prefix of its reply was written.
     pub fn apply<K: Sink>(
         &mut self,
         heap: &mut QuotaHeap,
@@ -93,8 +96,8 @@ impl QuotaSession {
     }
 
     /// Does the command c, whose bytes are borrowed, and writes its reply, as `QuotaSession::apply`
-    /// does. But it doesn't reset the ledger `steps`, which must be at most 2^63: it adds to it, at
-    /// most `most_tasks_steps` of the command.
+    /// does. But the ledger `steps`, which must be at most 2^63, isn't reset: the call adds at most
+    /// `most_tasks_steps` of the command to it.
     pub fn apply_ref<K: Sink>(
         &mut self,
         heap: &mut QuotaHeap,
@@ -209,8 +212,8 @@ fn build_reply(
     }
 }
 
-/// Does a command of mode `quota` that names no task, for the present task, builds the text of its reply in `line`, and
-/// returns its outcome. `buffer` gets the bytes of a read. The command isn't `walk`.
+/// Does a command of mode `quota` that names no task, for the present task, builds the text of its reply in `line`,
+/// which is empty before, and returns its outcome. `buffer` gets the bytes of a read. The command isn't `walk`.
 fn build_reply_present(
     records: &mut Records,
     heap: &mut QuotaHeap,
@@ -239,8 +242,8 @@ fn build_reply_present(
 }
 
 /// Does a command of mode `quota` that names no task, for the task `task`, whose ids are `ids`, builds the text of its
-/// reply in `line`, and returns its outcome. `buffer` gets the bytes of a read. The command isn't `walk`; the reply to
-/// a command of another mode is `none`.
+/// reply in `line`, which is empty before, and returns its outcome. `buffer` gets the bytes of a read. The command
+/// isn't `walk`; the reply to a command of another mode is `none`.
 fn build_reply_task(
     ids: &mut IdTable,
     heap: &mut QuotaHeap,

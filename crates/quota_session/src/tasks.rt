@@ -1,6 +1,7 @@
-//! The commands `quota`, `need` and `admit`, which name a task, 0 to 15, whichever is present: they
-//! set its quota, add to the objects that it declares, and test whether the quota and the proxies
-//! are enough for these.
+//! The commands `quota`, `need` and `admit`, which name a task, 0 to 15, whichever is present:
+//! `quota` sets the task's quota, and `need` adds to the objects that the task declares. Of `admit`
+//! only the reply is built here: `quota_model::admit` tests whether the quota and the proxies are
+//! enough for these objects.
 ghost use Rattle.std.specs.Prelude.{◌≡◌, ◌<◌, [], IsTrue, length};
 ghost use Rattle.cf_io.specs.Lines.{line_capacity};
 ghost use Rattle.cf_session.specs.Apply.{outcome_in};
@@ -17,9 +18,9 @@ use cf_session::{Outcome, Short};
 use quota_heap::{QuotaFault, QuotaHeap};
 use quota_model::{Admission, Need};
 
-/// `quota`: sets the quota of a task to `pages` pages. The reply is `ok`; or `refused sum` if the
-/// quotas would sum to more pages than the region has, else `refused used` if the task uses more
-/// than `pages` pages, and then nothing changes.
+/// `quota`: sets the quota of a task of an open heap to `pages` pages. The reply is `ok`; or
+/// `refused sum` if the quotas would sum to more pages than the region has, else `refused used`
+/// if the task uses more than `pages` pages, and then nothing changes.
 pub(crate) fn set_quota(heap: &mut QuotaHeap, task: u32, pages: u32) -> Short
     requires opened { IsTrue heap.old.is_open }
     requires sixteen { task < 16 }
@@ -50,11 +51,11 @@ pub(crate) fn declare(records: &mut Records, task: u32, entry: Need) -> Short
     }
 }
 
-/// `admit`: builds in `line` the reply for `answer`, the test whether a task's quota and proxies
-/// are enough for the objects that it declares, and returns its outcome. The reply is `yes`; `no`
-/// and the number, from 1, of the first declared malloc that is refused for space; `proxies` if the
-/// task declares more objects than it has proxies; or `size` if it declares an object larger than a
-/// page.
+/// `admit`: builds in `line`, which is empty before, the reply for `answer`, the result of the test
+/// whether a task's quota and proxies are enough for the objects that it declares. Returns the
+/// reply's outcome, `Other`. The reply is `yes`; `no` and the number, from 1, of the first declared
+/// malloc that is refused for space; `proxies` if the task declares more objects than it has
+/// proxies; or `size` if the length of an entry, even of count 0, doesn't fit a page with a header.
 pub(crate) fn push_admission(line: &mut Line, answer: Admission) -> Outcome
     requires { line.old ≡ [] }
     ensures text { line.new ≡ admission_text answer }

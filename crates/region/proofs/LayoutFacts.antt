@@ -1,4 +1,5 @@
--- For the calls of `Block`, the memory of a region: splitting what it owns into its words and the right to free them, and joining the two again.
+-- For the calls of `Block`, the memory of a region: its value as the machine has it; splitting what it owns into its words and the right to free them, and
+-- joining the two again; its words as single cells; and the uninitialized memory that released words leave.
 use Rattle.std.proofs.Common.{◌≡◌, ℕ, ◌+◌, ◌^◌, ◌<◌, List, [], ◌∷◌, ◌++◌, length, refl, sym, ap, ◌∙◌, w64}
 use seplogic.Ra.Ura.{Ura}
 use base.Fraction.{full_share}

@@ -1,4 +1,4 @@
--- For `write_bytes` and the other calls of `cells.rt`: bytes are overwritten word by word.
+-- Bytes are overwritten word by word, in one part or several: each byte afterwards. Also the bytes of a word, and eight bytes as a word.
 use Rattle.std.proofs.Common.{◌≡◌, ℕ, zero, suc, ◌+◌, ◌-◌, ◌*◌, ◌/◌, ◌%◌, ◌<◌, ◌≤◌, true, false, List, [], ◌∷◌, length, get_or, set, take, drop, arith, lit<, ◌^◌, sym, ◌∙◌}
 use Rattle.std.proofs.Common.{inl, inr, ap, refl}
 use Rattle.std.specs.Prelude.{◌&&◌, nat_le, nat_lt, if◌then◌else◌}

@@ -1,4 +1,4 @@
--- For `cells.rt` and `ranges.rt`: items in the middle of a list are replaced, and words by words that have given bytes.
+-- A list after items in its middle are replaced, or after it is filled in three parts; and the bytes of a list of words after some of the words are replaced.
 use Rattle.std.proofs.Common.{◌≡◌, ℕ, ◌+◌, ◌-◌, ◌*◌, ◌/◌, ◌%◌, ◌<◌, ◌≤◌, List, ◌++◌, length, get_or, take, drop, arith, sym, ap, ◌∙◌, inl, inr}
 use Rattle.std.specs.Prelude.{◌⊎◌}
 use Rattle.std.proofs.lemmas.Bool.{cases_lt}

@@ -1,4 +1,4 @@
--- For the calls of `runs.rt`: the bytes of a run of consecutive words, and the words that a borrow of the run leaves if bytes were written through it.
+-- The bytes of a run of consecutive words, and the words that a borrow of the run leaves if bytes were written through it.
 use Rattle.std.proofs.Common.{◌≡◌, ℕ, zero, suc, ◌+◌, ◌-◌, ◌*◌, ◌/◌, ◌%◌, ◌^◌, ◌<◌, ◌≤◌, List, length, get_or, set, take, drop, arith}
 use Rattle.std.proofs.Common.{◌∙◌, ap, inl, inr, sym}
 use Rattle.std.proofs.lemmas.Bool.{cases_eq, cases_lt}

@@ -1,4 +1,4 @@
--- Each word of a region after a call of `Region`, and that the number of words stays.
+-- Each word of a region after a call of `Region`, each word that a borrow leaves (`fit`), and that the number of words stays.
 use Rattle.std.proofs.Common.{◌≡◌, ℕ, ◌+◌, ◌-◌, ◌%◌, ◌^◌, ◌<◌, ◌≤◌, ◌⊎◌, inl, inr, List, ◌++◌, length, take, drop, map, replicate, slice_index, arith, ap, lit<}
 use Rattle.std.proofs.Common.{◌∙◌}
 use Rattle.std.proofs.lemmas.List.{length-append, length-take, length-take-le, length-drop, length-replicate, get_or_append_left, get_or-append_right}

@@ -7,7 +7,7 @@ use Rattle.region.specs.Words.{IsOutsideFirst}
 abbrev pub HasBytesOf : List ℕ → List ℕ → List ℕ → ℕ → Type 0
 HasBytesOf bytes words blocks n = (k j : ℕ) → k < n → j < 32 → slice_index bytes (32 * k + j) ≡ byte_in words (32 * slice_index blocks k + j)
 
--- each of the first n of these blocks gets the next 32 of the bytes; every other word stays
+-- each of the first n of these blocks gets the next 32 of the bytes, in words below 2^64; every other word stays
 pub record WritesBlocks (old new blocks bytes : List ℕ) (n : ℕ) : Type 0 where
   pub arrived : HasBytesOf bytes new blocks n
   pub small : (k j : ℕ) → k < n → j < 4 → slice_index new (4 * slice_index blocks k + j) < 2 ^ 64

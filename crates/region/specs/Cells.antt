@@ -1,4 +1,4 @@
--- The bytes of a list of words, eight to a word, the least significant first.
+-- The bytes of a list of words, eight to a word, the least significant first; and bytes after some of them are overwritten.
 use Rattle.std.specs.Prelude.{ℕ, ◌+◌, ◌-◌, ◌/◌, ◌%◌, ◌&&◌, List, length, slice_index, nat_le, nat_lt, if◌then◌else◌}
 use Rattle.page_model.specs.Bytes.{byte_of}
 

@@ -1,4 +1,4 @@
--- What writing bytes into consecutive words of a region (`run`) does.
+-- What writing bytes into consecutive words of a region (`run`) does; a byte of such words; and how many words hold a number of bytes.
 use Rattle.std.specs.Prelude.{◌≡◌, ℕ, ◌+◌, ◌*◌, ◌/◌, ◌%◌, ◌^◌, ◌<◌, List, length, slice_index}
 use Rattle.page_model.specs.Bytes.{byte_of}
 use Rattle.page_model.specs.Image.{IsOutside, WordRange}
@@ -12,7 +12,8 @@ byte_from words first k = byte_of (k % 8) (slice_index words (first + k / 8))
 abbrev pub words_with : ℕ → ℕ → ℕ
 words_with at count = (at + count + 7) / 8
 
--- The words `old` become `new`: `bytes` replace the bytes of the run from byte `from` of its first word on. No other byte and no other word changes.
+-- The words `old` become `new`, as many: `bytes` replace the bytes of the run from byte `from` of its first word on. No other byte and no other word
+-- changes. Each word of the run is then below 2^64.
 pub record Overwrites (old new : List ℕ) (run : WordRange) (from : ℕ) (bytes : List ℕ) : Type 0 where
   pub long : length new ≡ length old
   pub others : (w : ℕ) → IsOutside run.from run.count w → slice_index new w ≡ slice_index old w

@@ -30,7 +30,8 @@ unsafe impl Send for Block {}
 impl Block {
     ghost use Rattle.region.specs.BlockLoan.{LendsAll, LendsPartOf};
 
-    /// Allocates a region's block of `len` words, all zero; none if the allocation fails.
+    /// Allocates a region's block of `len` words, fewer than 2^32, all zero; none if the allocation
+    /// fails.
     pub(crate) fn new(alloc: &Global, len: usize) -> Option<Block>
         requires { len < 2 ^ 32 }
         ensures { IfSome result (λ b. b.items ≡ replicate len 0) }
@@ -59,7 +60,8 @@ impl Block {
         unsafe { std::slice::from_raw_parts(self.at, self.len) }
     }
 
-    /// Borrows all words of the block for writing.
+    /// Borrows all words of the block for writing. When the borrow ends, the block has the words
+    /// that were written.
     pub(crate) fn words_mut(&mut self) -> &mut [u64]
         ensures* writes_back { sem 𝓛 (LendsAll self.entry result) }
         ensures value { result.now ≡ self.old.items }
@@ -67,7 +69,8 @@ impl Block {
         unsafe { std::slice::from_raw_parts_mut(self.at, self.len) }
     }
 
-    /// Borrows the `n` words of the block from index `i` on for writing.
+    /// Borrows the `n` words of the block from index `i` on for writing. When the borrow ends, the
+    /// block has what was written there, and every other word stays.
     pub(crate) fn run_mut(&mut self, i: usize, n: usize) -> &mut [u64]
         requires within { i + n ≤ length self.old.items }
         ensures* writes_back { sem 𝓛 (LendsPartOf self.entry i n result) }
@@ -77,9 +80,10 @@ impl Block {
     }
 }
 
-// Writes zeros to the `len` words from `at` on: the allocator has no call for zeroed memory. The
-// compiler makes one `memset` of this loop. The loop touches all memory of the block, so that no
-// later call is the first to touch some, which would cost a page fault.
+// Writes zeros to the `len` words from `at` on, which must be allocated memory of fewer than 2^32
+// words: the allocator has no call for zeroed memory. The compiler makes one `memset` of this loop.
+// The loop touches all memory of the block, so that no later call is the first to touch some, which
+// would cost a page fault.
 unsafe fn zero(at: *mut u64, len: usize)
     requires small { len < 2 ^ 32 }
     requires* room { sem 𝓛 (room_of_words at len) }

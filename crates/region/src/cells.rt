@@ -1,5 +1,6 @@
 //! Reading and writing the bytes of words, without counting steps. Byte k of a list of words is
-//! byte k modulo 8 of word k / 8, the least significant first.
+//! byte k modulo 8 of word k / 8, the least significant first. Bytes that a function reads or writes
+//! must lie within the words that it gets.
 ghost use Rattle.std.specs.Prelude.{◌≡◌, ℕ, ◌+◌, ◌-◌, ◌*◌, ◌%◌, ◌<◌, ◌≤◌, length, min, slice_index};
 ghost use Rattle.page_model.specs.Bytes.{byte_of, written};
 ghost use Rattle.region.specs.Cells.{byte_in, overwritten};
@@ -7,7 +8,8 @@ ghost use Rattle.region.specs.Cells.{byte_in, overwritten};
 /// How many bytes a word has.
 const WORD_BYTES: usize = 8;
 
-/// Writes `part` over the bytes of `cell` from byte `from` on. Every other byte stays.
+/// Writes `part` over the bytes of `cell`, a list of bytes, from byte `from` on, where `part` must
+/// fit. Every other byte stays.
 fn overwrite(cell: &mut [u8], from: usize, part: &[u8])
     requires { from + length part.now ≤ length cell.old }
     ensures { cell.new ≡ written cell.old from part.now }
@@ -56,7 +58,7 @@ pub(crate) fn copy_word(word: u64, from: usize, out: &mut [u8])
     }
 }
 
-/// Fills `out` with the bytes of the words, eight of each.
+/// Fills `out` with the bytes of the words; `out` must have exactly eight bytes for each word.
 // The loop goes over two slices by one index, so that it compiles to loads and stores of 16 bytes.
 #[inline(always)]
 pub(crate) fn copy_words(words: &[u64], out: &mut [u8])
@@ -69,7 +71,7 @@ pub(crate) fn copy_words(words: &[u64], out: &mut [u8])
     }
 }
 
-/// Replaces the words by those whose bytes are `bytes`, eight bytes to a word.
+/// Replaces the words by those whose bytes are `bytes`, exactly eight bytes for each word.
 #[inline(always)]
 pub(crate) fn put_words(words: &mut [u64], bytes: &[u8])
     requires { length bytes.now ≡ 8 * length words.old }
@@ -188,7 +190,7 @@ pub(crate) fn write_bytes(words: &mut [u64], at: usize, bytes: &[u8])
 }
 
 /// Replaces the bytes of the words from byte `at` on by `bytes`, in three parts: the bytes before
-/// the first whole word, the whole words, and the bytes after them.
+/// the first whole word, the whole words, and the bytes after them. Every other byte stays.
 fn write_parts(words: &mut [u64], at: usize, bytes: &[u8])
     requires { at + length bytes.now ≤ 8 * length words.old }
     ensures { (k : ℕ) → byte_in words.new k ≡ overwritten (byte_in words.old) at bytes.now k }

@@ -1,5 +1,6 @@
 //! Reading and writing bytes in consecutive words of a region, at a step for each word; and how
-//! many words hold a number of bytes.
+//! many words hold a number of bytes. The words must lie within the region, and the bytes within
+//! these words.
 ghost use Rattle.std.specs.Prelude.{◌≡◌, ℕ, ◌+◌, ◌*◌, ◌<◌, ◌≤◌, length, slice_index};
 ghost use Rattle.step_ledger.specs.Counting.{RoseBy};
 ghost use Rattle.region.specs.Overwriting.{Overwrites, byte_from, words_with};
@@ -8,7 +9,8 @@ use crate::Region;
 use crate::cells::{copy_word, patched, read_bytes, write_bytes};
 use step_ledger::Steps;
 
-/// How many words hold the first `at + count` bytes of a list of words.
+/// Returns how many words hold the first `at + count` bytes of a list of words. The result must be
+/// below 2^32.
 pub fn words_with(at: usize, count: usize) -> u32
     requires { words_with at count < 4294967296 }
     ensures { result ≡ words_with at count }

@@ -1,5 +1,5 @@
--- Every step of a run with pages meets `MeetsBounds`: a class with n objects, m to a page, has at most ⌊n/m⌋ + k pages; if every bound is 1, exactly when a
--- malloc is refused. So each `Step` is an `IsCommandStep`.
+-- Every step of a run with pages meets `MeetsBounds`: a class with n objects, m to a page, has at most ⌊n/m⌋ + k pages; and if every bound is 1, a malloc of
+-- an object that fits a page is refused if and only if `LacksProxyOrPages` holds. So each `Step` is an `IsCommandStep`.
 use Rattle.std.proofs.Common.{◌≡◌, ℕ, ◌≤◌, Option, Some, None, Result, Ok, Err, ap, sym, ◌∙◌, subst, inl, inr, refl, ◌↔◌, codes}
 use Rattle.run_model.specs.Terms.{Command, EveryBoundIsOne, family_of, get, Handle, HeapState, IsGoing, IsPaged, KeepsRules, Kind, Malloc, need, paging_in, Refusal, Reply, Request, RunState, said}
 use Rattle.cf_base.specs.declared.results.Refusal.TheVariants as refusal

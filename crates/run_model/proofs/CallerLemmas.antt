@@ -1,5 +1,6 @@
--- What other crates' proofs may cite, re-exported: each step of a run keeps it in progress and within its bounds, ids stay those of the objects,
--- consecutive runs are one, and what objects by id are. Declares nothing.
+-- What other crates' proofs may cite, re-exported: a run is in progress when it begins, and each step keeps it so, with rules, kind and settings, and meets
+-- `MeetsBounds`; the step of each command that names an id, by the id's handle; what a refused resize, a resize and the counting of a move keep; consecutive
+-- runs are one, and the states of a run may be mapped; and what objects by id, or other values by id, are. Declares nothing.
 pub use Rattle.run_model.proofs.Bounded.{step_meets_bounds}
 pub use Rattle.run_model.proofs.RunInvariant.{begins_going, step_going, step_same}
 pub use Rattle.run_model.proofs.RunInvariant.{counted_bound, resized_ids, unmoved_changes_cost}

@@ -1,5 +1,5 @@
--- Runs over the items of a script by the rules of any mode (`PlayRun`): two consecutive runs joined to one, a run over one item, and a run whose states are
--- mapped by a function.
+-- Runs over the items of a script by the rules of any mode (`PlayRun`): two consecutive runs joined to one, the text of consecutive replies, a run over one
+-- item, and a run whose states are mapped by a function.
 use Rattle.std.proofs.Common.{◌≡◌, ◌++◌, ◌∙◌, ℕ, List, [], ◌∷◌, Option, Some, None, refl, sym, ap, subst, append_assoc, option_map}
 use Rattle.run_model.specs.Terms.{asks, bad, Command, Item, led, Profile, Reply, starts, text_of}
 use Rattle.run_model.specs.Plays.{IsAt, PlayPart, PlayRun, PlayStep}

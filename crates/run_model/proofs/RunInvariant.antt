@@ -1,4 +1,6 @@
--- Every step keeps a run in progress (`IsGoing`): its heap is open and keeps its rules, kind and settings, and its ids are those of the objects.
+-- A run is in progress (`IsGoing`) when it begins, and every step keeps it so: its heap is open and keeps its rules, kind and settings, and its ids are those
+-- of the objects. Also the step of each command that names an id, by the id's handle; what a refused resize keeps; and that a resize keeps the ids, and
+-- counting a move the step bound.
 use Rattle.std.specs.Prelude.{ℕ, List, Option, codes}
 use Rattle.std.specs.Option.{MatchOption}
 use Rattle.run_model.specs.Terms.{AccessFault, AreTied, Bound, Command, CostsAtMost, CostsByKind, counted, family_of, Free, get, Handle, HeapState, Held, Ids, insert, IsGoing, KeepsRules, Kind, Malloc, objects, paged, Position, Profile, Refusal, remove, Reply, Request, Resize, Resized, ResizeFault, RunState, SessionState, tiled, with_bound, Write}

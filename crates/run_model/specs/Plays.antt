@@ -1,5 +1,6 @@
--- A run over the items of a script, for any type `S` of states and two rules. `begins p reply s`: a `heap` line with settings `p` may get this reply and lead
--- to state `s`. `turns old command reply s`: in state `old` the command may get this reply and lead to `s`. `None` is the state before the `heap` line.
+-- A run over the items of a script, and one item whose reply was cut, for any type `S` of states and two rules. `begins p reply s`: a `heap` line with settings
+-- `p` may get this reply and lead to state `s`. `turns old command reply s`: in state `old` the command may get this reply and lead to `s`. `None` is the state
+-- before the `heap` line.
 use Rattle.std.specs.Prelude.{◌≡◌, ◌++◌, List, [], ◌∷◌, ℕ, Option, Some, None, ⊤}
 use Rattle.cf_base.specs.Settings.{Profile}
 use Rattle.script_reader.specs.Items.{Item, asks, bad, starts}
@@ -22,7 +23,7 @@ PlayRun {S} begins turns old (item ∷ rest) replies new = (mid : Option S) × (
     × PlayStep begins turns old item reply mid × (replies ≡ reply ∷ more) × PlayRun begins turns mid rest more new
 
 -- One item takes effect and leads to state `new`, but only `out`, a prefix of its reply, is written. `in_part old command out s` is the rule for a command;
--- for a `heap` line or a bad line, `lost` is the rest of the reply.
+-- for a `heap` line or a bad line, `lost` is the rest of the reply. A command before the `heap` line has no such part.
 abbrev pub PlayPart : {S : Type 0} → (Profile → Reply → S → Type 0) → (S → Command → List ℕ → S → Type 0) → Option S → Item → List ℕ → Option S → Type 0
 PlayPart {S} begins in_part old (starts p) out new = (s : S) × (reply : Reply) × (lost : List ℕ) × begins p reply s × (led [] reply ≡ out ++ lost)
     × (new ≡ Some s)

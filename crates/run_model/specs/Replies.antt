@@ -44,30 +44,31 @@ resize_text (Err resize.Kind) = codes "none"
 resize_text (Err resize.Size) = codes "refused size"
 resize_text (Err resize.Space) = codes "refused space"
 
--- the reply to `r` of `count` bytes from byte `at` on: `=` and the bytes in hexadecimal; `range` if the read passes the end of the object; `unknown` if
+-- the reply to `r` of `count` bytes from byte `at` on: `=` and the bytes in hexadecimal; `range` if `at + count` exceeds the object's length; `unknown` if
 -- there is no object
 abbrev pub read_text : Option Placed → ℕ → ℕ → List ℕ
 read_text None at count = codes "unknown"
 read_text (Some x) at count = if nat_le (at + count) (length x.bytes) then codes "=" ++ encode_lower (take count (drop at x.bytes)) else codes "range"
 
--- the reply to `q`: the address of the object in words, from the start of the region; `unknown` if there is no object
+-- the reply to `q`: the address of the object in words, from the start of the region (on the non-moving kind, of the virtual blocks); `unknown` if there is
+-- no object
 abbrev pub place_text : Option Placed → List ℕ
 place_text None = codes "unknown"
 place_text (Some x) = with_number (codes "at ") x.place
 
--- the reply to `b` of a kind with a block table: the number of the physical block, or `range` if the object has no such block
+-- the reply to `b` of a kind with a block table: the number of the physical block, or `range` if the slot of the object has no such block
 abbrev pub frame_text : Option ℕ → List ℕ
 frame_text None = codes "range"
 frame_text (Some frame) = with_number (codes "block ") frame
 
--- the reply to `b` for block `i` of a live object `x` in heap `s`; only the non-moving kind has a block table
+-- the reply to `b` for block `i` of the slot of a live object `x` in heap `s`; `none` unless the kind is the non-moving one, which alone has a block table
 abbrev pub block_text : Kind → HeapState → Placed → ℕ → List ℕ
 block_text Moving s x i = codes "none"
 block_text NonMoving s x i = frame_text (block_of_object s (Some x) i)
 block_text Tlsf s x i = codes "none"
 block_text HalfFit s x i = codes "none"
 
--- the reply to `b` for block `i` of an object: `unknown` if there is no object, as the id isn't live
+-- the reply to `b` for block `i` of an object's slot: `unknown` if there is no object, as the id isn't live
 abbrev pub block_text_at : HeapState → Option Placed → ℕ → List ℕ
 block_text_at s None i = codes "unknown"
 block_text_at s (Some x) i = block_text s.kind s x i

@@ -26,7 +26,7 @@ live_classes s = filter (λ c. not (nat_eq (live (paging_in s) (objects s.held) 
 abbrev pub total_line : Totals → List ℕ
 total_line t = with_number (codes "total live ") t.live ++ (with_number (codes " pages ") t.used ++ with_number (codes " free ") t.free)
 
--- the line of `walk` with blocks, from the totals `t`: how many are used, how many are free, and the words of the largest free one
+-- the line of `walk` with blocks, from the totals `t`: how many blocks are used, how many are free, and the words of the largest free one
 abbrev pub blocks_line : Totals → List ℕ
 blocks_line t = with_number (codes "blocks used ") t.used ++ (with_number (codes " free ") t.free ++ with_number (codes " largest ") t.largest)
 

@@ -44,7 +44,7 @@ pub record Named : Type 0 where
   pub id : ℕ
   pub number : ℕ
 
--- a free of a live id; `freed` is the manager's result: the words of the slot, and the object that moved into it, if one did
+-- a free of a live id; `freed` is the manager's result: the words of the freed slot or block, and the object that moved into the slot, if one did
 pub record Frees (old : RunState) (named : Named) (reply : Reply) (new : RunState) : Type 0 where
   pub freed : Freed
   pub step : FreesObject old.heap named.number freed new.heap

@@ -1,5 +1,5 @@
--- The terms in which files on scripts and their runs speak, passed on from the files that define them: commands, replies and states of runs, what a heap
--- is asked and answers, finite maps and sinks. Declares nothing.
+-- The terms in which files on scripts and their runs speak, passed on from the files that define them: commands, replies and states of runs, heaps with
+-- kinds, settings, rules, pages and objects, what a heap is asked and answers, statuses, finite maps, sources and sinks. Declares nothing.
 pub use Rattle.std.specs.FinMap.{empty, get, insert, len, remove}
 pub use Rattle.script_reader.specs.Commands.{IsWellFormed}
 pub use Rattle.script_reader.specs.Items.{Item, asks, bad, items, starts}

@@ -1,5 +1,5 @@
 -- For `the_output_shows_the_replies` and the laws at bound 1: the settings, bounds and bytes of each id (`view`) after a command follow from those before it
--- and from its reply.
+-- and from its reply. Also: the reply to a malloc that is refused isn't `ok`.
 use Rattle.std.proofs.Common.{◌≡◌, ℕ, Bool, true, false, cond, ◌+◌, List, Option, Some, None, Err, length, sym, ◌∙◌, ap, refl, inl, inr, ◌⊎◌, codes, nat_eq, nat_le, position}
 use Rattle.run_model.specs.Terms.{Admit, Block, Bound, Command, family_of, Frag, Free, get, insert, IsPaged, IsPaging, IsSound, len, Malloc, Need, Objects, objects, paged, paging_in, Peek, Place, Placed, Quota, Read, Refusal, remove, Reply, Resize, ResizeFault, said, Slice, Steps, Task, tiled, Walk, with_bound, Write, written}
 use Rattle.cf_base.specs.declared.results.Refusal.TheVariants as refusal

@@ -1,5 +1,6 @@
--- The claims that a malloc, free, write or resize of a heap always has a result, and a state after it that keeps the heap's rules (`HasMalloc` and so on).
--- The files `Page…` and `BlockAnswers` prove them.
+-- That a malloc, free, write or resize of a heap always has a result, and a state after it that keeps the heap's rules: the claims (`HasMalloc` and so on),
+-- which `PageRules`, `PageFree`, `PageResize` and `BlockAnswers` prove. And what they need: the number of live objects, their handles and their bytes stay in
+-- range (`AreFew`), and the order after a call follows from the one before it, if there is one (`Follows`).
 use Rattle.std.proofs.Common.{◌≡◌, ℕ, ◌+◌, ◌*◌, ◌<◌, ◌≤◌, List, Option, Some, None, Result, Ok, arith, sym, ◌∙◌, refl, subst, inl, inr, option_map}
 use Rattle.run_model.specs.Terms.{AccessFault, AreBytes, CostsAtMost, CostsByKind, Freed, get, Handle, HeapState, insert, KeepsRules, len, Objects, objects, Placed, Position, Refusal, remove, Request, Resized, ResizeFault}
 use Rattle.cf_base.proofs.Maps.{len_fresh, len_rebound, some_inserted, some_removed}

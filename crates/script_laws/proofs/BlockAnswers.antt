@@ -1,4 +1,4 @@
--- For the law that every command gets a reply: each call of a heap with blocks (TLSF, Half-Fit), with or without an order, has a result, and a state after
+-- For the law `a_run_can_always_go_on`: each call of a heap with blocks (TLSF, Half-Fit), with or without an order, has a result, and a state after
 -- it that keeps the heap's rules.
 use Rattle.std.proofs.Common.{◌≡◌, ◌≢◌, ℕ, ◌+◌, ◌*◌, ◌<◌, ◌≤◌, List, [], ◌∷◌, Option, Some, None, Ok, Err, length, replicate, arith, sym, ◌∙◌, ap, refl, subst, inl, inr, IfSome, nat_eq, option_map, slice_index}
 use Rattle.std.specs.List.{Contains, IsDistinct}

@@ -1,4 +1,4 @@
--- For `bounds_stay_one`: if a script asks for no bound but 1, every bound is 1 at each command.
+-- The lemma `stays_at_one`: if a script asks for no bound but 1, every bound is 1 at each command.
 use Rattle.std.proofs.Common.{◌≡◌, ℕ, List, [], ◌∷◌, Option, Some, None, length, get_or, set, sym, ◌∙◌, ap, inl, inr, subst}
 use Rattle.std.specs.Prelude.{⊤}
 use Rattle.std.proofs.lemmas.Bool.{cases_eq, cases_lt}

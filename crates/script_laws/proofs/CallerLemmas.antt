@@ -1,6 +1,7 @@
--- What other crates' proofs may cite, re-exported: runs over every script exist and meet the headline, with every bound 1 they print the transcript, with an order
--- they are alike; what reads print; objects by id; small finite maps entry by entry; and of a session over any heap of objects: what each command keeps, does to
--- the ids and their objects, and prints for a read, and that it has a reply.
+-- Re-exported for other crates' proofs: runs over every script exist and meet the headline, by the heaps that they show; with every bound 1 they print the
+-- transcript, and figures follow from the objects alone; with an order they are alike; what reads print; that a refused malloc doesn't print `ok`; every item
+-- of a script is valid, and only the first may open a heap; objects by id; small finite maps entry by entry; words of which a part is rewritten; of a session
+-- over any heap of objects what each command keeps, does to ids and objects, and prints, and that it replies.
 pub use Rattle.script_laws.proofs.CommandAnswers.{begin_exists, step_exists}
 pub use Rattle.script_laws.proofs.GoingOn.{kind_goes_on, run_keeps}
 pub use Rattle.script_laws.proofs.PageRules.{is_rewritten, length-rewritten, rewritten}

@@ -1,5 +1,4 @@
--- For the law `the_headline`: the replies of a run meet the headline, since each of its steps is an answer that the headline allows, by the lemmas of
--- `Steps`.
+-- The replies of a run meet the headline (law `the_headline`), since each of its steps is an answer that the headline allows, by the lemmas of `Steps`.
 use Rattle.std.proofs.Common.{◌≡◌, List, [], ◌∷◌, Option, Some, None, sym, ◌∙◌, ap, refl, subst}
 use Rattle.std.specs.Prelude.{⊤, option_map}
 use Rattle.std.specs.FinMap.{empty, get, get-empty}

@@ -1,4 +1,4 @@
--- For the law `a_command_is_always_answered`: in a run in progress each valid command has a step, from the results of the heap's calls; and a run begins
+-- For the law `a_run_can_always_go_on`: in a run in progress each valid command has a step, from the results of the heap's calls; and a run begins
 -- with any settings in range.
 use Rattle.std.proofs.Common.{◌≡◌, ℕ, ◌+◌, ◌*◌, List, Option, Some, None, refl, codes}
 use Rattle.run_model.specs.Terms.{AreBytes, AreInRange, Bound, Command, counted, Free, fresh_session, get, IsGoing, Kind, Malloc, Profile, remove, Reply, Request, Resize, RunState, said, with_bound, Write}

@@ -1,4 +1,4 @@
--- For `at_bound_one_the_headline_is_the_transcript`: if every bound is 1, the headline fixes each reply, and it is that of the transcript.
+-- If every bound is 1, the headline fixes each reply, and it is that of the transcript: the law `at_bound_one_the_headline_is_the_transcript`.
 use Rattle.std.proofs.Common.{◌≡◌, ◌≢◌, ℕ, Bool, true, false, cond, ◌+◌, ◌<◌, ◌≤◌, ◌++◌, List, [], ◌∷◌, Option, Some, None, Err, length, map, arith, sym, ◌∙◌, ap, refl, subst, inl, inr}
 use Rattle.std.specs.Prelude.{⊤, ◌⊎◌, ◌↔◌, codes, filter, nat_eq, nat_le, not, option_map, replicate}
 use Rattle.std.proofs.lemmas.Bool.{cases_lt}

@@ -1,4 +1,4 @@
--- For the laws of `runs.rt`: a run on one manager stays in progress and can be continued.
+-- For the laws `a_run_can_always_go_on` and `one_output`: a run on one manager begins with any settings in range, stays in progress and can be continued.
 use Rattle.std.proofs.Common.{◌≡◌, List, [], ◌∷◌, Option, Some, None, sym, ◌∙◌, ap, refl, subst, codes}
 use Rattle.run_model.specs.Terms.{asks, bad, HeapState, IsGoing, Item, Kind, Reply, RunState, said, starts}
 use Rattle.run_model.specs.Runs.{BeginsOne, ItemStep, Run, IsCommandStep}

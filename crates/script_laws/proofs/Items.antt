@@ -1,4 +1,4 @@
--- For the law `items_are_valid`: every item that the grammar finds in a script, command by command, is valid: numbers in range, 1 to 4,096 bytes in a write,
+-- The lemma `all_items_valid`: every item that the grammar finds in a script, command by command, is valid: numbers in range, 1 to 4,096 bytes in a write,
 -- settings without a fault.
 use Rattle.std.proofs.Common.{◌≡◌, ℕ, Bool, true, false, cond, ◌+◌, ◌*◌, ◌/◌, ◌%◌, ◌≤◌, List, [], ◌∷◌, Option, Some, None, Result, Ok, Err, length, arith, sym, ap, refl, subst}
 use Rattle.std.specs.Prelude.{⊤, ◌==◌, codes, nat_le, option_map}

@@ -1,5 +1,5 @@
--- For the laws of reads, in every mode: if each command changes the ids and their objects as its reply shows (`NamedTurn`), reads print the bytes that
--- follow from the lines before them and their replies.
+-- For the laws of reads, in every mode: if each command changes the ids and their objects as its reply shows (`NamedTurn`), the ids stay tied to the objects
+-- (`AreTiedTo`), and reads print the bytes that follow from the lines before them and their replies.
 use Rattle.std.proofs.Common.{◌≡◌, ◌⊎◌, ℕ, Bool, true, false, cond, List, [], ◌∷◌, Option, Some, None, replicate, sym, ◌∙◌, ap, refl, subst, inl, inr}
 use Rattle.std.proofs.lemmas.Bool.{cases_eq}
 use Rattle.std.specs.Ordering.{nat_cmp}

@@ -1,4 +1,5 @@
--- Sessions over any heap of objects: their turns, that each command has one, and what replies and objects by id follow from.
+-- Sessions over any heap of objects: each command keeps the run in progress, and changes the ids and their objects as its reply shows; each command has a
+-- reply; and the replies to `m`, `f`, `w` and `r`, and the objects by id after them, follow from the objects by id before them.
 use Rattle.std.proofs.Common.{◌≡◌, ◌∙◌, ◌+◌, ◌≤◌, ◌<◌, ℕ, List, length, Some, None, true, false, replicate, sym, ap, refl, subst, inl, inr, ◌++◌, take, drop, cond, arith, Option, Result, Ok, Err, codes}
 use Rattle.std.specs.Option.{MatchOption}
 use Rattle.run_model.specs.Terms.{AccessFault, AreBytes, AreInRange, Command, empty, get, Handle, Ids, insert, Objects, Position, Profile, Refusal, remove, Reply, said, written}

@@ -1,5 +1,5 @@
 -- For the law `one_output`: runs over the same items on managers of one kind that promise an order have the same replies and the same end; and every script
--- has such a run.
+-- has such a run. Also: after a step the manager has an order if and only if it had one before; no item of a script after the first is a `heap` line.
 use Rattle.std.proofs.Common.{◌≡◌, ℕ, ◌+◌, ◌*◌, Bool, true, false, List, [], ◌∷◌, Option, Some, None, Result, Ok, Err, refl, sym, ◌∙◌, ap, subst}
 use Rattle.std.specs.Prelude.{IsSome, ⊤, codes, is_some}
 use Rattle.run_model.specs.Terms.{AccessFault, AreInRange, asks, bad, Bound, Command, counted, Free, Freed, fresh_session, get, HeapState, IsGoing, Item, items, KeepsRules, Kind, Malloc, Position, Profile, remove, Reply, Request, Resize, RunState, said, SessionState, starts, with_bound, Write}

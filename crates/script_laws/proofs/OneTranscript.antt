@@ -1,4 +1,5 @@
--- For `one_transcript` and `equal_objects_get_equal_replies`: at bound 1 runs over the same items, from the start or from equal objects, have the same replies.
+-- For `one_transcript` and `equal_objects_get_equal_replies`: at bound 1 runs over the same items, from the start or from equal objects, have the same
+-- replies. Also: the bytes of an id's object in a run are those that lines and replies show (`view`).
 use Rattle.std.proofs.Common.{◌≡◌, ℕ, ◌<◌, List, [], ◌∷◌, Option, Some, None, length, sym, ◌∙◌, ap, subst, option_map}
 use Rattle.std.proofs.lemmas.Grind.{same_number_lists}
 use Rattle.run_model.specs.Terms.{asks, bad, Block, Bound, Command, EveryBoundIsOne, get, IsGoing, IsPaged, Item, Kind, paging_in, Peek, Place, Placed, Reply, RunState, starts, Steps}

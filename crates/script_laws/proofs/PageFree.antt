@@ -1,4 +1,4 @@
--- For the law `a_command_is_always_answered`: every free of a live object of a heap with pages succeeds, and the state after it keeps the heap's rules.
+-- For the law `a_run_can_always_go_on`: every free of a live object of a heap with pages succeeds, and the state after it keeps the heap's rules.
 use Rattle.std.proofs.Common.{◌≡◌, ℕ, ◌+◌, ◌*◌, ◌≤◌, List, Option, Some, None, Ok, length, arith, sym, refl, subst, IfSome}
 use Rattle.run_model.specs.Terms.{Freed, get, Handle, HeapState, Held, IsPaged, KeepsRules, objects, Paging, paging_in, Placed}
 use Rattle.page_model.specs.Image.{slot_for}

@@ -1,4 +1,4 @@
--- For the law `a_command_is_always_answered`: every resize of a live object of a heap with pages has a result, and a state after it that keeps the heap's
+-- For the law `a_run_can_always_go_on`: every resize of a live object of a heap with pages has a result, and a state after it that keeps the heap's
 -- rules, with or without an order.
 use Rattle.std.proofs.Common.{◌≡◌, ◌≢◌, ℕ, ◌+◌, ◌≤◌, List, Option, Some, None, Ok, Err, length, arith, sym, ◌∙◌, ap, refl, subst, inl, inr, IfSome}
 use Rattle.std.proofs.lemmas.Bool.{cases_eq, cases_lt}

@@ -1,5 +1,6 @@
--- For the law `a_command_is_always_answered`: what keeps the rules of a heap with pages (words for an arrangement, slots that are left, block tables), and
--- that every malloc, write and `k` has a result, and a state after it that keeps them. Without an order any free place serves, with an order the next one.
+-- Of a heap with pages: what its rules say, and what keeps them (words for an arrangement, words of which a part is rewritten, slots that are left, block
+-- tables, costs within bounds); and that every malloc, write and `k` has a result, and a state after it that keeps them. Without an order any free place
+-- serves, with an order the next one.
 use Rattle.std.proofs.Common.{◌≡◌, ℕ, Bool, true, false, cond, ◌+◌, ◌-◌, ◌*◌, ◌<◌, ◌≤◌, List, Some, length, get_or, map, replicate, arith, sym, ◌∙◌, refl, inl, inr, ap, ◌/◌, Option, None, subst, ◌&&◌, nat_le, nat_lt, ◌⊎◌, IfSome, Ok, Err, option_map, set}
 use Rattle.std.specs.List.{range_with_len}
 use Rattle.std.proofs.lemmas.Bool.{cases_lt, cases_eq}

@@ -1,5 +1,5 @@
 -- If every bound is 1, the figures of a sound arrangement (objects and pages of each class, and totals) are those of `AtOne`, computed from the objects
--- without addresses.
+-- without addresses. Two maps of objects with equal counts (`CountAlike`) have equal figures, and functions and tests that agree give equal lists of lines.
 use Rattle.std.proofs.Common.{◌≡◌, ℕ, zero, suc, ◌+◌, ◌-◌, ◌*◌, ◌%◌, ◌<◌, ◌≤◌, Bool, true, false, ◌∷◌, length, map, arith, sym, ◌∙◌, ap, refl, subst, cond, filter, nat_eq}
 use Rattle.std.specs.List.{range_with_len}
 use Rattle.std.proofs.lemmas.Nat.{mod-mul-add}

@@ -1,4 +1,5 @@
--- For any rules of a mode: if a run begins with any settings in range and each valid command has a step, then there is a run over the items of any script.
+-- For any rules of a mode: if a run begins with any settings in range and each valid command has a step, then there is a run over the items of any script,
+-- and each run over the first items of a script can be continued to the end.
 use Rattle.std.proofs.Common.{◌≡◌, ◌++◌, ℕ, List, [], ◌∷◌, Option, Some, None, refl, sym, subst}
 use Rattle.std.specs.Prelude.{⊤, Bool}
 use Rattle.run_model.specs.Terms.{AreInRange, asks, bad, bad_line, Command, Item, items, Profile, Reply, said, starts}

@@ -1,4 +1,5 @@
--- The heap that lines and replies show (`ShownHeap`), computed from a state of a run: objects, figures, addresses and words.
+-- The heap that lines and replies show (`ShownHeap`), computed from a state of a run: its objects by id are the manager's by handle, also after a free or a
+-- resize; so both have the same figures, free places, moves and block table, and its words are those that the headline requires.
 use Rattle.std.proofs.Common.{◌≡◌, ◌≢◌, ℕ, ◌-◌, ◌*◌, ◌≤◌, ◌<◌, Some, length, cond, sym, ◌∙◌, ap, subst, inl, inr, count_by, nat_eq, nat_lt, [], Option, None, refl, ◌+◌, List, ◌∷◌, arith, slice_index}
 use Rattle.std.specs.List.{range_with_len}
 use Rattle.run_model.specs.Terms.{class_at, classes, family_of, get, HalfFit, Handle, HeapState, Held, Ids, insert, IsGoing, IsPaging, IsSound, Kind, len, Moving, NonMoving, objects, page_of, paged, Paging, paging_in, Placed, remove, RunState, slot_words, slots_of, tiled, Tlsf}

@@ -1,4 +1,5 @@
--- Look-up, list and length of a finite map of objects after one insertion, for the small scripts that proofs work out.
+-- For the small scripts that proofs work out: look-up and list of a finite map of objects, of the empty one and after one insertion; and any such map is as
+-- long as its list.
 use Rattle.std.proofs.Common.{◌≡◌, ℕ, List, [], Some, None, length, cond, sym, ◌∙◌}
 use Rattle.std.proofs.lemmas.List.{nil_from_length}
 use Rattle.std.specs.Ordering.{nat_cmp, eq_by_cmp}

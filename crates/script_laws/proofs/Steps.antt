@@ -1,5 +1,5 @@
--- For the law `the_headline`, command by command: a step of a run (`Step`) is an answer that the headline allows (`IsAnswer`) between the heaps that lines
--- and replies show before and after it.
+-- Command by command: a step of a run (`Step`) is an answer that the headline allows (`IsAnswer`) between the heaps that lines and replies show before and
+-- after it; these heaps are arranged by the rules. And two states of a run with equal sessions and heaps are equal.
 use Rattle.std.proofs.Common.{◌≡◌, ℕ, ◌+◌, ◌*◌, ◌<◌, ◌++◌, List, [], Option, Some, None, Result, Ok, Err, max, map, cond, length, arith, sym, ◌∙◌, ap, refl, subst, inl, inr, ◌⊎◌, codes, filter, nat_eq, nat_lt, not, slice_get, slice_index}
 use Rattle.std.specs.List.{range_with_len}
 use Rattle.std.proofs.lemmas.Bool.{cases_lt}

@@ -20,7 +20,7 @@ use Rattle.script_laws.specs.ShownWords.{ShowsWord}
 
 -- Command `m` with the reply `ok`: the id names a new object of `n` zeros at `place`. With pages it is in a free slot of its class, on a partly full page if
 -- the class has one, else on a free page; with blocks in a block of the least bucket that serves. `number` is the manager's own number for the object, below
--- the proxies, and no other object has it; only `p` shows it.
+-- the proxies, and no other object has it; only `p` shows it. Object and header fit a page, a proxy was unused, and the steps are at most 64, with blocks 25.
 pub record MallocSucceeds (old : ShownHeap) (id n : ℕ) (reply : Reply) (new : ShownHeap) : Type 0 where
   pub fits : need n ≤ old.heap.profile.page_words
   pub few : len old.heap.held < old.heap.profile.proxies
@@ -38,7 +38,8 @@ pub record MallocSucceeds (old : ShownHeap) (id n : ℕ) (reply : Reply) (new : 
   }
 
 -- Command `m`, refused: `refused size` if the object needs more than a page, else `refused proxy` if all proxies are in use, else `refused space` if there is
--- no room: with pages if no page of its class is partly full and none is free, with blocks if no free block serves. No object changes.
+-- no room: with pages if no page of its class is partly full and none is free, with blocks if no free block serves. No object changes. The steps are at most
+-- 64, with blocks 25.
 pub record IsRefusedMalloc (old : ShownHeap) (n : ℕ) (reply : Reply) (new : ShownHeap) : Type 0 where
   pub refusal : Refusal
   pub cause : IsRefusedBy old.heap n refusal
@@ -54,7 +55,7 @@ ShowsMalloc None old id n reply new = MallocSucceeds old id n reply new ⊎ IsRe
 
 -- Command `f` for a live id: its object `x` is removed. With pages an object of a partly full page of the same class moves into the slot of x, if the page of x
 -- was full with more than one slot and the class had as many partly full pages as its bound; else none moves. `moved` is the id of the object that moved. No
--- other address changes.
+-- other address changes. For a slot or block of s words the steps are at most 96 + 2s, with blocks 41 + s.
 pub record FreeSucceeds (old : ShownHeap) (id : ℕ) (x : Placed) (reply : Reply) (new : ShownHeap) : Type 0 where
   pub moved : Option ℕ
   pub moves : MovesIn old.heap.kind old.heap x moved
@@ -80,7 +81,8 @@ ShowsFree (Some x) old id reply new = FreeSucceeds old id x reply new
 abbrev pub heap_with : ShownHeap → ℕ → Placed → ShownHeap
 heap_with s id x = record s { heap = record s.heap { held = insert s.heap.held id x } }
 
--- command `w` for the id, by the object that the id names: the bytes are written from byte `at` on if they lie within the object, else the reply is `range`
+-- command `w` for the id, by the object that the id names: the bytes are written from byte `at` on if they lie within the object, else the reply is `range`; if
+-- there is no object, `unknown`
 abbrev pub ShowsWrite : Option Placed → ShownHeap → ℕ → ℕ → List ℕ → Reply → ShownHeap → Type 0
 ShowsWrite None old id at bytes reply new = Stays old (codes "unknown") reply new
 ShowsWrite (Some x) old id at bytes reply new =
@@ -106,7 +108,8 @@ pub record RefitsElsewhere (old : ShownHeap) (id : ℕ) (x : Placed) (n : ℕ) (
 abbrev pub resize_bound_for : ShownHeap → Placed → ℕ → ℕ
 resize_bound_for old x n = 160 + 3 * max (slot_for (paging_in old.heap) (length x.bytes)) (slot_for (paging_in old.heap) n)
 
--- Command `z` with the reply `ok`: the object `x` has `n` bytes afterwards. Its first bytes stay, and added bytes are zeros.
+-- Command `z` with the reply `ok`, never with blocks: the object `x` has `n` bytes afterwards, and fits a page. Its first bytes stay, and added bytes are zeros.
+-- The steps are at most `resize_bound_for`.
 pub record ResizeSucceeds (old : ShownHeap) (id : ℕ) (x : Placed) (n : ℕ) (reply : Reply) (new : ShownHeap) : Type 0 where
   pub pages : IsPaged old.heap.kind
   pub fits : need n ≤ old.heap.profile.page_words
@@ -120,7 +123,7 @@ pub record ResizeSucceeds (old : ShownHeap) (id : ℕ) (x : Placed) (n : ℕ) (r
   }) after.moved (slot_for (paging_in old.heap) (length x.bytes))
 
 -- Command `z`, refused: `none` with blocks; `refused size` if the object would need more than a page, else `refused space` if it would need another class, and
--- this class has no slot left. No object changes.
+-- this class has no slot left. No object changes. With pages the steps are at most 160.
 pub record IsRefusedResize (old : ShownHeap) (id n : ℕ) (reply : Reply) (new : ShownHeap) : Type 0 where
   pub fault : ResizeFault
   pub cause : IsResizeFault old.heap (record { number = id; length = n }) fault

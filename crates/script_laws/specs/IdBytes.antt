@@ -1,4 +1,5 @@
--- The bytes of each id, computed from the lines of a script and their replies alone; and the claim that every read prints them.
+-- The map from each live id to the bytes of its object, computed from the lines of a script and their replies alone; and the claim that every read prints
+-- these bytes.
 use Rattle.std.specs.Prelude.{◌≡◌, ℕ, ⊤, Bool, false, ◌+◌, List, [], ◌∷◌, ◌++◌, Option, Some, None, codes, drop, if◌then◌else◌, length, nat_le, replicate, take}
 use Rattle.run_model.specs.Terms.{asks, bad, Command, empty, Free, get, insert, Item, Malloc, Objects, Read, remove, Reply, Resize, said, starts, Write, written}
 use Rattle.std.specs.Str.{bytes_eq}
@@ -35,12 +36,12 @@ abbrev pub read_shown : Option (List ℕ) → ℕ → ℕ → List ℕ
 read_shown None at count = codes "unknown"
 read_shown (Some v) at count = if nat_le (at + count) (length v) then codes "=" ++ encode_lower (take count (drop at v)) else codes "range"
 
--- if the item is a read, its reply is `read_shown` of the bytes that the map has for its id
+-- if the item is a read, its reply is `read_shown` of the bytes that the map has for its id; nothing is claimed before the `heap` line
 abbrev pub IsReadOf : Option Objects → Item → Reply → Type 0
 IsReadOf (Some m) (asks (Read id at count)) reply = reply ≡ said (read_shown (get m id) at count)
 IsReadOf shown item reply = ⊤
 
--- the reply to every read of the items is `read_shown` of the bytes that follow from the lines before it and their replies
+-- each of the items has a reply, and the reply to every read is `read_shown` of the bytes that follow from the lines before it and their replies
 abbrev pub AreReadsOf : Option Objects → List Item → List Reply → Type 0
 AreReadsOf shown [] replies = ⊤
 AreReadsOf shown (item ∷ rest) [] = ⊥

@@ -66,7 +66,8 @@ pub record WritesId {S R F : Type 0} (calls : Calls S R F) (old : ObjectRun S) (
   pub ids : new.ids ≡ old.ids
   pub reply_is : reply ≡ said (write_text answer)
 
--- One command: the run before it, its reply, and the run after it. Only managers resize objects, so the reply to `z` is `none`.
+-- One command: the run before it, its reply, and the run after it. `m` for a live id gets `live`, `f` or `w` for another id `unknown`, and changes nothing.
+-- Only managers resize objects, so the reply to `z` is `none`.
 abbrev pub ObjectStep : {S R F : Type 0} → Calls S R F → ObjectRun S → Command → Reply → ObjectRun S → Type 0
 ObjectStep calls old (Malloc id bytes) reply new = MatchOption (get old.ids id) (MallocsId calls old id bytes reply new) (λ h. Stays old (codes "live") reply new)
 ObjectStep calls old (Free id) reply new = MatchOption (get old.ids id) (Stays old (codes "unknown") reply new) (λ h. FreesId calls old id h reply new)

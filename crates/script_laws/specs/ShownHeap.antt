@@ -1,4 +1,4 @@
--- The heap as the headline sees it: what the lines of a script and their replies show.
+-- The heap as the headline sees it: what the lines of a script and their replies show; and when it is arranged by the rules (`IsArranged`).
 use Rattle.std.specs.Prelude.{ℕ, [], Option, Some, None}
 use Rattle.run_model.specs.Terms.{empty, family_of, HeapState, Ids, IsPaging, IsSound, Kind, more_by, paged, paging_in, Profile, region_words, tiled}
 use Rattle.block_model.specs.Tiling.{IsTiling}

@@ -1,4 +1,5 @@
--- Valid items: all that the grammar of scripts (`items`) returns are valid. And `IsRunOf`: a run that is in progress, or hasn't begun.
+-- When a command or an item is valid, as every item is that the grammar of scripts (`items`) finds. And `IsRunOf`: a run that is in progress, or
+-- hasn't begun.
 use Rattle.std.specs.Prelude.{◌≡◌, ⊤, List, [], ◌∷◌, Option, Some, None}
 use Rattle.run_model.specs.Terms.{AreBytes, AreInRange, asks, bad, Command, IsGoing, IsWellFormed, Item, Kind, RunState, starts, Write}
 

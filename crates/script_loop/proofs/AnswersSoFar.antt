@@ -1,5 +1,5 @@
--- For `answer_pending_items` and `answer_chunk`, the inner loops of the script loop: the items answered so far, all whole (`Answered`) or the last with a
--- cut reply (`CutOff`), continued by one more item or by more bytes.
+-- For `answer_pending_items` and `answer_chunk`, the inner loops of the script loop, and for its turns: the items answered so far, all whole (`Answered`) or
+-- the last with a cut reply (`CutOff`), continued by one more item or by more bytes; and that the next item may be answered.
 use Rattle.std.proofs.Common.{◌≡◌, ◌++◌, ◌∙◌, ◌+◌, Bool, true, false, List, [], ◌∷◌, ℕ, Option, Some, None, refl, ap, ap₂, sym, subst, append_assoc, append-nil, take, drop, take-append-drop, true≢false}
 use Rattle.std.proofs.Math.Seq.{take-add}
 use Rattle.run_model.specs.Terms.{appended, asks, bad, bad_line, Command, Item, led, profile_of, Reply, said, starts, Status, text_of}

@@ -1,4 +1,5 @@
--- For the laws on a script over one manager, and on failed sinks of any mode handler.
+-- From a script's outcome (`MeetsOutcome`): what its status claims of the source's bytes; that reads print what was written, chunks don't matter, and the
+-- output is the transcript if every bound is 1 and no address or cost is asked; and, for any mode handler, that a cut output is a prefix of a run's.
 use Rattle.std.proofs.Common.{◌≡◌, ◌++◌, ◌∙◌, ◌≤◌, true, ℕ, List, [], Option, Some, None, length, refl, ap, sym, subst, ◌∷◌, append_assoc, ◌<◌, Bool, false, arith, le-leb, take_all, nat_le, take, cond}
 use Rattle.std.proofs.lemmas.Bool.{lt-leb}
 use Rattle.run_model.specs.Terms.{Item, items, Status, asks, bad, bad_line, Command, led, Reply, said, starts, text_of, appended, Kind, RunState}

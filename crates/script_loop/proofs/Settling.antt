@@ -1,5 +1,5 @@
--- For the law `settings_are_kept`, on the mode handler `WithSettings` around another one: a run by it is a run by the inner handler, and the settings that
--- it keeps are those of the manager.
+-- The mode handler `WithSettings` around another one: it does with each item what the inner handler does, so a run by it is a run by the inner handler; and the
+-- settings that it keeps are those of the manager.
 use Rattle.std.proofs.Common.{◌∙◌, ℕ, List, [], ◌∷◌, Option, Some, None, Result, Ok, Err, refl, sym, ap, subst, option_map}
 use Rattle.run_model.specs.Terms.{asks, bad, Command, Failed, HeapState, Item, profile_of, Reply, RunState, starts}
 use Rattle.cf_base.specs.declared.settings.Settings.{Settings}

@@ -1,5 +1,6 @@
 -- The contracts of the inner loops of the script loop: bytes were fed to the reader, and the items that they complete were answered; four ways in which that
--- may end (`AnswersItems`). `m` is the semantics of the mode handler.
+-- may end (`AnswersItems`); when the reader has no whole item left (`IsWaiting`); and the reply to a bad line (`PrintsBadLine`). `m` is the semantics of the
+-- mode handler.
 use Rattle.std.specs.Prelude.{◌≡◌, ◌≤◌, ◌+◌, ◌++◌, ℕ, Bool, true, false, List, [], ◌∷◌, length, Option, Some, None, Result, Ok, Err}
 use Rattle.run_model.specs.Terms.{appended, bad_line, Item, led, Reply, said, Status, text_of}
 use Rattle.cf_base.specs.declared.status.Status.TheVariants.{BadScript, WriteFault, OutOfMemory}
@@ -26,7 +27,7 @@ pub record Answered {S P : Type 0} (m : Semantics S P) (old : Playing S) (chunk 
   pub silent : stopped ≡ false → new.reading.stage ≡ Opening → text ≡ []
 
 -- The bytes `chunk` were fed. The items `done` were answered whole and led to the state `mid`. The next one, `item`, took effect, but only `front`, a prefix of
--- its reply, was written. `out` is the replies and this prefix.
+-- its reply, was written. `out` is the replies and this prefix. The clause `untouched` is as in `Answered`.
 pub record CutOff {S P : Type 0} (m : Semantics S P) (old : Playing S) (chunk : List ℕ) (new : Playing S) (out : List ℕ) : Type 0 where
   pub done : List Item
   pub replies : List Reply
@@ -40,13 +41,14 @@ pub record CutOff {S P : Type 0} (m : Semantics S P) (old : Playing S) (chunk : 
   pub left : (more : List ℕ) (ended : Bool) → (after : List Item) × (items_left old.reading (chunk ++ more) ended ≡ done ++ item ∷ after)
   pub untouched : new.reading.stage ≡ Opening → (old.reading.stage ≡ Opening) × (new.state ≡ old.state)
 
--- the reader `r` needs more bytes: it isn't stopped, the bytes that it keeps hold no whole item, and before the end they are at most the longest line
+-- the reader `r` needs more bytes, or was told the end and has no item left: it isn't stopped, the bytes that it keeps hold no whole item, and before the end
+-- they are at most the longest line
 pub record IsWaiting (r : Reading) : Type 0 where
   pub going : r.stopped ≡ None
   pub quiet : items_left r [] false ≡ []
   pub room : r.ended ≡ false → length r.kept ≤ LONGEST
 
--- no status: all items that the chunk completes were answered, and the reader needs more bytes
+-- `Ok`: all items that the chunk completes were answered, and the reader needs more bytes, or was told the end and has no item left
 pub record WentOn {S P : Type 0} (m : Semantics S P) (old : Progress S) (chunk : List ℕ) (new : Progress S) : Type 0 where
   pub text : List ℕ
   pub answered : Answered m old.playing chunk new.playing text false
@@ -83,7 +85,7 @@ StopsAt m old chunk WriteFault new = WasCut m old chunk new
 StopsAt m old chunk OutOfMemory new = LackedMemory m old new
 StopsAt m old chunk status new = ⊥
 
--- from the progress `old` the bytes `chunk` led to the progress `new`, by the result of `answer_chunk`
+-- from the progress `old` the bytes `chunk` led to the progress `new`, by the result of `answer_chunk`, or with no bytes by that of `answer_pending_items`
 abbrev pub AnswersItems : {S P : Type 0} → Semantics S P → Progress S → List ℕ → Result (Unit {0}) Status → Progress S → Type 0
 AnswersItems m old chunk (Ok done) new = WentOn m old chunk new
 AnswersItems m old chunk (Err status) new = StopsAt m old chunk status new

@@ -1,5 +1,5 @@
--- What applying a command does, in the session of any mode. `m` is the handler's `Semantics`, S its type of states, P that of what no item changes; a
--- `Snapshot` is a state with the bytes written, a *turn* a command with its reply and next state.
+-- What applying a command does, and building its reply of one line, in the session of any mode. `m` is the handler's `Semantics`, S its type of states, P that
+-- of what no item changes; a `Snapshot` is a state with the bytes written, a *turn* a command with its reply and next state.
 use Rattle.std.specs.Prelude.{◌≡◌, ◌<◌, ◌++◌, ℕ, List, [], Result, Ok, Err, length}
 use Rattle.run_model.specs.Terms.{Command, Failed, led, Reply, said}
 use Rattle.cf_io.specs.Lines.{line_capacity}

@@ -1,5 +1,5 @@
--- What the laws of this crate claim of a script's output: its reads; that it is a prefix of a run's output, or the transcript. `call` has the bytes in
--- source and sink, before and after, and the status.
+-- What the laws of this crate claim of a script's status, and of its output: the reads in it; that it is a prefix of a run's output, or the transcript. `call`
+-- has the bytes in source and sink, before and after, and the status.
 use Rattle.std.specs.Prelude.{◌≡◌, ◌++◌, ⊤, ℕ, List, [], Option, Some, None, if◌then◌else◌, length, nat_le}
 use Rattle.run_model.specs.Terms.{appended, IsPaged, Item, Kind, Reply, RunState, Status, text_of}
 use Rattle.cf_base.specs.declared.status.Status.TheVariants.{Done, BadScript, TooLong}

@@ -33,7 +33,8 @@ abbrev pub between : {S : Type 0} → Script → S → Option (List ℕ) → Opt
 between script state written rest given =
     record { progress = progress (playing (reading_in script) state) written; rest = rest; given = given; left = left_in script }
 
--- a turn may begin in `b`: every whole line taken so far is answered, and the bytes fed and those that may still be taken add up to the limit
+-- a turn may begin in `b`: every whole line taken so far is answered, the state of the run fits the reader's stage, the reader wasn't told the end, and the
+-- bytes fed and those that may still be taken add up to the limit
 pub record AwaitsChunk {S P : Type 0} (m : Semantics S P) (b : BetweenTurns S) : Type 0 where
   pub waiting : IsWaiting b.progress.playing.reading
   pub ready : IsReady m b.progress.playing

@@ -1,4 +1,5 @@
--- How far a script has come: the state of its reader, the state of its run, and the bytes written. `m` is the semantics of the mode handler, `p` a `Playing`.
+-- How far a script has come: the state of its reader, the state of its run, and the bytes written; and when the next item may be answered. `m` is the semantics
+-- of the mode handler, `p` a `Playing`.
 use Rattle.std.specs.Prelude.{ℕ, List, Option, Some, None}
 use Rattle.script_reader.specs.Reading.{Reading}
 use Rattle.script_reader.specs.declared.stage.Stage.{Stage}

@@ -1,5 +1,5 @@
--- How the run of a whole script may end: for each status, which bytes were read, which items were answered, and what was written. `m` is the semantics of the
--- mode handler; its run goes from the state `from` to the state `to`.
+-- How the run of a whole script may end: for each status its cause, which bytes were read, which items were answered, and what was written. Also the limits on
+-- bytes, and which bytes are a clean script. `m` is the semantics of the mode handler; its run goes from the state `from` to the state `to`.
 use Rattle.std.specs.Prelude.{◌≡◌, ◌<◌, ◌≤◌, ◌+◌, ◌⊎◌, ◌++◌, ℕ, Bool, true, false, List, [], ◌∷◌, length, take, nat_le, Option, Some, None, Result, Ok, Err}
 use Rattle.std.specs.List.{list_any}
 use Rattle.run_model.specs.Terms.{appended, asks, bad, Item, items, Reply, SinkFailsIf, SinkState, SourceFailsIf, SourceState, starts, Status, text_of}
@@ -96,9 +96,11 @@ pub record RanOutOfMemory {S P : Type 0} (m : Semantics S P) (from : S) (call : 
   pub lacks : m.lacks from to
   pub unwritten : call.after ≡ call.before
 
--- What is true for each status, if the source had the bytes `all` before the call and has `left` after it. If the source failed, each item whose line is
--- complete in the bytes taken was answered, and no other item. If the sink failed, each item whose line is complete before the last bytes taken, at most 4,096,
--- was answered whole. No script ends by `Words` or `BadImage`.
+-- What is true for each status, if the source had the bytes `all` before the call and has `left` after it. With `Done`, `BadScript` and `TooLong` each item
+-- within the limit was answered; with `BadScript` one of them is a bad line, with the other two none. With `Done` no byte is left, with `TooLong` the bytes
+-- pass the limit. If the source failed, each item whose line is complete in the bytes taken was answered, and no other item. If the sink failed, each item
+-- whose line is complete before the last bytes taken, at most 4,096, was answered whole. With `OutOfMemory` an allocation failed at the `heap` line. No script
+-- ends by `Words` or `BadImage`.
 abbrev pub IsStatusRow : {S P : Type 0} → Semantics S P → Status → S → List ℕ → List ℕ → Effects → S → Type 0
 IsStatusRow m Done from all left call to = (length all ≤ MOST_BYTES) × (left ≡ []) × (has_bad (items_within all) ≡ false) × Wrote m from (items_within all) call to
 IsStatusRow m BadScript from all left call to = (has_bad (items_within all) ≡ true) × Wrote m from (items_within all) call to

@@ -1,4 +1,5 @@
--- The semantics of a mode handler, `m` below: a record of relations that fixes which reply each item may get, and to which state it leads.
+-- The semantics of a mode handler, `m` below: a record of relations that fixes which reply each item may get, and to which state it leads. Also runs by it; and
+-- what a `heap` line or a command does to the state and the bytes written, by its result.
 use Rattle.std.specs.Prelude.{◌≡◌, ◌++◌, ℕ, Bool, true, false, List, [], Option, Result, Ok, Err}
 use Rattle.run_model.specs.Terms.{appended, Command, Failed, Item, led, Profile, profile_of, Reply}
 use Rattle.cf_base.specs.declared.settings.Settings.{Settings}

@@ -1,4 +1,5 @@
 -- The semantics of `WithSettings`, a mode handler around another one: those of the inner handler, with the settings of the `heap` line kept in the state.
+-- Also when these are the settings of a run's manager (`GoesWith`).
 use Rattle.std.specs.Prelude.{◌≡◌, ⊤, Option, Some, None, option_map}
 use Rattle.run_model.specs.Terms.{IsGoing, profile_of, RunState}
 use Rattle.cf_base.specs.declared.settings.Settings.{Settings}

@@ -34,7 +34,8 @@ fn put_bad_line<K: Sink>(number: u32, sink: &mut K) -> Status
 /// does it on the heap and writes the reply. Returns when the reader needs more bytes or the script
 /// has ended. Fails at a bad line, to which it writes the reply itself, if the sink fails, and if
 /// an allocation fails at the `heap` line. The reader must not have met a bad line before, and the
-/// state of the run must fit its stage (`IsReady`). `payload` is scratch, for the bytes of a write.
+/// state of the run must fit the reader's stage (`IsReady`). `payload` is scratch, for the bytes of
+/// a write.
 pub fn answer_pending_items<H, A: ModeHandler<H>, K: Sink>(
     reader: &mut Reader,
     mode_handler: &mut A,
@@ -68,8 +69,9 @@ pub fn answer_pending_items<H, A: ModeHandler<H>, K: Sink>(
 }
 
 /// Feeds the chunk to the reader, and passes the items that the chunk completes to the mode
-/// handler. Fails as `answer_pending_items` does. The reader must need more bytes, of which at most
-/// `2^32 - 1` may be fed in all. `payload` is scratch, for the bytes of a write.
+/// handler. Fails as `answer_pending_items` does. The reader must need more bytes (`IsWaiting`), of
+/// which at most `2^32 - 1` may be fed in all, and must not have been told the end. The state of
+/// the run must fit the reader's stage (`IsReady`). `payload` is scratch, for the bytes of a write.
 pub fn answer_chunk<H, A: ModeHandler<H>, K: Sink>(
     reader: &mut Reader,
     mode_handler: &mut A,

@@ -1,5 +1,6 @@
 //! The trait `ModeHandler`: the script loop calls `open` of its handler for the `heap` line, and `answer`
 //! for each later command. The trait also names the handler's states and its semantics, for contracts.
+//! `OpenFault` is the error of `open`.
 ghost use Rattle.std.specs.Prelude.{◌≡◌, OnOk};
 ghost use Rattle.run_model.specs.Terms.{IsWellFormed, owned_command, SinkFailsIf};
 ghost use Rattle.script_loop.specs.declared.mode_handler.OpenFault.TheVariants as fault;
@@ -54,7 +55,8 @@ pub trait ModeHandler<H> {
     ghost semantics: { Semantics State Plan };
 
     /// `ModeHandler`: answers the `heap` line, the first item of a script: opens the heap with these settings and
-    /// writes the reply. If that fails, `OpenFault` shows why the reply wasn't written whole.
+    /// writes the reply. If that fails, `OpenFault` shows why the reply wasn't written whole. The state must be fresh
+    /// (`is_fresh` of the semantics).
     fn open<K: Sink>(
         &mut self,
         heap: &mut H,
@@ -69,7 +71,8 @@ pub trait ModeHandler<H> {
         ensures sink { SinkFailsIf (is_cut_reply result) (K.state sink.old) (K.state sink.new) };
 
     /// `ModeHandler`: does a command on the open heap and writes its reply. If the sink fails, the command has taken
-    /// effect, and a prefix of its reply was written.
+    /// effect, and a prefix of its reply was written. The run must be in progress (`is_going`), and is so afterwards;
+    /// the command must be well formed (`IsWellFormed`).
     fn answer<K: Sink>(
         &mut self,
         heap: &mut H,

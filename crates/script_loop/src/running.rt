@@ -38,11 +38,11 @@ impl Script {
     }
 
     /// One turn of the loop: takes one chunk, lets `mode_handler` answer each item whose line is
-    /// complete, and returns true. Call it on a new script, or after a turn that returned true.
-    /// Returns false if the source has ended; then no byte was taken. An error is the status with
-    /// which the script ends: at a bad line, if the source or the sink fails, if an allocation
-    /// fails at the `heap` line, and if the chunk passes the limit (its items within the limit are
-    /// answered first).
+    /// complete, and returns true. Call it on a new script with a fresh state of handler and heap,
+    /// or after a turn that returned true. Returns false if the source has ended; then no byte was
+    /// taken. An error is the status with which the script ends: at a bad line, if the source or the
+    /// sink fails, if an allocation fails at the `heap` line, and if the chunk passes the limit (its
+    /// items within the limit are answered first).
     pub fn turn<H, A: ModeHandler<H>, S: Source, K: Sink>(
         &mut self,
         mode_handler: &mut A,
@@ -90,7 +90,8 @@ impl Script {
 /// Runs a script: takes chunks from the source until it ends, and lets the mode handler answer each
 /// whole line before the next chunk, and a last line without line feed at the end. It stops earlier
 /// at a bad line, if the source or the sink fails, if an allocation fails at the `heap` line, and
-/// past 268,435,455 bytes. The status shows how it ended.
+/// past 268,435,455 bytes. The status shows how the script ended (`IsStatusRow`). The state of
+/// handler and heap must be fresh (`is_fresh` of the semantics).
 pub fn play_script<H, A: ModeHandler<H>, S: Source, K: Sink>(
     mode_handler: &mut A,
     heap: &mut H,

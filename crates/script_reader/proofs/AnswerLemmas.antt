@@ -1,5 +1,5 @@
--- For `read_next`, which returns a script's next item: what follows if the first line not yet read is passed over, has an item or is bad, and when the
--- reader must return `NeedMore` or `End`.
+-- For `read_next`, which returns a script's next item, and the functions that it calls: what follows if the first line not yet read is passed over, has an item
+-- or is bad, and when the reader must return `NeedMore` or `End`.
 use Rattle.std.proofs.Common.{◌≡◌, ◌∙◌, ◌<◌, ◌≤◌, ◌+◌, ℕ, Bool, true, false, List, [], ◌∷◌, Option, Some, None, length, take, drop, refl, sym, ap, arith}
 use Rattle.std.proofs.Common.{length-append, length-drop, subst, append-nil, append_assoc, ◌++◌, ◌⊎◌, inl, inr, cond, suc, take-append-drop}
 use Rattle.std.proofs.lemmas.Bool.{false≢true, ltb-false}

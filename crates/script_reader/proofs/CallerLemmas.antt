@@ -1,5 +1,6 @@
--- For proofs of other crates: how calls of `feed`, `finish` and `next_command` change the items that a reader has left, and that a bad line leaves none.
--- Re-exported: a script that this crate writes is read as the commands that it was written for, and a line of numbers is short.
+-- For proofs of other crates and the laws: how calls of `feed`, `finish` and `next_command` change the items that a reader has left, and that those returned
+-- and those left are those left before; `next_command` announces no end; a bad line leaves none, and is returned again. Re-exported: a script that this crate
+-- writes is read as the commands that it was written for, and a line of numbers is short.
 use Rattle.std.proofs.Common.{◌≡◌, ◌∙◌, ◌++◌, ℕ, Bool, true, false, List, [], ◌∷◌, Option, Some, None, refl, sym, ap, subst, append-nil, append_assoc}
 use Rattle.std.proofs.lemmas.Bool.{true≢false}
 use Rattle.cf_base.specs.Settings.{profile_of}

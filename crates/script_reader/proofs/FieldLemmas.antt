@@ -1,5 +1,4 @@
--- For `settings` and `take_hex`, which read fields of a line: four numbers are read one by one, and the bytes that the crate `hex` decodes are those
--- that a token's digits spell.
+-- For `settings`, which reads the fields of a `heap` line: four numbers are read one by one.
 use Rattle.std.proofs.Common.{◌≡◌, ℕ, List, Option, Some, arith}
 use Rattle.cf_io.specs.Numbers.{number_in}
 use Rattle.script_reader.specs.Commands.{four_of, ◌>>=◌}

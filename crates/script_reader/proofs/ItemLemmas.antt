@@ -1,5 +1,5 @@
--- For `read_first_line` and `next_line`: the items of the bytes not yet read are the item of their first line, if it has one, and then those of the later
--- lines, whatever bytes are fed next.
+-- For `read_first_line`, `next_line` and the laws: the items of the bytes not yet read are the item of their first line, if it has one, and then those of the
+-- later lines, whatever bytes are fed next. Also the lines, and the texts between line feeds, of bytes put before others; a line that is too long is bad.
 use Rattle.std.proofs.Common.{◌≡◌, ◌∙◌, ◌+◌, ◌==◌, ◌||◌, ◌++◌, ◌⊎◌, inl, inr, ℕ, Bool, true, false, cond, List, [], ◌∷◌, None, length, take, drop, refl, sym}
 use Rattle.std.proofs.Common.{ap, arith, append_assoc, append-nil, length-append}
 use Rattle.std.proofs.lemmas.Bool.{false≢true, lt-ltb, ltb-true}

@@ -1,5 +1,5 @@
--- For `command_text`, which writes a command as a line: the decimal text of a number and the hexadecimal text of bytes are tokens, and so short that a line
--- holds them.
+-- For `command_text`, which writes a command as a line token by token: the decimal text of a number and the hexadecimal text of bytes are tokens; numbers with
+-- a space before each have at most 21 bytes each; one more token adds a space and its bytes.
 use Rattle.std.proofs.Common.{◌≡◌, ◌∙◌, ◌≤◌, ◌<◌, ◌+◌, ◌*◌, ◌/◌, ◌%◌, ◌++◌, ◌&&◌, ℕ, Bool, suc, true, false, List, [], ◌∷◌, length, map}
 use Rattle.std.proofs.Common.{refl, sym, ap, arith, append-nil, append_assoc, Some}
 use Rattle.std.proofs.Common.{length-append}

@@ -1,4 +1,5 @@
--- For the laws: a line whose tokens are separated by single spaces is split into these tokens again by the grammar, and ends at the line feed after it.
+-- For the laws: tokens here have bytes of 48 or more (`IsToken`). A line whose tokens are separated by single spaces is split into these tokens again by the
+-- grammar, has no carriage return, and ends at the line feed after it.
 use Rattle.std.proofs.Common.{◌≡◌, ◌∙◌, ◌≤◌, ◌+◌, ◌++◌, ◌==◌, ◌&&◌, ℕ, Bool, zero, suc, true, false, List, [], ◌∷◌, refl, sym, ap}
 use Rattle.std.proofs.Common.{ap₂, arith}
 use Rattle.std.specs.Prelude.{⊤, nat_le, slice_index, if◌then◌else◌}

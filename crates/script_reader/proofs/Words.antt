@@ -1,5 +1,5 @@
--- For `split_token`, which splits a text after its first token: how many gaps (spaces and tabs) the text begins with, where its first token ends, and which
--- tokens follow.
+-- For `gaps`, `token_length` and `split_token`, which splits a text after its first token, and for other proofs here: how many gaps (spaces and tabs) the text
+-- begins with, where its first token ends, and which tokens follow. Also: the position of the first byte that passes any test, or the length of the text.
 use Rattle.std.proofs.Common.{◌≡◌, ◌∙◌, ◌-◌, ◌<◌, ◌≤◌, ◌+◌, ℕ, suc, Bool, true, false, cond, not, List, [], ◌∷◌}
 use Rattle.std.proofs.Common.{length, take, drop, get_or, refl, sym, ap, arith}
 use Rattle.std.specs.List.{position_or_len}

@@ -1,5 +1,5 @@
--- What the code found in a line, as the line's meaning: blank or a comment, not in the grammar, or an item; and the stage of the script after it. No public
--- clause cites this module.
+-- What the code found in a line, as the line's meaning: blank or a comment, not in the grammar, or an item; whether a command's fields are in range; the next
+-- line with an item, and the stage of the script and the reading after a line. No public clause cites this module.
 use Rattle.std.specs.Prelude.{◌≡◌, ◌+◌, ℕ, Bool, true, false, Option, Some, None, drop, take}
 use Rattle.cf_base.specs.Settings.{profile_of}
 use Rattle.script_reader.specs.Commands.{IsWellFormed}

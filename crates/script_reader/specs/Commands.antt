@@ -14,7 +14,7 @@ use Rattle.script_reader.specs.declared.command.Command.{Command}
 use Rattle.script_reader.specs.declared.command.Command.TheVariants.{Malloc, Free, Write, Read, Place, Block, Peek, Walk, Frag, Steps, Bound, Resize, Slice}
 use Rattle.script_reader.specs.declared.command.Command.TheVariants.{Task, Quota, Need, Admit}
 
--- the value of f at x; none if there is no x
+-- the value of f at x; none if there is no x, or f has no value there
 infixl 10 ◌>>=◌
 abbrev pub ◌>>=◌ : {A B : Type 0} → Option A → (A → Option B) → Option B
 None >>= f = None
@@ -234,7 +234,7 @@ abbrev pub settings_if : Option SettingFault → Profile → Option Profile
 settings_if None settings = Some settings
 settings_if (Some fault) settings = None
 
--- the settings of a line heap PAGES PAGEBYTES K PROXIES, from the tokens after heap; none if one of them is out of range (`setting_fault`)
+-- the settings of a line heap PAGES PAGEBYTES K PROXIES, from the tokens after heap; none also if they aren't allowed (`setting_fault` finds a fault)
 abbrev pub settings_in : List (List ℕ) → Option Profile
 settings_in args = do
   p ← four_of args

@@ -9,15 +9,16 @@ use Rattle.script_reader.specs.declared.command.Command.TheVariants.{Malloc, Fre
 abbrev pub id_named : ℕ → ℕ
 id_named word = word % 4096
 
--- the number of bytes of the object, if the command of this word is a malloc: below 16,384 for one word in eight, below 1,024 for the others
+-- The number of bytes of the object, if the command of this word is a malloc: the word without its low 16 bits, modulo 16,384 if bits 32 to 34 are 0, else
+-- modulo 1,024.
 abbrev pub bytes_asked : ℕ → ℕ
 bytes_asked word = word / 2 ^ 16 % (if word / 2 ^ 32 % 8 == 0 then 16384 else 1024)
 
--- a number below eight, from which it follows what kind of command this word generates
+-- bits 12 to 14 of the word, a number below eight, which chooses the command (`command_of_word`)
 abbrev pub one_of_eight : ℕ → ℕ
 one_of_eight word = word / 2 ^ 12 % 8
 
--- The command of a word. Of the eight values of `one_of_eight`, three mean a malloc, two a free, one a write of the word's eight bytes, and two a read of eight.
+-- The command of a word, by `one_of_eight`: 0 to 2 a malloc, 3 and 4 a free, 5 a write of the word's eight bytes at 0, 6 and 7 a read of eight bytes at 0.
 abbrev pub command_of_word : ℕ → Command
 command_of_word word =
     if nat_lt (one_of_eight word) 3 then Malloc (id_named word) (bytes_asked word)

@@ -1,4 +1,5 @@
--- What a script means: its bytes as items, which are commands, the `heap` line, and the first bad line.
+-- What a script means: its bytes as items, which are commands, the `heap` line, and the first bad line. Also what a line means by itself and at its place, and
+-- when items are the first of others.
 use Rattle.std.specs.Prelude.{◌≡◌, ◌++◌, ◌==◌, ℕ, Bool, true, false, ◌+◌, List, [], ◌∷◌, Option, Some, None, codes, option_map, if◌then◌else◌}
 use Rattle.std.specs.Str.{bytes_eq, byte}
 use Rattle.cf_base.specs.Settings.{Profile}

@@ -11,8 +11,8 @@ kept_in r = drop r.start r.buffer.items
 abbrev pub reading_of : Inside → Reading
 reading_of r = record { kept = kept_in r; passed = r.passed; stage = r.stage; ended = r.ended; stopped = r.stopped; fed = r.fed }
 
--- The invariant of a reader: the buffer has at most 18,000 bytes; at most 9,000 bytes are kept; the first `searched` kept bytes hold no line feed; the lines
--- passed are no more than the fed bytes that are not kept; and at most 2^32 - 1 bytes were fed.
+-- The invariant of a reader: the kept bytes begin within the buffer or at its end; the buffer has at most 18,000 bytes; at most 9,000 bytes are kept; the
+-- first `searched` kept bytes hold no line feed; the lines passed are no more than the fed bytes that are not kept; and at most 2^32 - 1 bytes were fed.
 pub record IsValid (r : Inside) : Type 0 where
   pub start : r.start ≤ length r.buffer.items
   pub few : length r.buffer.items ≤ 18000

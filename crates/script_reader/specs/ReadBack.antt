@@ -1,5 +1,5 @@
--- For the laws of this crate: the commands that are the same once written as a line and read back (`IsCommand`), and the scripts of a `heap` line and such
--- lines.
+-- For the laws of this crate: the commands that are the same once written as a line and read back (`IsCommand`), with fields of 16 and of 32 bits, and the
+-- scripts of a `heap` line and such lines.
 use Rattle.std.specs.Prelude.{◌≡◌, ◌≤◌, ⊤, ℕ, false, ◌++◌, List, [], ◌∷◌, None, codes}
 use Rattle.cf_base.specs.Settings.{setting_fault}
 use Rattle.hex.specs.Hex.{IsBytes}
@@ -18,7 +18,7 @@ IsShort n = n ≤ 65535
 abbrev pub IsWord : ℕ → Type 0
 IsWord n = n ≤ 4294967295
 
--- the command's fields fit the types of the code's `Command`, as those of every value of that type do
+-- the command's fields fit the types of the code's `Command`, as those of every value of that type do; fields that `IsWellFormed` bounds aren't repeated
 abbrev pub FitsTypes : Command → Type 0
 FitsTypes (Malloc id bytes) = IsShort id × IsWord bytes
 FitsTypes (Free id) = IsShort id

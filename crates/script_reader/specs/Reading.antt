@@ -1,4 +1,5 @@
--- What contracts see of a reader: what it was fed and keeps, which items it has left, and what each result says of them.
+-- What contracts see of a reader: what it was fed and keeps, how many bytes it takes, which items it has left, what each result says of them, and the first
+-- line of the bytes that it keeps.
 use Rattle.std.specs.Prelude.{◌≡◌, ◌<◌, ◌≤◌, ◌+◌, ◌-◌, ◌==◌, ◌||◌, ◌⊎◌, ◌++◌, ℕ, Bool, true, false, List, [], ◌∷◌, Option, Some, None, is_some, length, take}
 use Rattle.std.specs.Prelude.{drop, min, if◌then◌else◌}
 use Rattle.std.specs.List.{list_any}
@@ -56,8 +57,8 @@ items_left r more ended = if is_some r.stopped then []
 abbrev pub holds_line_feed : List ℕ → Bool
 holds_line_feed = list_any (λ x. x == 10)
 
--- From `old` to `new` the reader read a prefix of the kept bytes, which holds the items `first`, and counted its lines. Whatever is fed later, the items
--- left in `old` are `first` and then those left in `new`.
+-- From `old`, not stopped, to `new` the reader read a prefix of the kept bytes, which holds the items `first`, and counted its lines. Nothing was fed, and no
+-- end announced. Whatever is fed later, the items left in `old` are `first` and then those left in `new`.
 pub record Reads (old : Reading) (first : List Item) (new : Reading) : Type 0 where
   pub going : old.stopped ≡ None
   pub front : List ℕ
@@ -73,7 +74,7 @@ pub record PassesOver (old new : Reading) : Type 0 where
   pub still : new.stopped ≡ None
   pub same_stage : new.stage ≡ old.stage
 
--- the reader returned the `heap` line with these settings, and the stage leads from `Opening` to `Bounding`
+-- the reader returned the `heap` line with these settings, and the stage leads from `Opening` to `Bounding`; fewer bytes are kept
 pub record AnswersStart (old : Reading) (settings : Settings) (new : Reading) : Type 0 where
   pub reads : Reads old (starts (profile_of settings) ∷ []) new
   pub still : new.stopped ≡ None
@@ -81,7 +82,7 @@ pub record AnswersStart (old : Reading) (settings : Settings) (new : Reading) : 
   pub opening : old.stage ≡ Opening
   pub bounding : new.stage ≡ Bounding
 
--- the reader returned this command, whose fields are in their ranges, and which is allowed at the stage of `old`
+-- the reader returned this command, whose fields are in their ranges, and which is allowed at the stage of `old`; fewer bytes are kept
 pub record AnswersCommand (old : Reading) (command : Command) (new : Reading) : Type 0 where
   pub reads : Reads old (asks command ∷ []) new
   pub still : new.stopped ≡ None
@@ -89,7 +90,8 @@ pub record AnswersCommand (old : Reading) (command : Command) (new : Reading) : 
   pub formed : IsWellFormed command
   pub leads : stage_after_command old.stage (is_bound command) ≡ Some new.stage
 
--- the reader returned `NeedMore`: the kept bytes hold no whole line with an item, and the end wasn't announced
+-- the reader returned `NeedMore`: the kept bytes held no whole line with an item, and the end wasn't announced; at most `LONGEST` bytes, with no line feed,
+-- are still kept
 pub record NeedsMore (old new : Reading) : Type 0 where
   pub passes : PassesOver old new
   pub open_end : old.ended ≡ false
@@ -97,7 +99,7 @@ pub record NeedsMore (old new : Reading) : Type 0 where
   pub few : length new.kept ≤ LONGEST
   pub no_feed : holds_line_feed new.kept ≡ false
 
--- the reader returned `End`: no item is left, and the end was announced
+-- the reader returned `End`: no item was left, and the end was announced; no byte is kept
 pub record HasEnded (old new : Reading) : Type 0 where
   pub passes : PassesOver old new
   pub shown : old.ended ≡ true

@@ -50,9 +50,9 @@ impl Generator {
         self.next_ref(&mut bytes).to_command()
     }
 
-    /// Makes the next command from the next random word. Its low 12 bits are the id, and the three bits above them
-    /// choose one of eight cases: three make an object, two free one, one writes the word's eight bytes, and two read
-    /// eight bytes. The bytes of a write are put into `bytes`, from which the command borrows them.
+    /// Makes the next command from the next random word. The word's low 12 bits are the id. The three bits above
+    /// them choose the command: 0 to 2 a malloc, 3 and 4 a free, 5 a write of the word's eight bytes at 0, 6 and 7 a
+    /// read of eight bytes at 0. The bytes of a write are put into `bytes`, from which the command borrows them.
     pub fn next_ref<'a>(&mut self, bytes: &'a mut [u8; 8]) -> CommandRef<'a>
         ensures value { owned_command result ≡ command_of_word (mix_u64 self.old).0 }
         ensures rest { self.new ≡ next_state self.old }
@@ -77,7 +77,8 @@ impl Generator {
 }
 
 /// The number of bytes of the object that a malloc makes, computed from the random word of the
-/// command: below 16,384 for one word in eight, below 1,024 for the others.
+/// command: the word without its low 16 bits, modulo 16,384 if bits 32 to 34 are 0, else modulo
+/// 1,024.
 fn bytes_asked(word: u64) -> u32
     ensures { result ≡ bytes_asked word }
 {

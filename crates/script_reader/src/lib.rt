@@ -1,6 +1,6 @@
 //! The reader of scripts: it turns the bytes of a script, fed in chunks of any size, into items by
 //! the grammar of scripts: the `heap` line, commands, and the first bad line. Also the writer of a
-//! command's line (`command_text`), and a generator of commands (`Generator`).
+//! command's line (`command_text`), a generator of commands (`Generator`), and laws of the three.
 #![tactic(auto)]
 
 mod command;

@@ -1,7 +1,8 @@
 //! Reads one line of a script by the grammar. There is a function for each command and for the
 //! `heap` line, which reads `args`, the text after the line's first word. It puts the command or
 //! the settings into `next` and returns true, or returns false if the text isn't in the grammar;
-//! its contract then says nothing of `next`.
+//! its contract then says nothing of `next`. `is_silent` finds the blank lines and comments, and
+//! `LONGEST` is the most bytes of a line.
 ghost use Rattle.std.specs.Prelude.{◌≡◌, IsTrue, codes, false, option_map};
 ghost use Rattle.std.specs.Str.{bytes_eq};
 ghost use Rattle.cf_base.specs.Settings.{profile_of};
@@ -359,7 +360,9 @@ pub fn read_line<'a>(text: &[u8], payload: &'a mut PayloadBuffer, next: &mut Nex
     }
 }
 
-/// Does what `read_line` does, from the line's first token `word` and the text `args` after it.
+/// Reads a line from its first token `word` and the text `args` after the token. Puts the command,
+/// or the settings of a `heap` line, into `next`, and the bytes of a write into `payload`. False if
+/// these aren't in the grammar.
 fn read_item<'a>(
     word: &[u8],
     args: &[u8],

@@ -96,8 +96,9 @@ fn push_three(line: &mut Line, word: &[u8], a: u64, b: u64, c: u64)
     push_field(line, b" ", c);
 }
 
-/// Appends a space and the bytes, two lower-case hexadecimal digits each, to a script's line. They
-/// fit, since the line has at most 47 bytes before and there are at most 4,096 bytes.
+/// Appends a space and the bytes, two lower-case hexadecimal digits each, to a script's line. So
+/// that they fit, the line must have at most 47 bytes before, and there must be at most 4,096
+/// bytes.
 fn push_bytes(line: &mut Line, bytes: &[u8])
     requires line { length line.old ≤ 47 }
     requires bytes { length bytes.now ≤ 4096 }

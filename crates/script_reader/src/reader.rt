@@ -115,8 +115,8 @@ impl Reader {
         self.next_ref(&mut payload).to_next()
     }
 
-    /// Does what `next_command` does, but puts the bytes of a write into `payload`, from which the
-    /// result borrows them.
+    /// Reads the next line and returns the result of `next_command`, but puts the bytes of a write
+    /// into `payload`, from which the result borrows them.
     pub fn next_ref<'a>(&mut self, payload: &'a mut PayloadBuffer) -> NextRef<'a>
         ensures { Answers self.old (owned_next result) self.new }
     {
@@ -125,7 +125,8 @@ impl Reader {
         next
     }
 
-    /// Does what `next_ref` does, but puts the result into `next`, so that it isn't copied.
+    /// Reads the next line as `next_ref` does, but puts the result into `next`, so that the result
+    /// isn't copied.
     pub fn read_next<'a>(&mut self, payload: &'a mut PayloadBuffer, next: &mut NextRef<'a>)
         ensures { Answers self.old (owned_next next.new) self.new }
     {
@@ -139,8 +140,8 @@ impl Reader {
         }
     }
 
-    /// What `next_command` returns if the kept bytes hold no line: `End` if the end was announced,
-    /// else `NeedMore`.
+    /// The result of a call if the kept bytes hold no whole line, and no bad line was returned
+    /// before: `End` if the end was announced, else `NeedMore`.
     fn without_line<'a>(&self) -> NextRef<'a>
         requires going { self.now.stopped ≡ None }
         requires none { HasNoLine self.now.kept self.now.ended }
@@ -154,7 +155,7 @@ impl Reader {
     }
 
     /// Passes the blank lines and comments that the kept bytes begin with, and returns where the line after
-    /// them ends. `None` if no whole line comes after them.
+    /// them ends. `None` if no whole line comes after them. No bad line may have been returned before.
     fn next_line(&mut self) -> Option<Cut>
         requires { self.old.stopped ≡ None }
         ensures passes { PassesOver self.old self.new }
@@ -207,7 +208,8 @@ impl Reader {
 
     /// Reads and passes the first line of the kept bytes, which ends at `cut` and is neither blank nor a comment.
     /// Puts the line's command, or the settings of a `heap` line, into `next`, and the bytes of a write into
-    /// `payload`. If the line is bad, `next` is `Bad` with the line's number, and the reader stops.
+    /// `payload`. If the line is bad, `next` is `Bad` with the line's number, and the reader stops. It must not
+    /// have stopped before.
     fn read_first_line<'a>(
         &mut self,
         cut: Cut,
@@ -232,8 +234,8 @@ impl Reader {
     }
 }
 
-/// Drops the bytes before `start` from the buffer, and moves the others to the buffer's start.
-/// Their old and their new place must not overlap.
+/// Drops the first `start` bytes from the buffer, which must have as many, and moves the others to
+/// the buffer's start. Their old and their new place must not overlap.
 fn drop_front(buffer: &mut ArrayVec<u8, BUFFER>, start: usize)
     requires within { start ≤ length buffer.old.items }
     requires apart { length buffer.old.items ≤ start + start }

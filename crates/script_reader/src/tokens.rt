@@ -1,6 +1,6 @@
 //! Splits a line into tokens, the runs of bytes between spaces and tabs, and reads a token as a
-//! number. A space or a tab is called a gap. Also finds a line feed, and cuts off a carriage
-//! return.
+//! number. A space or a tab is called a gap. Also finds a line feed, finds the first byte that is no
+//! gap, and cuts off a carriage return.
 ghost use Rattle.std.specs.Prelude.{◌≡◌, ◌≤◌, ◌==◌, length, position, not, option_map, true, false, MatchOption, IfSome, [], ◌∷◌};
 ghost use Rattle.std.specs.List.{position_or_len};
 ghost use Rattle.cf_io.specs.Numbers.{number_in};

@@ -1,4 +1,5 @@
--- For `classes_by_need` and `class_of`: the least size that holds a need, the words of an object with its header, among rising sizes.
+-- For `classes_by_need` and `class_of`: the least size, among rising ones, that holds a need (the words of an object with its header); a need above a page has
+-- none.
 use Rattle.std.proofs.Common.{◌≡◌, ℕ, ◌+◌, ◌-◌, ◌<◌, ◌≤◌, inl, inr, List, [], ◌∷◌, length, get_or, Some, None, arith, sym, ◌∙◌, ap}
 use Rattle.std.specs.Prelude.{◌++◌, nat_le}
 use Rattle.std.specs.List.{position}

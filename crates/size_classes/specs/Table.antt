@@ -1,4 +1,5 @@
--- What contracts see of `Classes` (`ClassTable`): the words of a page, and the words of a slot of each class.
+-- What contracts see of `Classes` (`ClassTable`): the words of a page, and the words of a slot of each class;
+-- the table of each layout (`table_of`); and what is true of every table (`IsClassTable`).
 use Rattle.std.specs.Prelude.{ℕ, ◌≤◌, List}
 use Rattle.cf_base.specs.Classes.{sizes}
 use Rattle.cf_base.specs.Rising.{AreSizes}

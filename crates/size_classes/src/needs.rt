@@ -7,7 +7,8 @@ ghost use Rattle.size_classes.specs.Layout.{ShowsClasses};
 use std::alloc::{AllocError, Global};
 
 /// Returns, for each need from 0 to `page_words` words, its class: the index of the least of
-/// `sizes` that is at least the need. Fails if the allocation fails.
+/// `sizes` that is at least the need. `sizes` rise from at least 4 words to `page_words`, which is at
+/// most 16,384 (`IsClassTable`). Fails if the allocation fails.
 pub(crate) fn classes_by_need(
     alloc: Global,
     sizes: &[u32],

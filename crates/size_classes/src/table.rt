@@ -14,7 +14,7 @@ use std::marker::Model;
 use step_ledger::{Cells, Steps};
 
 /// The size classes of pages: the words of a slot of each class, in rising order (`slot_sizes`). A
-/// class is an index into this list.
+/// class is an index into this list; the class in a call must be one.
 #[derive(Drop)]
 pub struct Classes {
     sizes: Vec<u32>,
@@ -37,9 +37,9 @@ impl Model for Classes {
 }
 
 impl Classes {
-    /// Makes the classes of pages with `page_words` words; `layout` chooses the sequence of slot
-    /// sizes, in single words or in whole blocks of four. Only this call allocates. It fails with
-    /// `OutOfMemory` if an allocation fails.
+    /// Makes the classes of pages with `page_words` words, a power of two from 64 to 16,384; `layout`
+    /// chooses the sequence of slot sizes, in single words or in whole blocks of four. Only this call
+    /// allocates. It fails with `OutOfMemory` if an allocation fails.
     pub fn new(alloc: Global, page_words: u32, layout: Layout) -> Result<Classes, OutOfMemory>
         requires { IsTrue (is_page_size page_words) }
         ensures { IfOk result (λ t. t ≡ table_of page_words layout) }
@@ -58,7 +58,7 @@ impl Classes {
         })
     }
 
-    /// The memory that a table of size classes asks for.
+    /// The memory that `Classes::new` asks for, with the same `page_words` and `layout`.
     pub fn bytes_needed(page_words: u32, layout: Layout) -> BytesNeeded
         requires { IsTrue (is_page_size page_words) }
         ensures needed { result ≡ class_table_bytes page_words layout }

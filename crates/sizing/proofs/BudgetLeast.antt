@@ -1,4 +1,5 @@
--- For `budget.rt`: pages that the budget can open are needed. The program allocates for each class the objects of its length that open the pages.
+-- For `budget.rt` and `budget_certificate.rt`: with fewer pages than the budget can open, a malloc within it can be refused. The program allocates for each
+-- class the objects of its length that open the pages.
 use Rattle.std.proofs.Common.{◌≡◌, ℕ, zero, suc, ◌+◌, ◌-◌, ◌*◌, ◌%◌, ◌<◌, ◌≤◌, List, [], ◌∷◌, None, cond, length, map, min, replicate, arith, ap, ◌∙◌, inl, inr, refl}
 use Rattle.std.specs.Prelude.{nat_eq, nat_lt, sum_by}
 use Rattle.std.specs.List.{range_with_len}

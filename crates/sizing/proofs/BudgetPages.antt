@@ -1,5 +1,6 @@
--- For the laws of `budget.rt`: the pages of a class, each at the level t, cost at most its objects and t - price for each page that may be partly full. At bound
--- one the pages that objects within the budget need are pages that it affords.
+-- For `budget.rt` and `budget_certificate.rt`: pages serve a budget if each class has a level, a cost that the objects of any full page reach, which shows it.
+-- A class's pages, each at the level t, cost at most its objects and t - price for each page that may be partly full. At bound one, pages serve if the budget
+-- affords no more.
 use Rattle.std.proofs.Common.{◌≡◌, ◌≢◌, ℕ, zero, suc, ◌+◌, ◌-◌, ◌*◌, ◌/◌, ◌<◌, ◌≤◌, List, [], ◌∷◌, length, min, replicate, arith, ap, sym, ◌∙◌}
 use Rattle.std.proofs.Common.{inl, inr, refl, subst}
 use Rattle.std.specs.Prelude.{nat_eq, sum_by}

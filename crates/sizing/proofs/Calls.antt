@@ -1,4 +1,5 @@
--- Each call of a run keeps the arrangement sound, and each class within the pages that the most of its objects fill.
+-- How a malloc and a resize change the number of objects of a class, and what objects there are after a resize into another class. Each call of a run keeps the
+-- arrangement sound, and each class within the pages that the most of its objects fill; and what each call keeps, a run keeps.
 use Rattle.std.proofs.Common.{◌≡◌, ◌≢◌, ℕ, ◌+◌, ◌<◌, ◌≤◌, List, [], ◌∷◌, Option, Some, None, length, replicate, arith, ap, sym, ◌∙◌, inl, inr, refl, subst}
 use Rattle.std.specs.Prelude.{nat_eq}
 use Rattle.std.proofs.lemmas.Bool.{cases_eq}

@@ -1,5 +1,5 @@
--- For `budget_certificate.rt`: what the tests show of the pages of a heap holds of any pages with the same sizes and no greater bounds, and makes a heap with
--- them serve.
+-- For `budget_certificate.rt`: what the tests show of the pages of a heap holds of any pages with the same sizes and no greater bounds, makes a heap with them
+-- serve, and makes fewer pages refuse. Bounds cut from a table of ones are those of pages whose every bound is 1.
 use Rattle.std.proofs.Common.{◌≡◌, ℕ, ◌-◌, ◌*◌, ◌/◌, ◌<◌, ◌≤◌, List, length, replicate, take, ap, arith, inl, inr, refl, subst, sym, ◌∙◌}
 use Rattle.std.specs.Prelude.{slice_index, sum_by}
 use Rattle.std.specs.List.{range_with_len}

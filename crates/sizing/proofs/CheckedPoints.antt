@@ -1,5 +1,5 @@
--- For `is_certified`: the points are a certificate if and only if each meets its conditions, and there is one if there is a mode. The tables that the test
--- computes have the counts of the modes.
+-- For `is_certified` and its parts: the points are a certificate if and only if each meets its conditions, and there is one if there is a mode; the tables that
+-- the test computes have the counts of the modes; resizes are served with a page more. For `budget_certificate.rt` too: the pages and classes of the settings.
 use Rattle.std.proofs.Common.{◌≡◌, ℕ, suc, ◌+◌, ◌<◌, ◌≤◌, Bool, List, [], All, cond, get_or-set_other, get_or-set_same, length, arith, ap, sym, ◌∙◌, min, refl, subst, inl, inr}
 use Rattle.std.proofs.Math.ListN.{set}
 use Rattle.std.specs.Prelude.{IsTrue, nat_eq, slice_index, slice_index_or}

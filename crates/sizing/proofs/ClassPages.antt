@@ -1,4 +1,5 @@
--- The pages of a class before and after a call: one more is opened only if all pages of the class are full.
+-- The pages of a class before and after a call: one more is opened only if all pages of the class are full; and if the class has at most the pages of its
+-- bound, no free of its objects must move another. Also a lemma on sums of which one term is less.
 use Rattle.std.proofs.Common.{◌≡◌, ◌≢◌, ℕ, zero, suc, ◌+◌, ◌-◌, ◌*◌, ◌<◌, ◌≤◌, Some, arith, ap, inl, inr}
 use Rattle.std.specs.Prelude.{◌⊎◌, nat_lt, sum_by}
 use Rattle.std.specs.List.{range_with_len}

@@ -1,4 +1,4 @@
--- For `points.rt`: `most_pages` in closed form.
+-- For `pages_at_most`: `most_pages` in closed form; and pages that objects can be on are no more than the objects, with few free slots.
 use Rattle.std.proofs.Common.{◌≡◌, ℕ, zero, suc, ◌+◌, ◌-◌, ◌*◌, ◌/◌, ◌%◌, ◌<◌, ◌≤◌, min, arith, ap, inl, inr}
 use Rattle.std.specs.Prelude.{◌⊎◌}
 use Rattle.std.proofs.lemmas.Bool.{cases_lt}

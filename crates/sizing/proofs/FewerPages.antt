@@ -1,4 +1,5 @@
--- For `fewer_pages_refuse`: with fewer pages than the declared objects need, one of their mallocs, made in order, is refused for space.
+-- For `fewer_pages_refuse`, and the same for modes, budgets and `least_pages`: with fewer pages than the declared objects need, one of their mallocs, made in
+-- order, is refused for space.
 use Rattle.std.proofs.Common.{◌≡◌, ℕ, Bool, ◌+◌, ◌<◌, ◌≤◌, List, [], ◌∷◌, ◌++◌, None, length, replicate, arith, ap, sym, ◌∙◌}
 use Rattle.std.proofs.Common.{inl, inr, refl, subst}
 use Rattle.std.specs.Prelude.{◌⊎◌, count_by, nat_eq}

@@ -1,4 +1,5 @@
--- For the laws of `heaps.rt`: a run of a manager with pages is a run of the page model, so the laws of runs hold of it.
+-- For `heaps.rt`, `by_numbers.rt` and `budget_certificate.rt`: a run of a manager with pages is a run of the page model. So if the model's runs refuse no
+-- malloc or resize for space, or never must move an object, the same holds of the manager.
 use Rattle.std.proofs.Common.{◌≡◌, ◌≢◌, ℕ, List, [], ◌∷◌, Option, Some, None, Ok, Err, replicate, arith, ap, sym, ◌∙◌, inl, inr, refl, subst}
 use Rattle.std.specs.Prelude.{◌⊎◌}
 use Rattle.std.specs.FinMap.{empty, get, insert}

@@ -1,5 +1,5 @@
--- For the laws of `modes.rt`: a program whose objects are always within one of several modes. A certificate bounds its pages along every run; `spread_of_modes`
--- is the sum of one.
+-- For the laws of `modes.rt` and `heaps.rt` and for `is_certified`: a program whose objects are always within one of several modes. A certificate bounds its
+-- pages along every run, so they serve; `spread_of_modes` is the sum of one; and fewer pages than a mode needs refuse.
 use Rattle.std.proofs.Common.{◌≡◌, ◌≢◌, ℕ, ◌+◌, ◌-◌, ◌*◌, ◌%◌, ◌<◌, ◌≤◌, suc, List, [], ◌∷◌, Contains, None, Some, cond, length, map, replicate, arith, ap, sym, ◌∙◌, inl, inr, refl, subst}
 use Rattle.std.specs.Prelude.{All, count_by, max, min, nat_eq, slice_index, slice_index_or, sum_by}
 use Rattle.std.specs.List.{range_with_len}

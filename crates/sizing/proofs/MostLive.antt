@@ -1,5 +1,5 @@
--- For the laws of `laws.rt` but one: along a run each class stays within the pages that the most of its objects fill. So if the heap has these pages, no malloc
--- and no resize is refused for space.
+-- For the laws of `laws.rt` but one, and of `heaps.rt`: along a run each class stays within the pages that the most of its objects fill. So if the heap has
+-- these pages, no malloc and no resize is refused for space, and if no bound is less than its class's pages, no free moves an object.
 use Rattle.std.proofs.Common.{◌≡◌, ℕ, ◌+◌, ◌<◌, ◌≤◌, List, Some, length, map, replicate, arith}
 use Rattle.std.specs.Prelude.{nat_eq}
 use Rattle.std.specs.FinMap.{empty, get, insert, values}

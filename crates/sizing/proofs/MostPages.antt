@@ -1,4 +1,5 @@
--- The most pages that objects can be on, with some of them partly full: more objects can be on more pages, and with bound one there is one number.
+-- The most pages that objects can be on, with some of them partly full: no fewer for more objects, at least the pages that the objects need, and with bound one
+-- just these.
 use Rattle.std.proofs.Common.{◌≡◌, ℕ, zero, suc, ◌+◌, ◌-◌, ◌*◌, ◌<◌, ◌≤◌, arith, ap, inl, inr, refl}
 use Rattle.std.proofs.lemmas.Bool.{cases_lt}
 use Rattle.std.proofs.lemmas.Nat.{mul-le}

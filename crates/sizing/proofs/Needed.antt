@@ -1,4 +1,5 @@
--- For `least.rt` and `count.rt`: the sum over the slot sizes of a page is the pages that the declared objects need.
+-- For `least.rt`, `count.rt` and `class_counts`: the sum over the slot sizes of a page is the pages that the declared objects need; as many serve, fewer
+-- refuse, and they are the least quota.
 use Rattle.std.proofs.Common.{◌≡◌, ℕ, zero, suc, Bool, true, false, cond, ◌+◌, ◌*◌, ◌/◌, ◌<◌, ◌≤◌, List, drop, map, arith, ap, sym, ◌∙◌, inl, inr, refl}
 use Rattle.std.proofs.Common.{drop-cons, drop_of_length-le}
 use Rattle.std.specs.Prelude.{IsTrue, ◌&&◌, nat_eq, nat_le, nat_lt, sum_by}

@@ -1,5 +1,6 @@
--- What two needs both declare, and which objects stay over a call: without the one that the call adds, takes or changes, the objects before it and after it are
--- the same.
+-- What two lists of needs both declare (`in_both`): of each length the smaller number. If a program is within one list before a call and within the other after
+-- it, each class has, before or after the call, at most the objects that both declare, as have the objects beside a resized one; if the call resizes an object
+-- within its class, that class may have one more.
 use Rattle.std.proofs.Common.{◌≡◌, ◌≢◌, ℕ, zero, suc, ◌+◌, ◌-◌, ◌<◌, ◌≤◌, List, [], ◌∷◌, Some, cond, drop, length, min, replicate, arith, ap, sym, ◌∙◌, inl, inr, refl, subst}
 use Rattle.std.specs.Prelude.{◌⊎◌, nat_eq}
 use Rattle.std.specs.FinMap.{get, insert, remove}
@@ -27,7 +28,7 @@ use Rattle.sizing.specs.Runs.{Does, HeapCall, ResizesWithin, free_of, malloc_of,
 use Rattle.sizing.proofs.Calls.{objects_changed}
 use Rattle.sizing.proofs.MostLive.{declared_few}
 
--- ---- what two needs both declare
+-- ---- what two lists of needs both declare
 
 least_of_both : (r b e : ℕ) → min e (b - r) + min r b ≡ min (e + r) b
 least_of_both r b e = elim (cases_lt r b) [
@@ -142,7 +143,7 @@ module _ (o : Objects) (h : ℕ) (v w : List ℕ) (there : get o h ≡ Some v) w
 abbrev pub StaysOver : Paging → (ℕ → ℕ) → Objects → Objects → Type 0
 StaysOver p kept old new = (c : ℕ) → c < classes p → (live p old c ≤ kept c) ⊎ (live p new c ≤ kept c)
 
--- both needs declare more objects of class c than stay, and one of these stays too
+-- each of the two lists declares more objects of class c than both do, and one of these stays too
 pub record StaysResized (p : Paging) (needs others : List Need) (old new : Objects) (c : ℕ) : Type 0 where
   pub inside : c < classes p
   pub before : count_in p (in_both needs others) c < count_in p needs c

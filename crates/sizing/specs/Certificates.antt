@@ -1,6 +1,7 @@
--- Certificates that pages are enough for the modes of a program, whatever the bounds: for each mode some points, lists of pages by class, one of which no
--- run that is in the mode exceeds. An unverified planner can compute them, and `is_certified` tests them.
--- Then the levels and the certificate of a budget.
+-- What certifies that pages are enough for a program, whatever the bounds. For a program with modes: points, each a mode and a list of the pages of each class.
+-- While the program is in a mode, one of the mode's points has at least the pages that each class uses; resizes need more conditions (`AreForResizes`). For a
+-- program with a budget: for each class a level, a cost that the objects of any full page reach, and, if the pages are to be the least, pages that the budget
+-- pays for. An unverified planner can compute all these, and `is_certified`, `are_budget_levels` and `is_budget_certificate` test them.
 use Rattle.std.specs.Prelude.{◌≡◌, ◌≢◌, ℕ, ◌+◌, ◌-◌, ◌*◌, ◌/◌, ◌<◌, ◌≤◌, All, List, [], ◌∷◌, Contains, if◌then◌else◌, length, min, nat_eq, slice_index, slice_index_or, sum_by}
 use Rattle.std.specs.List.{range_with_len}
 use Rattle.page_model.specs.Counts.{ceil_div, most_pages}
@@ -18,7 +19,8 @@ mode_at modes j = slice_index_or modes j []
 abbrev pub mode_count : Paging → List (List Need) → ℕ → ℕ → ℕ
 mode_count p modes j c = count_in p (mode_at modes j) c
 
--- what both needs declare, of each length the smaller number: each entry has its count, but at most what the others declare of its length beyond the entries after it
+-- the objects that two lists of needs both declare, of each length the smaller number: the entries of the first list, each with at most the count that `others`
+-- declare of its length, less what the later entries of the first list declare of that length
 abbrev pub in_both : List Need → List Need → List Need
 in_both [] others = []
 in_both (e ∷ rest) others = record { bytes = e.bytes; count = min e.count (declared others e.bytes - declared rest e.bytes) } ∷ in_both rest others
@@ -27,12 +29,12 @@ in_both (e ∷ rest) others = record { bytes = e.bytes; count = min e.count (dec
 abbrev pub kept_count : Paging → List (List Need) → ℕ → ℕ → ℕ → ℕ
 kept_count p modes i j c = count_in p (in_both (mode_at modes i) (mode_at modes j)) c
 
--- these numbers by class, with one more of class c
+-- the numbers `counts` by class, with one more for class c
 abbrev pub one_more_of : ℕ → (ℕ → ℕ) → ℕ → ℕ
 one_more_of c counts e = if nat_eq e c then counts e + 1 else counts e
 
--- Of each class at most `kept` objects stay. The pages of the point y are at least those that a run can then still have when it goes on from the point x: the
--- pages of x, as far as these objects can be on them.
+-- The point x leads to the point y, if of each class c at most `kept c` objects stay: in each class y has at least the pages of x, or at least the most pages
+-- that the objects that stay can be on.
 abbrev pub LeadsToPoint : Paging → (ℕ → ℕ) → PointPages → PointPages → Type 0
 LeadsToPoint p kept x y = (c : ℕ) → c < classes p → min (slice_index x.pages c) (most_pages (kept c) (slots_of p c) (bound_of p c)) ≤ slice_index y.pages c
 
@@ -48,13 +50,13 @@ pub record IsPoint (p : Paging) (modes : List (List Need)) (points : List PointP
   pub enough : sum_by (slice_index x.pages) (range_with_len 0 (classes p)) ≤ p.pages
   pub next : (j : ℕ) → j < length modes → LeadsInto p points (kept_count p modes x.mode j) x j
 
--- each mode has a point (`first`), and each point meets `IsPoint` (`each`)
+-- the points are a certificate for the modes: each mode has a point (`first`), and each point meets `IsPoint` (`each`)
 pub record IsCertificate (p : Paging) (modes : List (List Need)) (points : List PointPages) : Type 0 where
   pub first : (j : ℕ) → j < length modes → (x : PointPages) × Contains points x × (x.mode ≡ j)
   pub each : All (IsPoint p modes points) points
 
--- The point x leads to one of the points of mode j also if a resize within a class leads to the mode, from one that has at most `before` objects of each class to
--- one that has at most `after`: then one object more of the class stays, if both modes have more than `kept`.
+-- The point x leads to one of the points of mode j also if a resize within a class leads to mode j. By class, the mode of x has at most `before` objects, mode j
+-- at most `after`, and `kept` can stay; with the resize one object more of its class stays, if both modes have more than `kept`.
 abbrev pub KeepsResized : Paging → List PointPages → (kept before after : ℕ → ℕ) → PointPages → ℕ → Type 0
 KeepsResized p points kept before after x j = (c : ℕ) → c < classes p → kept c < before c → kept c < after c → LeadsInto p points (one_more_of c kept) x j
 
@@ -85,11 +87,13 @@ pub record AreForResizes (p : Paging) (modes : List (List Need)) (points : List 
   pub within : KeepResized p modes points
   pub copies : HoldCopies p modes points
 
--- how many pages of class c can be partly full: at most its bound, and no more than the objects fill for which the budget pays
+-- at most how many pages of class c can be partly full: its bound, or, if fewer, the pages that the objects of the class fill, rounded up, for which the budget
+-- pays
 abbrev pub loose_pages : Paging → (ℕ → ℕ) → ℕ → ℕ → ℕ
 loose_pages p price budget c = min (bound_of p c) (ceil_div (budget / price c) (slots_of p c))
 
--- what these pages cost less than the level, if each has one object; nothing of class i, whose pages are full when it lacks a slot
+-- for a new object of class i, by how much `level` is above the price of class c, times the pages of class c that can be partly full (`loose_pages`): what these
+-- pages, each with one object, cost less than `level` each; 0 for class i, whose pages are all full when it lacks a slot
 abbrev pub gap_beside : Paging → (ℕ → ℕ) → (budget i level c : ℕ) → ℕ
 gap_beside p price budget i level c = if nat_eq c i then 0 else loose_pages p price budget c * (level - price c)
 

@@ -1,4 +1,5 @@
--- What the test of a certificate is given, the tables that it computes, and the conditions of a point, one list of the certificate, as it tests them.
+-- What the test of a certificate is given, the tables and the entries of needs that it computes, and the conditions of a point, one list of the certificate, as
+-- it tests them; and a heap's classes with other pages (`with_pages`).
 use Rattle.std.specs.Prelude.{◌≡◌, ℕ, ◌-◌, ◌<◌, ◌≤◌, ◌+◌, Bool, IsTrue, List, drop, length, map, min, slice_index, slice_index_or}
 use Rattle.page_model.specs.Paging.{Paging, classes}
 use Rattle.quota_model.specs.Admission.{declared, declared_in_all}
@@ -51,11 +52,11 @@ pub record IsRow (p : Paging) (modes : List ModeNeeds) (points : List PointPages
   pub resized : IsTrue resizes → (j : ℕ) → j < length modes
       → AllowsResizes p points (kept_count p (needs_of modes) x.mode j) (mode_count p (needs_of modes) x.mode) (mode_count p (needs_of modes) j) x j
 
--- entry i of the needs
+-- entry i of the needs; beyond the last, an entry with count 0
 abbrev pub need_at : List Need → ℕ → Need
 need_at needs i = slice_index_or needs i (record { bytes = 0; count = 0 })
 
--- entry i of what both needs declare
+-- entry i of the objects that two lists of needs both declare (`in_both`)
 abbrev pub common_entry : List Need → List Need → ℕ → Need
 common_entry needs others i = record {
   bytes = (need_at needs i).bytes;

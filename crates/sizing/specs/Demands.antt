@@ -1,5 +1,5 @@
--- What a program may have live: a greatest number of objects of each class, of each length, or of each length in each of several modes, or objects within a budget;
--- and how many pages are enough.
+-- What a program may have live: a greatest number of objects of each class, of each length, or of each length in each of several modes, or objects within a
+-- budget; which pages a budget affords, and how many pages are enough.
 use Rattle.std.specs.Prelude.{ℕ, zero, suc, ◌+◌, ◌*◌, ◌<◌, ◌≤◌, List, [], ◌∷◌, Contains, length, max, min, sum_by}
 use Rattle.std.specs.FinMap.{values}
 use Rattle.std.specs.List.{range_with_len}
@@ -23,7 +23,7 @@ abbrev pub KeepsToOne : List (List Need) → Objects → Type 0
 KeepsToOne modes o = (needs : List Need) × Contains modes needs × KeepsTo needs o
 
 -- The objects cost at most `budget` in all: one of n bytes costs `cost n`. That is n for a budget of bytes, 1 for one of objects, and more than the budget if the
--- program asks for no object of n bytes. If it rounds its requests up, it is the least request that is rounded up to n.
+-- program asks for no object of n bytes. If the program rounds its requests up, `cost n` is, for a budget of bytes, the least request that is rounded up to n.
 abbrev pub KeepsBudget : (ℕ → ℕ) → ℕ → Objects → Type 0
 KeepsBudget cost budget o = sum_by (λ (v : List ℕ). cost (length v)) (values o) ≤ budget
 

@@ -1,4 +1,5 @@
--- Runs of a program on a manager with pages, as the trait `Manager` shows them: its calls with their results, refused ones too.
+-- Runs of a program on a manager with pages, as the trait `Manager` shows them: its calls with their results, refused ones too; and when none of them is
+-- refused for space. `allowed` says which live objects the program may have.
 use Rattle.std.specs.Prelude.{◌≡◌, ℕ, List, [], ◌∷◌, Err, None, Result, Some, replicate}
 use Rattle.std.specs.FinMap.{empty, get, insert}
 use Rattle.cf_base.specs.declared.results.AccessFault.{AccessFault}
@@ -35,19 +36,19 @@ abbrev pub HeapRun : (Objects → Type 0) → HeapState → List AnsweredCall �
 HeapRun allowed s [] last = last ≡ s
 HeapRun allowed s (call ∷ rest) last = (next : HeapState) × Leads s call next × allowed (objects next.held) × HeapRun allowed next rest last
 
--- a manager with pages that was just opened: it has no objects
+-- a manager with pages that keeps its rules and has no objects, such as one that was just opened
 pub record IsFresh (s : HeapState) : Type 0 where
   pub pages : IsPaged s.kind
   pub rules : KeepsRules s
   pub none : s.held ≡ empty
 
--- whatever the program called before, in whatever order, no allowed malloc is refused for space
+-- whatever the program called from the state s on, in whatever order, no allowed malloc is refused for space
 abbrev pub ServesHeapMallocs : (Objects → Type 0) → HeapState → Type 0
 ServesHeapMallocs allowed s = (calls : List AnsweredCall) (last new : HeapState) (n : ℕ) → HeapRun allowed s calls last
     → ((h : ℕ) → get last.held h ≡ None → allowed (insert (objects last.held) h (replicate n 0)))
     → ¬ IsMallocStep last n (Err refusal.Space) new
 
--- whatever the program called before, in whatever order, no allowed resize is refused for space
+-- whatever the program called from the state s on, in whatever order, no allowed resize is refused for space
 abbrev pub ServesHeapResizes : (Objects → Type 0) → HeapState → Type 0
 ServesHeapResizes allowed s = (calls : List AnsweredCall) (last new : HeapState) (asked : Request) → HeapRun allowed s calls last
     → ((x : Placed) → get last.held asked.number ≡ Some x → allowed (insert (objects last.held) asked.number (resized x.bytes asked.length)))

@@ -11,7 +11,7 @@ abbrev pub AreInRange : ℕ → ℕ → List Need → Type 0
 AreInRange page_bytes k needs = (length needs ≤ 64) × (setting_fault 1 page_bytes k 65536 ≡ None)
 
 -- The cause of each fault, of which the first is returned: there are more than 64 entries; a setting is out of range, with one page and 65,536 proxies; an
--- object is larger than a page; more objects are declared than a heap may have proxies.
+-- entry, even of count 0, has a length that doesn't fit a page with a header; more objects are declared than a heap may have proxies.
 abbrev pub HasFault : ℕ → ℕ → List Need → NeedsFault → Type 0
 HasFault page_bytes k needs Entries = 64 < length needs
 HasFault page_bytes k needs (Setting e) = (length needs ≤ 64) × (setting_fault 1 page_bytes k 65536 ≡ Some e)

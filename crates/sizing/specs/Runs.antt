@@ -39,7 +39,7 @@ ResizesWithin p m (write_of h v) = ⊥
 abbrev pub DoesAcross : Paging → Held → HeapCall → Held → Type 0
 DoesAcross p old call new = Does p old call new × ¬ ResizesWithin p old call
 
--- from the objects m the calls, one after the other, each a step of the relation, may lead to `last`; after each the live objects are allowed
+-- from the objects m the calls, one after the other, each a step of the relation `step`, may lead to `last`; after each the live objects are allowed
 abbrev pub RunCallsBy : (Held → HeapCall → Held → Type 0) → (Objects → Type 0) → Held → List HeapCall → Held → Type 0
 RunCallsBy step allowed m [] last = last ≡ m
 RunCallsBy step allowed m (call ∷ rest) last = (next : Held) × step m call next × allowed (objects next) × RunCallsBy step allowed next rest last
@@ -64,19 +64,19 @@ pub record ResizeLacks (p : Paging) (allowed : Objects → Type 0) (m : Held) (h
   pub asked : allowed (insert (objects m) h (resized object.bytes n))
   pub lacking : LacksRoom p m (class_for p n)
 
--- whatever a program called before by these steps, in whatever order, no allowed malloc is refused for space
+-- whatever a program that began without objects called before, each call a step of the relation `step`, no allowed malloc is refused for space
 abbrev pub ServesMallocsBy : (Held → HeapCall → Held → Type 0) → Paging → (Objects → Type 0) → Type 0
 ServesMallocsBy step p allowed = (calls : List HeapCall) (m : Held) (h n : ℕ) → RunCallsBy step allowed empty calls m → ¬ MallocLacks p allowed m h n
 
--- whatever a program called before by these steps, in whatever order, no allowed resize is refused for space
+-- whatever a program that began without objects called before, each call a step of the relation `step`, no allowed resize is refused for space
 abbrev pub ServesResizesBy : (Held → HeapCall → Held → Type 0) → Paging → (Objects → Type 0) → Type 0
 ServesResizesBy step p allowed = (calls : List HeapCall) (m : Held) (h n : ℕ) → RunCallsBy step allowed empty calls m → ¬ ResizeLacks p allowed m h n
 
--- whatever a program called before, no allowed malloc is refused for space
+-- whatever a program that began without objects called before, no allowed malloc is refused for space
 abbrev pub ServesMallocs : Paging → (Objects → Type 0) → Type 0
 ServesMallocs p allowed = ServesMallocsBy (Does p) p allowed
 
--- whatever a program called before, no allowed resize is refused for space
+-- whatever a program that began without objects called before, no allowed resize is refused for space
 abbrev pub ServesResizes : Paging → (Objects → Type 0) → Type 0
 ServesResizes p allowed = ServesResizesBy (Does p) p allowed
 

@@ -1,5 +1,8 @@
-//! The tests whether pages are enough, and the least, for a program with a budget, by numbers of each
-//! class that an unproved planner found: levels and opened pages.
+//! The tests whether pages are enough, and the least, for a program with a budget, by numbers of each class
+//! that an unproved planner found: levels, and pages that the budget pays for (opened pages). A level is a cost
+//! that the objects of each full page reach, whatever its class; each class has one, to test whether it is
+//! served. The private functions require in each slice one number for each class; `are_least`, `affords` and
+//! `objects_to_open` also at most 4,096 pages of at most 16,384 words.
 ghost use Rattle.std.specs.Prelude.{ℕ, ◌≡◌, ◌*◌, ◌/◌, ◌<◌, ◌≤◌, ◌↔◌, IsTrue, None, length, slice_index, sum_by};
 ghost use Rattle.std.specs.List.{range_with_len};
 ghost use Rattle.std.specs.FinMap.{empty};
@@ -20,9 +23,9 @@ use quota_model::{CLASSES, fill_sizes, pages_for};
 
 /// Whether the levels show that `pages` pages of `page_bytes` bytes are enough for a budget, if an object of each
 /// class costs at least its price and these are the bounds (`exact`). The settings must be in range, and there
-/// must be a price, a level and a bound, at least 1, for each class, else the result is false. If it is true, a
-/// heap with these pages and no greater bounds refuses no malloc of a program within the budget for space
-/// (`mallocs`), with one page more no resize (`resizes`).
+/// must be a price, a level and a bound, at least 1, for each class, else the result is false, which no clause
+/// says. If it is true, a heap with at least these pages and no greater bounds refuses no malloc of a program
+/// within the budget for space (`mallocs`), with one page more no resize (`resizes`).
 pub fn are_budget_levels(
     pages: u32,
     page_bytes: u32,
@@ -67,9 +70,10 @@ pub fn are_budget_levels(
 /// Whether the levels and the pages `opened` of each class are a certificate that `pages` pages of `page_bytes`
 /// bytes are the least for a budget, if every bound is 1 and an object of each class costs at least its price
 /// (`exact`). The settings must be in range, and there must be a price, a level and a number of opened pages for
-/// each class, else the result is false. If it is true, no malloc of a program within the budget is refused for
-/// space (`mallocs`), with one page more no resize (`resizes`). With fewer pages some malloc is refused, if each
-/// class that has opened pages has an object at its price (`least`).
+/// each class, else the result is false, which no clause says. If it is true, and every bound is 1, no malloc of a
+/// program within the budget is refused for space (`mallocs`), with one page more no resize (`resizes`). With fewer
+/// pages, whatever the bounds, some malloc is refused, if each class that has opened pages has an object that costs
+/// no more than its price (`least`).
 pub fn is_budget_certificate(
     pages: u32,
     page_bytes: u32,
@@ -113,7 +117,8 @@ pub fn is_budget_certificate(
     are_least(s.pages, &heap, prices, budget, levels, opened)
 }
 
-/// Whether the levels and the opened pages are a certificate that `pages` pages are the least for the budget.
+/// Whether the levels and the opened pages are a certificate that `pages` pages are the least for the budget, if every
+/// bound is 1.
 fn are_least(
     pages: u32,
     heap: &HeapClasses,

@@ -1,4 +1,5 @@
-//! `pages_needed`: what `least_pages` computes, for a caller with plain numbers instead of `Settings`, as in C.
+//! `pages_needed`: what `least_pages` computes, for a caller with plain numbers instead of `Settings`, as in C; and
+//! why it returns no number (`NeedsFault`).
 ghost use Rattle.std.specs.Prelude.{◌≡◌, ◌/◌, ◌<◌, ◌≤◌, IfErr, IfOk, None, length};
 ghost use Rattle.std.specs.FinMap.{empty};
 ghost use Rattle.cf_base.specs.Classes.{sizes};
@@ -22,16 +23,16 @@ pub enum NeedsFault {
     Entries,
     /// The bytes of a page, or k, are out of range.
     Setting(SettingFault),
-    /// An object is larger than a page.
+    /// An entry, even of count 0, has a length that doesn't fit a page with a header of 8 bytes.
     Size,
     /// More objects are declared than a heap may have proxies.
     Proxies,
 }
 
 /// The least number of pages of `page_bytes` bytes with which no call of a program is refused for space
-/// while it keeps to its `needs`. A manager with pages and slots of this layout that was opened with so
-/// many pages, and has any bounds, serves each malloc (`mallocs`) and resize (`resizes`). With fewer
-/// pages some malloc is refused (`least`). `k` is only tested: a heap may have it as its bound. Fails for the first
+/// while it keeps to its `needs`. A manager with pages and slots of this layout that was opened with at
+/// least so many pages, and has any bounds, serves each malloc (`mallocs`) and resize (`resizes`). With fewer
+/// pages some malloc is refused (`least`). `k` is only tested, whether it is in range as a bound. Fails for the first
 /// cause of `NeedsFault` that holds (`fault`), and only then (`none`).
 pub fn pages_needed(
     page_bytes: u32,

@@ -1,4 +1,5 @@
-//! The test whether numbers of pages, which an unproved planner found, are a certificate for a heap.
+//! The test whether numbers of pages, which an unproved planner found, are a certificate for a heap; and the types in
+//! which it receives the modes of a program and the points of a certificate.
 ghost use Rattle.std.specs.Prelude.{ℕ, ◌≡◌, ◌+◌, ◌<◌, ◌≤◌, ◌↔◌, All, IsTrue, None, length, slice_index};
 ghost use Rattle.cf_base.specs.Settings.{profile_from, setting_fault};
 ghost use Rattle.page_model.specs.Paging.{IsPaging, paging_of};
@@ -14,7 +15,8 @@ use quota_model::{CLASSES, Need, count_in_all, fill_sizes};
 /// How many entries the needs of a mode have.
 pub const ENTRIES: usize = 64;
 
-/// For one mode of a program: the most live objects of each length. An entry that is not used has count 0.
+/// For one mode of a program: the most live objects of each length. Entries of the same length add up, and an entry
+/// that is not used has count 0.
 #[repr(C)]
 #[derive(Clone, Copy)]
 pub struct ModeNeeds {
@@ -31,10 +33,11 @@ pub struct PointPages {
 
 /// Whether the points are a certificate for a heap of `pages` pages of `page_bytes` bytes, slots of this layout and
 /// these bounds by class, and a program with these modes; and, if the program `resizes`, also for its resizes
-/// (`exact`). There must be settings with these numbers and 65,536 proxies, a bound, at least 1, for each class, and
-/// at most 65,536 objects in each mode, else the result is false (`bounds`). If it is true, and the program never
-/// resizes an object to another length of its class, no malloc is refused for space (`mallocs`), and with one page
-/// more no resize (`spare`). If the program `resizes`, no malloc and no resize is refused (`resizes`).
+/// (`exact`). There must be a bound, at least 1, for each class, and at most 65,536 objects in each mode, else the
+/// result is false (`bounds`); it is also false, which no clause says, if no settings have these numbers and 65,536
+/// proxies. If it is true, and the program never resizes an object to another length of its class, no malloc is
+/// refused for space (`mallocs`), and with one page more no resize (`spare`). If the program `resizes`, no malloc and
+/// no resize is refused (`resizes`).
 pub fn is_certified(
     pages: u32,
     page_bytes: u32,
@@ -93,8 +96,8 @@ fn have_few(modes: &[ModeNeeds]) -> bool
     modes.iter().all(|mode| count_in_all(&mode.needs) <= 65536)
 }
 
-/// Whether the points are a certificate for a heap of `pages` pages and the modes and, if the program `resizes`, also
-/// for its resizes.
+/// Whether the points are a certificate for a heap of `pages` pages and the modes, each of at most 65,536 objects, and,
+/// if the program `resizes`, also for its resizes.
 fn are_certificate(
     pages: u32,
     heap: &HeapClasses,

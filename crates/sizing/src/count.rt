@@ -1,4 +1,6 @@
-//! How many pages declared objects need, counted by the slot sizes of a page without a table of them.
+//! How many pages declared objects need, counted by the slot sizes of a page without a table of them. Objects that
+//! with their header are larger than a page aren't counted. The functions require `needs` of at most 64 entries and
+//! 65,536 objects in all.
 ghost use Rattle.std.specs.Prelude.{◌≡◌, ◌*◌, ◌/◌, ◌<◌, ◌≤◌, ◌^◌, IsTrue, length, map};
 ghost use Rattle.cf_base.specs.Classes.{sizes, sizes_from};
 ghost use Rattle.cf_base.specs.Limits.{is_page_size};
@@ -9,8 +11,8 @@ ghost use Rattle.sizing.specs.Layout.{declared_between, pages_by_size};
 use cf_base::{Layout, need_of};
 use quota_model::{Need, pages_for};
 
-/// How many pages all declared objects need, with slots of this layout on pages of `page_words`
-/// words.
+/// How many pages all declared objects that fit a page need, with slots of this layout on pages of
+/// `page_words` words. The number must be less than 2 ^ 32.
 pub(crate) fn pages_of_needs(page_words: u32, layout: Layout, needs: &[Need]) -> u64
     requires page { IsTrue (is_page_size page_words) }
     requires few { length needs.now ≤ 64 }
@@ -24,8 +26,9 @@ pub(crate) fn pages_of_needs(page_words: u32, layout: Layout, needs: &[Need]) ->
     }
 }
 
-/// How many pages all declared objects need, with slots of the sizes from `first` up to `page`, each 9/8 of the one
-/// before, rounded up. Sizes are counted in units of `unit` words.
+/// How many pages all declared objects that fit a page need, with slots of the sizes from `first` on, each 9/8 of the
+/// one before, rounded up, and last `page`. Sizes are counted in units of `unit` words; all three are at least 1, and a
+/// page has at most 16,384 words. The number of pages must be less than 2 ^ 32.
 fn sum_over_sizes(unit: u32, first: u32, page: u32, needs: &[Need]) -> u64
     requires some { 1 ≤ first }
     requires unit { 1 ≤ unit }
@@ -47,8 +50,8 @@ fn sum_over_sizes(unit: u32, first: u32, page: u32, needs: &[Need]) -> u64
     pages + pages_of_size(unit * page, below, unit * page, needs)
 }
 
-/// How many pages, with slots of `slot` words, hold the declared objects that need more than `below`
-/// words and at most `slot`.
+/// How many pages, with slots of `slot` words, 1 to `page_words`, hold the declared objects that need
+/// more than `below` words and at most `slot`.
 fn pages_of_size(page_words: u32, below: u32, slot: u32, needs: &[Need]) -> u64
     requires some { 1 ≤ slot }
     requires within { slot ≤ page_words }

@@ -34,8 +34,8 @@ pub fn enough_pages_serve()
 {}
 
 /// With fewer pages than the declared objects (`needs`) need, some run within the needs, begun without
-/// objects, has a malloc that is refused for space. This holds if no declared object is larger than a
-/// page, which has the words of the settings `s`.
+/// objects, has a malloc that is refused for space. This holds if the length of each entry, even of
+/// count 0, fits a page with a header; a page has the words of the settings `s`.
 pub fn fewer_pages_refuse()
     ensures { (p : Paging) (s : Profile) (needs : List Need) → IsPaging p
         → s.page_words ≡ p.page_words → first_large s needs ≡ None

@@ -26,7 +26,8 @@ use quota_model::{Need, count_in_all, first_large};
 /// this number none is refused, whatever the calls were and in whatever order. `least`: with fewer
 /// pages some run within the needs has a malloc that is refused for space. `quota`: with layout
 /// `Words` it is, for a task, the least quota for which `admit` returns `Yes`. `some`: the result is
-/// None if and only if an object is larger than a page, or the counts sum to more than the proxies.
+/// None if and only if an entry, even of count 0, has a length that doesn't fit a page with a header
+/// of 8 bytes, or the counts sum to more than the proxies.
 pub fn least_pages(s: &Settings, layout: Layout, needs: &[Need]) -> Option<u32>
     requires few { length needs.now ≤ 64 }
     ensures value { IfSome result (λ pages. (p : Paging)
@@ -49,11 +50,11 @@ pub fn least_pages(s: &Settings, layout: Layout, needs: &[Need]) -> Option<u32>
     Some(pages_of_needs(s.page_words, layout, needs) as u32)
 }
 
-/// The pages that the modes of a program need, with one mode more, in which it keeps to `needs`:
-/// `pages` are those of the modes so far, 0 before the first. If every bound is 1, no malloc is refused
-/// for space with this number, and with fewer some malloc is (`pages_for_modes_serve_at_bound_one`,
-/// `fewer_pages_for_modes_refuse`). None if an object is larger than a page, or the counts sum to more
-/// than the proxies (`some`).
+/// The pages that the modes of a program need, with one mode more, in which it keeps to `needs`, of at
+/// most 64 entries: `pages` are those of the modes so far, 0 before the first. If every bound is 1, no
+/// malloc is refused for space with this number, and with fewer some malloc is
+/// (`pages_for_modes_serve_at_bound_one`, `fewer_pages_for_modes_refuse`). None in the cases of
+/// `least_pages` (`some`).
 pub fn pages_with_mode(s: &Settings, layout: Layout, pages: u32, needs: &[Need]) -> Option<u32>
     requires few { length needs.now ≤ 64 }
     ensures modes { IfSome result (λ more. (p : Paging) (modes : List (List Need))

@@ -50,8 +50,8 @@ pub fn pages_for_modes_serve_at_bound_one()
 {}
 
 /// Whatever the bounds, with fewer pages than the mode with the greatest need needs, some run within
-/// the modes has a malloc that is refused for space. This holds if no declared object is larger than a page, which
-/// has the words of the settings `s`.
+/// the modes has a malloc that is refused for space. This holds if the length of each entry, even of count 0,
+/// fits a page with a header; a page has the words of the settings `s`.
 pub fn fewer_pages_for_modes_refuse()
     ensures { (p : Paging) (s : Profile) (modes : List (List Need)) → IsPaging p
         → s.page_words ≡ p.page_words

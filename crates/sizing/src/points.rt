@@ -1,6 +1,7 @@
 //! The test of each point of a certificate, and the classes of the heap for it (`HeapClasses`). A point is one list of
 //! the certificate: a mode of the program, and a number of pages for each class. The point x leads to the point y if y
-//! has, in each class, the pages on which the objects that stay can still be.
+//! has, in each class, the pages on which the objects that stay can still be. Each mode must have at most 65,536
+//! objects (`HasFew`).
 ghost use Rattle.std.specs.Prelude.{ℕ, ◌≡◌, ◌+◌, ◌↔◌, ◌<◌, ◌≤◌, All, IsTrue, length, slice_index, sum_by};
 ghost use Rattle.std.specs.List.{range_with_len};
 ghost use Rattle.page_model.specs.Counts.{ceil_div, most_pages};
@@ -14,7 +15,9 @@ use crate::resizes::allows_resizes;
 use crate::shared::{class_counts, two_modes};
 use quota_model::{CLASSES, pages_for};
 
-/// The words of a page, and by class the words of a slot (`sizes`) and the bound (`bounds`).
+/// The words of a page, and by class the words of a slot (`sizes`) and the bound (`bounds`). All functions that receive
+/// them require that they are those of a heap (`IsPaging`): the sizes rise and end with the page, and each class has
+/// a bound of at least 1.
 #[derive(Drop)]
 pub(crate) struct HeapClasses<'a> {
     pub(crate) page_words: u32,
@@ -72,7 +75,7 @@ fn is_point(
     true
 }
 
-/// Whether the pages of the point x are, in each class, at least those that the objects of its mode need.
+/// Whether the pages of the point x are, in each class, at least those that the objects of `mode`, its mode, need.
 fn has_tops(heap: &HeapClasses, mode: &ModeNeeds, x: &PointPages) -> bool
     requires heap { IsPaging (paging_with 0 heap.now) }
     requires few { HasFew mode.now }
@@ -89,7 +92,7 @@ fn has_tops(heap: &HeapClasses, mode: &ModeNeeds, x: &PointPages) -> bool
     true
 }
 
-/// The sum of the pages of point x over all `classes` classes.
+/// The sum of the pages of point x over the first `classes` classes, at most 67.
 fn pages_of(x: &PointPages, classes: usize) -> u64
     requires few { classes ≤ 67 }
     ensures { result ≡ sum_by (slice_index x.now.pages) (range_with_len 0 classes) }
@@ -102,7 +105,8 @@ fn pages_of(x: &PointPages, classes: usize) -> u64
     sum
 }
 
-/// Whether the point x leads to a point of mode j and, if the program `resizes`, allows for resizes into this mode.
+/// Whether the point x leads to a point of mode j and, if the program `resizes`, allows for resizes into this mode. The
+/// modes of x and j must exist.
 fn follows(
     pages: u32,
     heap: &HeapClasses,
@@ -171,6 +175,7 @@ pub(crate) fn slots_in(heap: &HeapClasses, c: usize) -> u32
 }
 
 /// For a certificate, the most pages that `n` objects can be on, `m` to a page, if at most `k` pages are partly full.
+/// `m` and `k` must be at least 1.
 pub(crate) fn pages_at_most(n: u32, m: u32, k: u32) -> u64
     requires some { 1 ≤ m }
     requires bound { 1 ≤ k }

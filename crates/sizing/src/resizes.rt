@@ -1,5 +1,6 @@
 //! Whether a point, one list of a certificate, allows for resizes: within a class an object keeps its slot, and into
-//! another class it has two slots for a moment.
+//! another class it has two slots for a moment. `counts` are the objects of the point's mode (`before`), of the next
+//! mode (`after`), and those that can stay (`kept`).
 ghost use Rattle.std.specs.Prelude.{ℕ, ◌≡◌, ◌≢◌, ◌-◌, ◌^◌, ◌↔◌, ◌<◌, ◌≤◌, IsTrue, slice_index, sum_by};
 ghost use Rattle.std.specs.List.{range_with_len};
 ghost use Rattle.page_model.specs.Paging.{IsPaging, classes};
@@ -30,7 +31,8 @@ pub(crate) fn allows_resizes(
     holds_copies(pages, heap, counts, x)
 }
 
-/// Whether the point x leads to a point of mode j also if a resize within a class begins that mode.
+/// Whether the point x leads to a point of mode j also if a resize within a class begins that mode: then one object
+/// more of the class stays, if both modes have more than `kept`.
 fn keeps_resized(
     heap: &HeapClasses,
     points: &[PointPages],
@@ -54,7 +56,8 @@ fn keeps_resized(
     true
 }
 
-/// Whether the point x leads to a point of mode j if one object more of class c stays.
+/// Whether the point x leads to a point of mode j if one object more of class c stays than `counts.kept`, which must be
+/// less than 2 ^ 32 - 1 for this class.
 fn leads_resized(
     heap: &HeapClasses,
     points: &[PointPages],

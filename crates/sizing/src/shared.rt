@@ -1,5 +1,5 @@
 //! What two modes of a program declare, counted by class: how many objects each has at most, and how many can stay
-//! when the program goes from the one to the other.
+//! when the program goes from the one to the other. Needs must have at most 64 entries and 65,536 objects in all.
 ghost use Rattle.std.specs.Prelude.{ℕ, ◌≡◌, ◌<◌, ◌≤◌, length, slice_index};
 ghost use Rattle.page_model.specs.Paging.{IsPaging, classes};
 ghost use Rattle.quota_model.specs.Admission.{declared, declared_in_all};
@@ -53,7 +53,8 @@ pub(crate) fn class_counts(heap: &HeapClasses, needs: &[Need]) -> [u32; CLASSES]
     counts
 }
 
-/// What both needs declare, of each length the smaller number.
+/// The objects that `needs` and `others` both declare, of each length the smaller of the two numbers: the entries of
+/// `needs`, with lower counts.
 fn needs_in_both(needs: &[Need; ENTRIES], others: &[Need; ENTRIES]) -> [Need; ENTRIES]
     requires { declared_in_all needs.now ≤ 65536 }
     ensures both { result ≡ in_both needs.now others.now }
@@ -66,8 +67,8 @@ fn needs_in_both(needs: &[Need; ENTRIES], others: &[Need; ENTRIES]) -> [Need; EN
     both
 }
 
-/// Entry i of `needs_in_both`: entry i of the needs, with at most the count that the others declare of this length,
-/// less what the later entries of the needs declare of it.
+/// Entry i of `needs_in_both`: entry i of `needs`, but its count is at most what `others` declare of its length, less
+/// what the later entries of `needs` declare of that length.
 fn entry_in_both(needs: &[Need; ENTRIES], others: &[Need; ENTRIES], i: usize) -> Need
     requires { i < 64 }
     ensures { result ≡ common_entry needs.now others.now i }

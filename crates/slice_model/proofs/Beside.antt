@@ -1,5 +1,5 @@
--- For `what_the_rules_say_of_pages`: while a job is pending, no object is in its slot, and each class has at most one partly full page, the class of the job's
--- slot at most two.
+-- For `what_the_rules_say_of_pages`: while a job is pending, no object is in its slot, those on the slot's page are of its class, and each class has at most
+-- one partly full page, the class of the slot at most two; if it has two, the slot is the only free one on its page.
 use Rattle.std.proofs.Common.{◌≡◌, ℕ, Some, arith, sym, ◌∙◌, subst}
 use Rattle.std.specs.FinMap.{get, insert}
 use Rattle.cf_base.proofs.Maps.{get_inserted, get_insert_other}

@@ -1,5 +1,5 @@
--- For `words_after_each_call` and `bytes_are_read_where_they_lie`: if the region's words are right for a state (`HasWords`), they are so after a malloc, a
--- slice and a write, and when a free's job begins; a read finds each byte.
+-- For the laws of `words.rt` and for `OneMap`: if the region's words are right for a state (`HasWords`), they are so after a malloc, a slice and a write, and
+-- when a free's job begins; a read finds each byte. An object in motion is of the class of the job's slot.
 use Rattle.std.proofs.Common.{◌≡◌, ◌≢◌, ℕ, zero, suc, ◌+◌, ◌-◌, ◌*◌, ◌/◌, ◌%◌, ◌<◌, ◌≤◌, List, Option, Some, None, length, get_or, replicate, take, drop, arith}
 use Rattle.std.proofs.Common.{sym, ◌∙◌, ap, refl, subst, inl, inr, length-drop}
 use Rattle.std.specs.Prelude.{◌⊎◌, min}

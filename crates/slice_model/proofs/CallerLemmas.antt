@@ -1,5 +1,5 @@
--- The lemmas that other crates' proofs may cite, passed on from other files: the arrangement with the job's placeholder, the rules of a state, refusals, words,
--- orders, and calls on one map from numbers to bytes.
+-- The lemmas that other crates' proofs may cite, passed on from other files: the arrangement with the job's placeholder, the rules of a state, refusals, jobs
+-- and their slices, words, orders, calls on one map from numbers to bytes, and quotients and sums that grow by one.
 pub use Rattle.slice_model.proofs.Occupied.{placeholder_class, no_placeholder, get_beside, some_beside, inserted_beside, job_class, beside}
 pub use Rattle.slice_model.proofs.Occupied.{on_more, free_is_place, lacking_is_no_place, no_place_is_lacking}
 pub use Rattle.slice_model.proofs.KeptSteps.{changed_places, other_than, slot_stays}

@@ -1,5 +1,5 @@
--- For the laws of `jobs.rt`: how a slice advances the pending job, which no other call changes; how many slices end it; and that after it at most one more job
--- follows.
+-- For the laws of `jobs.rt`: how a slice advances the pending job, which no other call changes; how many slices end it; that after it at most one more job
+-- follows; and that slices begin no job if none is pending.
 use Rattle.std.proofs.Common.{◌≡◌, ◌≢◌, ℕ, zero, suc, ◌+◌, ◌-◌, ◌*◌, ◌%◌, ◌<◌, ◌≤◌, List, [], ◌∷◌, Some, None, arith, sym, ◌∙◌, ap, refl, subst, inl, inr}
 use Rattle.std.specs.Prelude.{◌⊎◌, Ok, Err}
 use Rattle.std.proofs.lemmas.Nat.{div-add-mod'}

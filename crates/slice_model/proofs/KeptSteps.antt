@@ -1,5 +1,5 @@
--- For the laws of `kept.rt`: each call keeps the rules of the state (`IsKept`), since an object and the job's placeholder only exchange addresses. Also: with
--- the placeholder, which pages of the job's class are partly full.
+-- Each call keeps the rules of the state (`IsKept`), as the laws of `kept.rt` say, since an object and the job's placeholder only exchange addresses. Also:
+-- with the placeholder, which pages of the job's class are partly full, and when two are without it.
 use Rattle.std.proofs.Common.{◌≡◌, ◌≢◌, ℕ, ◌+◌, ◌-◌, ◌*◌, ◌<◌, ◌≤◌, List, Option, Some, None, length, replicate, arith, sym, ◌∙◌, ap, refl, subst, inl, inr}
 use Rattle.std.proofs.lemmas.Bool.{cases_eq, cases_lt}
 use Rattle.std.proofs.lemmas.List.{length-replicate}

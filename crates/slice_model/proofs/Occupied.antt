@@ -1,5 +1,5 @@
--- For `places_are_those_beside_the_job`: if the job's placeholder counts as one more object, a malloc may use just the addresses that are then free; each
--- malloc has such an address, or its class has none.
+-- The job's placeholder, counted as one more object: which objects and pages there are with it, and, for `places_are_those_beside_the_job`, that a malloc may
+-- use just the addresses that are then free; each malloc has such an address, or its class has none.
 use Rattle.std.proofs.Common.{◌≡◌, ◌≢◌, ℕ, false, ◌+◌, ◌-◌, ◌*◌, ◌/◌, ◌<◌, ◌≤◌, Option, Some, None, length, get_or}
 use Rattle.std.proofs.Common.{replicate, arith, sym, ◌∙◌, ap, refl, inl, inr}
 use Rattle.std.specs.Prelude.{◌⊎◌, nat_le}

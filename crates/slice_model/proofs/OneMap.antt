@@ -1,5 +1,5 @@
--- For `calls_of_all_tasks_are_those_of_one_map`: each call, and so each list of calls, does to the objects of a sliced heap what it would do to a map from
--- numbers to bytes, and leaves the heap consistent.
+-- For `calls_of_all_tasks_are_those_of_one_map`, and cited for laws of `order.rt` and `jobs.rt`: each call, and so each list of calls, does to the objects of a
+-- sliced heap what it would do to a map from numbers to bytes, and leaves the heap consistent.
 use Rattle.std.proofs.Common.{◌≡◌, ℕ, ◌+◌, ◌<◌, ◌≤◌, List, [], ◌∷◌, Option, Some, None, length, get_or, replicate, take, drop, arith, sym, ◌∙◌, ap, refl, subst}
 use Rattle.std.proofs.Common.{inl, inr, length-drop}
 use Rattle.std.specs.Prelude.{Ok, Err}

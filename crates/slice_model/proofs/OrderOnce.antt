@@ -1,5 +1,5 @@
--- For `an_order_leaves_no_choice_beside_a_job`: two equal calls on the same heap that follow the same order have the same result, and leave the same state,
--- words and order.
+-- For `an_order_leaves_no_choice_beside_a_job` and `a_call_keeps_an_order`: two equal calls on the same heap that follow the same order have the same result,
+-- and leave the same state, words and order. A call that follows an order does what a call does (`Happens`).
 use Rattle.std.proofs.Common.{◌≡◌, ℕ, ◌+◌, ◌/◌, ◌%◌, ◌≤◌, List, ◌∷◌, Option, Some, None, length, take, drop, arith, refl, sym, ◌∙◌, ap, subst, inl, inr}
 use Rattle.std.specs.Prelude.{Result, Ok, Err}
 use Rattle.std.specs.FinMap.{get, insert, remove}

@@ -1,5 +1,5 @@
 -- For `each_malloc_between_prolongs_a_job_once`: after a free, until no job is pending, each malloc of the freed object's class adds at most the slices of one
--- whole slot; no other call but a successful free adds any.
+-- whole slot; no other call but a successful free adds any. A free's job begins with no word done, while its class has no second partly full page.
 use Rattle.std.proofs.Common.{◌≡◌, ◌≢◌, ℕ, ◌+◌, ◌-◌, ◌*◌, ◌<◌, ◌≤◌, List, [], ◌∷◌, Option, Some, None, length, replicate, arith, sym, ◌∙◌, ap, refl, subst, inl, inr}
 use Rattle.std.specs.Prelude.{◌⊎◌, Ok, Err, nat_eq, if◌then◌else◌}
 use Rattle.std.proofs.lemmas.Bool.{cases_eq}

@@ -1,5 +1,5 @@
--- For `a_free_has_one_answer` and `a_slice_can_always_be_done`: each free is either done or refused, and refused for one cause; from each state a slice leads
--- to a next one.
+-- For `a_free_has_one_answer`, `a_slice_can_always_be_done` and, in `OrderOnce`, one result by an order: each free is either done or refused, and refused for
+-- one cause; from each state a slice leads to a next one.
 use Rattle.std.proofs.Common.{◌≡◌, ◌≢◌, ℕ, Option, Some, None, arith, sym, ◌∙◌, ap, refl, subst, inl, inr}
 use Rattle.std.specs.Prelude.{◌⊎◌}
 use Rattle.std.proofs.lemmas.Bool.{cases_eq, cases_lt}

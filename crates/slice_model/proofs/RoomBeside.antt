@@ -1,5 +1,5 @@
--- For the laws of `room.rt` on malloc: if a slot is left, the pages suffice for the objects and the new one, and conversely while no job is pending; each
--- malloc is done or refused, for one cause.
+-- For laws on malloc of `room.rt`, `order.rt` and `jobs.rt`: if a slot is left, the pages suffice for the objects and the new one, and conversely while no job
+-- is pending; each malloc is done or refused, for one cause.
 use Rattle.std.proofs.Common.{◌≡◌, ℕ, ◌+◌, ◌<◌, ◌≤◌, Option, Some, None, arith, refl, subst, inl, inr}
 use Rattle.std.specs.Prelude.{◌⊎◌, nat_eq}
 use Rattle.std.proofs.lemmas.Bool.{cases_lt}

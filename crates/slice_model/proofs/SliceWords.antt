@@ -1,5 +1,5 @@
--- For `words_after_each_call`: if the region's words are right for a state (`HasWords`), they are so after a job's next n words are done, when the job ends,
--- and when one to clear or to move begins.
+-- If the region's words are right for a state (`HasWords`), they are so after a job's next n words are done, when the job ends, and when one to clear or to
+-- move begins.
 use Rattle.std.proofs.Common.{◌≡◌, ℕ, ◌+◌, ◌-◌, ◌<◌, ◌≤◌, List, Some, None, length, get_or, arith, sym, ◌∙◌, ap, refl, subst, inl, inr}
 use Rattle.std.proofs.lemmas.Bool.{cases_eq, cases_lt}
 use Rattle.std.specs.FinMap.{get, insert, remove}

@@ -1,5 +1,5 @@
 -- For `no_malloc_is_busy_with_a_spare_page`: the job's placeholder, counted as one more object, raises the number of pages that the objects need by at most
--- one.
+-- one. For this and for `PendingTime`: quotients and sums that grow by one, or by at most one.
 use Rattle.std.proofs.Common.{◌≡◌, ℕ, zero, suc, ◌+◌, ◌-◌, ◌*◌, ◌/◌, ◌%◌, ◌<◌, ◌≤◌, Option, Some, None, length, arith, ◌∙◌, ap, subst, inl, inr}
 use Rattle.std.specs.Prelude.{nat_eq, sum_by}
 use Rattle.std.specs.List.{range_with_len}

@@ -1,5 +1,6 @@
--- For the laws of `words.rt`: a word of an object is at its address or, if the job has yet to move it, in the job's slot. No two words have one address, and
--- all are in the region.
+-- Where the words of objects are, also while a job is pending: the slots of the objects and the job's lie in the region and don't overlap (`AreApart`). A word
+-- of an object is at its address or, if the job has yet to move it, in the job's slot; so no two words have one address, and ranges of one slot have no word of
+-- another.
 use Rattle.std.proofs.Common.{◌≡◌, ◌≢◌, ℕ, ◌+◌, ◌*◌, ◌<◌, ◌≤◌, Option, Some, length, arith, sym, ◌∙◌, ap, refl, subst, inl, inr}
 use Rattle.std.specs.Prelude.{◌⊎◌, nat_eq}
 use Rattle.std.proofs.lemmas.Bool.{cases_eq, cases_lt}

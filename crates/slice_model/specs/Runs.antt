@@ -23,8 +23,8 @@ pub record Position : Type 0 where
   pub number : ℕ
   pub from : ℕ
 
--- A call with its result: a malloc with its number of bytes, a free with its number, a slice, a write with its bytes, and a read with its number of bytes.
--- For a free and a write None means success.
+-- A call with its result: a malloc with its number of bytes, a free with its number, a slice, a write with its position and bytes, and a read with its
+-- position and number of bytes. For a free and a write None means success.
 pub data Event : Type 0 where
   Malloc : ℕ → Result Handle SliceRefusal → Event
   Free : ℕ → Option SliceFault → Event

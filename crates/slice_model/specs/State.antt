@@ -1,5 +1,5 @@
--- The settings and state of a sliced heap, sizes in words: its objects and at most one pending job, their rules, the slots a malloc may use. p has pages and
--- classes, m are objects, k is a job's slot.
+-- The settings and state of a sliced heap, sizes in words: its objects, at most one pending job and the placeholder in its slot, their rules, the slots a
+-- malloc may use. p has pages and classes, m are objects, k is a job's slot.
 use Rattle.std.specs.Prelude.{◌≡◌, ◌≢◌, ℕ, ◌+◌, ◌-◌, ◌*◌, ◌<◌, ◌≤◌, ◌⊎◌, ⊤, Option, Some, None, replicate}
 use Rattle.std.specs.FinMap.{get, insert}
 pub use Rattle.slice_model.specs.declared.job_slot.JobSlot.{JobSlot}
@@ -91,7 +91,8 @@ IsUnheld s a = (k : JobSlot) → job_slot s.job ≡ Some k → k.address ≢ a
 abbrev pub IsJobPage : Paging → Sliced → ℕ → ℕ → Type 0
 IsJobPage p s c page = (k : JobSlot) × (job_slot s.job ≡ Some k) × (page_of p k.address ≡ page) × (k.class ≡ c)
 
--- The slot of class c at address a is usable: no object is in it, the job doesn't hold it, and its page holds an object of the class or is the job's.
+-- The slot of class c at address a is usable: no object is in it, the job doesn't hold it, and its page holds an object of the class, or the job's slot if
+-- this is of the class.
 pub record IsUsable (p : Paging) (s : Sliced) (c a : ℕ) : Type 0 where
   pub slot : IsSlotAt p c a
   pub empty : (q : ℕ) (y : Placed) → get s.held q ≡ Some y → y.place ≢ a

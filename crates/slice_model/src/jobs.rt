@@ -1,5 +1,6 @@
 //! Laws on how long a job of a sliced heap stays pending: how many slices end it and the next one, and when a
-//! malloc refused as `Busy` succeeds. `plan` has the heap's settings, k is the job's slot.
+//! malloc refused as `Busy` succeeds. The laws hold in states that satisfy the rules (`IsKept`), under valid
+//! settings `plan` (`IsPlan`); k is the job's slot.
 ghost use Rattle.std.specs.Prelude.{ℕ, ◌≡◌, ◌+◌, ◌-◌, ◌*◌, ◌<◌, ◌≤◌, List, None, Some};
 ghost use Rattle.std.specs.FinMap.{get};
 ghost use Rattle.page_model.specs.Arrangement.{class_at};
@@ -10,7 +11,7 @@ ghost use Rattle.slice_model.specs.Runs.{Free, Happens, IsConsistent, Runs, Step
 ghost use Rattle.slice_model.specs.State.{Idle, IsKept, IsPlan, JobSlot, Plan, Sliced, advanced, job_slot};
 ghost use Rattle.slice_model.specs.Steps.{AreSlices, AddsSlicedObject, IsOver, LacksUsableSlot};
 
-/// Each slice of a job but the last does a quantum of its words, and no other call changes the job.
+/// Each slice of a job but the last does a quantum of the job's words, and no other call changes the job.
 /// Suppose the calls `turns` contain n slices, and the job has more than n quanta of words left. Then
 /// the job is still pending after these calls, and n quanta more of its words are done.
 pub fn a_job_advances_by_its_slices()
@@ -38,10 +39,10 @@ pub fn slices_alone_end_every_job()
         → new.job ≡ Idle }
 {}
 
-/// After a successful free of object h, if no other free succeeds, no job is pending after s slices,
-/// and s more for each successful malloc of h's class since the free. Here s is the words of a slot of
-/// this class divided by the quantum, rounded up. The free itself does the first slice. `turns` are the
-/// calls after it.
+/// After a successful free of object h on a consistent heap (`IsConsistent`), if no other free
+/// succeeds, no job is pending after s slices, and s more for each successful malloc of h's class since
+/// the free. Here s is the words of a slot of this class divided by the quantum, rounded up. The free
+/// itself does the first slice. `turns` are the calls after it.
 pub fn each_malloc_between_prolongs_a_job_once()
     ensures { (plan : Plan) (old freed new : HeapWithWords) (h : ℕ) (x : Placed) (turns : List TaskCall) → IsPlan plan → IsConsistent plan old
         → get old.state.held h ≡ Some x → Happens plan old (Free h None) freed → Runs plan freed turns new → frees_in turns ≡ 0

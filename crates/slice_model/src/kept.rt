@@ -1,6 +1,6 @@
-//! Laws on the rules of a sliced heap's state (`IsKept`): each call keeps the rules, and what they mean
-//! for pages. By the rules, the objects with a placeholder in the job's slot are a sound arrangement.
-//! `plan` has the heap's settings.
+//! Laws on the rules of a sliced heap's state (`IsKept`): a heap without objects and each call keep the rules,
+//! and what the rules mean for pages. By the rules, the objects with a placeholder in the job's slot are a
+//! sound arrangement. `plan` has the heap's settings, which are valid (`IsPlan`).
 ghost use Rattle.std.specs.Prelude.{ℕ, ◌≡◌, ◌≢◌, List, Some, length};
 ghost use Rattle.std.specs.FinMap.{empty, get, insert};
 ghost use Rattle.page_model.specs.Arrangement.{IsSlotAt, IsSound, class_at};

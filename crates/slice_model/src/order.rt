@@ -1,5 +1,7 @@
 //! Laws on the order in which a sliced heap uses free pages, partly full pages and spare numbers, also during a
-//! job: it determines what each call does, and each call can follow it. `plan` has the heap's settings.
+//! job: it determines what each call does, each call can follow it, and then leaves an order; and an order of a
+//! heap without objects. The laws hold in states that satisfy the rules (`IsKept`), under valid settings `plan`
+//! (`IsPlan`).
 ghost use Rattle.std.specs.Prelude.{ℕ, ◌≡◌, ◌∷◌, List, Option, Some, Result, length};
 ghost use Rattle.std.specs.FinMap.{empty, get};
 ghost use Rattle.cf_base.specs.declared.results.AccessFault.{AccessFault};

@@ -1,5 +1,6 @@
 //! A law on the addresses that a malloc of the sliced heap may use: those that are free if the job's slot
-//! counts as one more object. `plan` has the heap's settings, s is its state.
+//! counts as one more object. The law holds in a state s that satisfies the rules (`IsKept`), under valid
+//! settings `plan` (`IsPlan`).
 ghost use Rattle.std.specs.Prelude.{ℕ, ◌≡◌, ◌<◌, ◌↔◌};
 ghost use Rattle.page_model.specs.Arrangement.{LacksRoom};
 ghost use Rattle.page_model.specs.Paging.{class_for, classes};

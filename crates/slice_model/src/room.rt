@@ -1,6 +1,6 @@
 //! Laws on refusals by the sliced heap: when a malloc is refused as `Space` or `Busy`; a malloc or
-//! free succeeds or has one cause of refusal; a slice always succeeds. `plan` has the settings, s
-//! is the state.
+//! free succeeds or has one cause of refusal; a slice always succeeds. The laws hold in a state s
+//! that satisfies the rules (`IsKept`), under valid settings `plan` (`IsPlan`).
 ghost use Rattle.std.specs.Prelude.{ℕ, ◌≡◌, ◌≢◌, ◌<◌, ◌≤◌, ◌⊎◌, ◌↔◌};
 ghost use Rattle.cf_base.specs.Classes.{need};
 ghost use Rattle.page_model.specs.Arrangement.{pages_needed_with};
@@ -17,11 +17,11 @@ pub fn a_malloc_is_busy_only_with_a_job()
     ensures { (plan : Plan) (s : Sliced) (bytes : ℕ) → IsPlan plan → IsKept plan s → LacksUsableSlot plan s bytes → s.job ≢ Idle }
 {}
 
-/// If the class of a malloc has a usable slot, or a page is free, the malloc is not refused as
-/// `Space`: the objects and the new one need at most the pages that the heap has. The pages needed
-/// are, summed over the classes, the objects divided by the slots of a page, rounded up. A slot is
-/// usable (`IsUsable`) if it is free, the job doesn't hold it, and its page is one of the class
-/// already.
+/// If an object fits a page, and its class has a usable slot or a page is free, its malloc is not
+/// refused as `Space`: the objects and the new one need at most the pages that the heap has. The
+/// pages needed are, summed over the classes, the objects divided by the slots of a page, rounded
+/// up. A slot is usable (`IsUsable`) if it is free, the job doesn't hold it, and its page is one of
+/// the class already.
 pub fn a_malloc_with_a_slot_left_is_not_refused_space()
     ensures slot { (plan : Plan) (s : Sliced) (bytes a : ℕ) → IsPlan plan → IsKept plan s → need bytes ≤ plan.paging.page_words
         → IsUsable plan.paging s (class_for plan.paging bytes) a

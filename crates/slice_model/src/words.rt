@@ -1,5 +1,6 @@
 //! Laws on the words of a sliced heap's region, also while a job is pending: how they differ from the image of
-//! the objects, what each call changes, how a byte is read. `plan` has the heap's settings.
+//! the objects, what each call changes, how a byte is read. The laws hold in states that satisfy the rules
+//! (`IsKept`), under valid settings `plan` (`IsPlan`).
 ghost use Rattle.std.specs.Prelude.{ℕ, ◌≡◌, ◌+◌, ◌/◌, ◌%◌, ◌<◌, ◌≤◌, ◌↔◌, List, Some, length, slice_index};
 ghost use Rattle.std.specs.FinMap.{get, insert};
 ghost use Rattle.page_model.specs.Bytes.{AreBytes, written};
@@ -30,8 +31,9 @@ pub fn words_are_the_image_but_for_the_job()
 {}
 
 /// If the words of the region are right for the state (`HasWords`), they are right for the new state
-/// after each call. A malloc writes the header of its object and no other word. A free and a slice
-/// clear or move just the next words of the job. A write changes just the words that hold its bytes.
+/// after each call that changes them as follows. A malloc writes the header of its object and no other
+/// word. A free and a slice clear or move only the next words of the job. A write changes only the words
+/// that hold bytes written.
 pub fn words_after_each_call()
     ensures malloc { (plan : Plan) (old : Sliced) (words after : List ℕ) (asked : Request) (new : Sliced) → IsPlan plan → IsKept plan old
         → HasWords plan.paging old words → (g : AddsSlicedObject plan old asked new)

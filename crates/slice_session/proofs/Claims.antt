@@ -1,4 +1,5 @@
--- For `the_sliced_headline`: the replies of a run meet the claim.
+-- For `the_sliced_headline`: the heap that a run shows, and that its replies meet the claim. For `Ending` too: the cause of a refusal, by four tests
+-- (`refusal_by`).
 use Rattle.std.proofs.Common.{◌≡◌, ◌≢◌, ℕ, false, cond, ◌+◌, ◌*◌, ◌<◌, ◌≤◌, Bool, List, Option, Some, None, length, replicate, arith, sym, ◌∙◌, ap, refl, subst, inl, inr, [], ◌∷◌}
 use Rattle.std.specs.Prelude.{Result, Ok, Err, codes, nat_eq, nat_le, nat_lt, option_map, slice_get, slice_index, ⊤}
 use Rattle.std.specs.Option.{MatchOption}

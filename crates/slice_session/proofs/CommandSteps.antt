@@ -1,4 +1,4 @@
--- Each call of a sliced heap has a result, and so each command a step.
+-- Each call of a sliced heap has a result, and so each command a step. A run can begin with any settings in their ranges, and go on after each command.
 use Rattle.std.proofs.Common.{◌≡◌, ◌≢◌, ℕ, zero, suc, ◌+◌, ◌-◌, ◌*◌, ◌/◌, ◌%◌, ◌<◌, ◌≤◌, List, length, get_or, set, Some, arith, sym, ◌∙◌, ap, refl, subst, inl, inr, None, min, Option, Result, Ok, Err, option_map, codes, slice_get, get_or-set_same, get_or-set_other, length-set}
 use Rattle.std.proofs.lemmas.Bool.{cases_eq, cases_lt}
 use Rattle.run_model.specs.Terms.{AccessFault, AreBytes, AreInRange, class_at, Command, empty, get, Handle, Held, insert, Placed, Profile, Reply, said, slot_words, with_number, written}
@@ -25,7 +25,7 @@ use Rattle.slice_session.proofs.RunInvariant.{sliced_keeps, EmptyLaw, begins_goi
 use Rattle.cf_base.specs.declared.results.AccessFault.TheVariants as access
 use Rattle.script_reader.specs.declared.command.Command.TheVariants as command
 
--- For `CallResults`: there are words of the region as a malloc, a slice and a write must leave them, since words of a range can be replaced, or moved to
+-- There are words of the region as a malloc, a slice and a write must leave them, since words of a range can be replaced, or moved to
 -- another range that doesn't overlap it.
 
 -- the words with f i at the address a i, for each i below n
@@ -180,7 +180,7 @@ module _ (plan : Plan) (ok : IsPlan plan) (m : Held) (j : Job) (kept : IsKept pl
     put_long place_of (λ i. object_word h v (1 + from / 8 + i)) words count,
   )
 
--- For `CommandSteps`: for each call of an open sliced heap that keeps its rules, the model allows some result with a heap after it: its objects, job, words and
+-- For `sliced_there`: for each call of an open sliced heap that keeps its rules, the model allows some result with a heap after it: its objects, job, words and
 -- order.
 
 -- the heap with other objects, another job, other words and another order
@@ -294,8 +294,8 @@ module _ (s : SlicedState) (rules : KeepsSlicedRules s) where
     ]
   ]
 
--- For `each_command_has_its_turn` and `a_sliced_run_can_always_go_on`: a run over a sliced heap can begin with any settings in their ranges, and each command
--- then has a reply and a state after it.
+-- For `each_command_has_its_turn`, `a_sliced_run_can_always_go_on` and `what_was_cut_is_a_prefix`: a run over a sliced heap can begin with any settings in
+-- their ranges, and each command then has a reply and a state after it.
 
 other_there : (old : SliceRun) (c : Command) → IsReadySliced old.heap → (reply : Reply) × (new : SliceRun) × OthersSliced old c reply new
 other_there old command.Slice ready =

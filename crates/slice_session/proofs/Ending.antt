@@ -1,4 +1,4 @@
--- For `who_is_busy_and_how_long`: which calls wait for a job, and that it ends.
+-- For `who_is_busy_and_how_long`: which calls wait for a job, how many words the job has left after each slice, and that it ends.
 use Rattle.std.proofs.Common.{◌≡◌, ◌≢◌, ℕ, zero, suc, true, false, cond, ◌+◌, ◌-◌, ◌*◌, ◌<◌, ◌≤◌, Bool, List, Option, Some, None, length, get_or, arith, sym, ◌∙◌, ap, refl, subst, inl, inr, ◌&&◌, ◌||◌, ◌↔◌, codes, if◌then◌else◌, nat_eq, nat_lt, not}
 use Rattle.std.proofs.lemmas.Bool.{cases_lt}
 use Rattle.run_model.specs.Terms.{classes, Free, get, IsPaging, len, need, Paging, remove, Slice, slot_words, slots_of}

@@ -1,4 +1,4 @@
--- For `one_sliced_transcript`: to a script without `p` exactly one list of replies meets the claim.
+-- For `one_sliced_transcript`, and `Worked`: to a script without `p` exactly one list of replies meets the claim.
 use Rattle.std.proofs.Common.{◌≡◌, ℕ, List, [], ◌∷◌, Option, Some, None, ◌∙◌, ap, refl, codes}
 use Rattle.run_model.specs.Plays.{PlayRun, PlayStep}
 use Rattle.run_model.specs.Terms.{asks, bad, bad_line, Command, Item, Peek, Reply, said, starts}

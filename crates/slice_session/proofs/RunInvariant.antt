@@ -1,4 +1,4 @@
--- A run over a sliced heap: its invariant, its `heap` line and its commands.
+-- A run over a sliced heap: its invariant, its `heap` line and its commands. A run of the mode handler is one of its session.
 use Rattle.std.proofs.Common.{List, None, ◌≡◌, ◌∙◌, ◌*◌, ℕ, Some, false, length, sym, ap, refl, subst, replicate, arith, ◌<◌, Option, option_map, IsTrue, Bool, Result, Ok, Err, codes, is_some}
 use Rattle.run_model.specs.Terms.{AccessFault, AreInRange, Command, empty, Failed, get, Handle, Ids, Item, Objects, objects, Placed, Position, Profile, profile_of, Reply, said, with_number}
 use Rattle.run_model.proofs.CallerLemmas.{run_seen}
@@ -34,7 +34,7 @@ use Rattle.script_reader.specs.declared.command.Command.TheVariants as command
 use Rattle.slice_model.specs.declared.refusals.SliceFault.TheVariants as fault
 use Rattle.slice_model.specs.declared.refusals.SliceRefusal.TheVariants as refusal
 
--- For the law `plays_are_runs`: a run of the mode handler of mode `slice` is, with the same replies, a run of its session with the handler's quantum.
+-- For `plays_are_runs` and other laws: a run of the mode handler of mode `slice` is, with the same replies, a run of its session with the handler's quantum.
 
 pub play_seen : (from : SlicePlay) (items : List Item) (replies : List Reply) (new : Option SlicePlay) → RunBy slices from None items replies new
     → RunsSliced from.quantum None items replies (option_map run_of_play new)
@@ -124,7 +124,7 @@ sliced_keeps = record {
   kept = kept_text;
 }
 
--- For `open` and the law `each_command_has_its_turn`: a run over a sliced heap begins without objects, and is then in progress (`IsGoingSliced`): the heap is
+-- For `open` and the laws on runs: a run over a sliced heap begins without objects, and is then in progress (`IsGoingSliced`): the heap is
 -- open and keeps its rules, and the ids name its objects.
 
 no_objects : objects empty ≡ empty

@@ -1,4 +1,4 @@
--- For `Steps`: what slices do to the pages, and to what lines and replies show.
+-- For `the_sliced_headline`: when the page of a job's slot is full, and how a malloc, a free and a slice change what lines and replies show.
 use Rattle.std.proofs.Common.{◌≡◌, ◌≢◌, ℕ, true, false, cond, ◌+◌, ◌%◌, ◌<◌, ◌≤◌, Bool, Some, None, arith, sym, ◌∙◌, ap, refl, subst, inl, inr, ◌||◌, nat_eq, nat_le, Option, ◌&&◌, not}
 use Rattle.std.proofs.lemmas.Bool.{cases_eq, cases_lt, leb-true, leb-false, eqb-false}
 use Rattle.run_model.specs.Terms.{class_at, classes, get, Held, insert, IsSound, Moving, Objects, objects, page_of, Paging, Placed, Profile, remove, Request, slot_words, slots_of}
@@ -21,7 +21,7 @@ use Rattle.slice_model.specs.Steps.{AddsSlicedObject, GoesOn, IsDone, IsSlice, S
 use Rattle.script_laws.specs.ById.{ById, begun}
 use Rattle.slice_session.specs.ShownSlices.{ShownJob, ShownSlices, after_slice, are_full, job_noted, job_sliced, noted, words_of_job}
 
--- For `Slicing`: unless its class has two partly full pages, the page of a job's slot is full if and only if the slots of the class's objects and the job's
+-- Unless its class has two partly full pages, the page of a job's slot is full if and only if the slots of the class's objects and the job's
 -- fill whole pages. So the replies determine `filled`.
 
 -- true if the page of the job's slot is full, with the slot counted as taken
@@ -226,7 +226,7 @@ module _ (plan : Plan) (ok : IsPlan plan) (old new : Sliced) (kept : IsKept plan
       go false false false e f g = refl
       go false false true e f g = absurd (filled_now e g f)
 
--- For `Steps`: what lines and replies in mode `slice` show of a state of the sliced heap's model (`ShownSlices`); a slice, a malloc and a free change it as the
+-- What lines and replies in mode `slice` show of a state of the sliced heap's model (`ShownSlices`); a slice, a malloc and a free change it as the
 -- claim computes.
 
 abbrev pub job_of : Paging → Held → JobSlot → ShownJob

@@ -1,5 +1,5 @@
--- Mode `slice` for the script loop: how a run over a sliced heap begins, its runs over a script, and the state after a failed allocation. `sliced` is the
--- semantics of a session, `slices` that of the mode handler.
+-- Mode `slice` for the script loop: how a run over a sliced heap begins, the runs over a script, the state after a failed allocation, the state of a mode
+-- handler, and which quanta it may have. `sliced` is the semantics of a session, `slices` that of the mode handler.
 use Rattle.std.specs.Prelude.{◌≡◌, ◌≤◌, ◌*◌, ℕ, true, List, Option, codes, replicate}
 use Rattle.run_model.specs.Terms.{empty, Ids, Item, Profile, Reply, said}
 use Rattle.cf_base.specs.declared.kind.Layout.TheVariants.{Words}

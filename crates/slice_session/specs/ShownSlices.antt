@@ -1,4 +1,5 @@
--- The heap as the claim of mode `slice` sees it: what the lines of a script and their replies show, which is its objects by id and the pending job.
+-- The heap as the claim of mode `slice` sees it: what the lines of a script and their replies show, which is its objects by id and the pending job. Also the
+-- slots and pages that these take, the words that the job has left, and the job after a call.
 use Rattle.std.specs.Prelude.{ℕ, Bool, false, ◌+◌, ◌-◌, ◌%◌, ◌&&◌, ◌||◌, Option, Some, None, if◌then◌else◌, nat_eq, nat_lt, not}
 use Rattle.run_model.specs.Terms.{at_bound_one, Moving, Paging, Profile, slot_words, slots_of}
 use Rattle.page_model.specs.Arrangement.{live, pages_for}

@@ -1,5 +1,5 @@
 -- The claim of every script in mode `slice` (`MeetsSliced`): each reply, but for the word that `p` prints, is a function of its line and the lines before it.
--- `t` is the heap that these show before a command.
+-- `t` is the heap that these show before a command. Also that heap after several slices, and which items aren't `p`.
 use Rattle.std.specs.Prelude.{◌≡◌, ⊤, ℕ, zero, suc, false, List, [], ◌∷◌, Option, Some, None, Err, codes, if◌then◌else◌, length, nat_eq, nat_lt, replicate}
 use Rattle.run_model.specs.Terms.{asks, Command, Free, get, insert, Item, len, Malloc, need, Objects, Peek, Profile, Read, region_words, remove, Reply, said, Slice, with_number, Write}
 use Rattle.page_model.specs.Arrangement.{pages_needed_with}

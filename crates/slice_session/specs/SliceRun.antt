@@ -57,7 +57,7 @@ pub record StepsSliced (old : SliceRun) (reply : Reply) (new : SliceRun) : Type 
   pub ids : new.ids ≡ old.ids
   pub reply_is : reply ≡ said (with_number (codes "left ") (left_of (plan_in new.heap) (working_in new.heap).state))
 
--- the commands that name no object: `s`; `p`, whose reply is a word of the region; and those of other modes, with the reply `none`
+-- each command but `m`, `f`, `w`, `r` and `z`: `s`; `p`, whose reply is a word of the region, or `range`; and those of other modes, with the reply `none`
 abbrev pub OthersSliced : SliceRun → Command → Reply → SliceRun → Type 0
 OthersSliced old command.Slice reply new = StepsSliced old reply new
 OthersSliced old (command.Peek word) reply new = Stays old (peek_text (slice_get old.heap.words word)) reply new

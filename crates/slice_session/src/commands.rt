@@ -1,6 +1,7 @@
-//! The commands of a session over a sliced heap, in which a script names objects by ids. The
+//! The commands of a session over an open sliced heap, in which a script names objects by ids. The
 //! functions of `m`, `f` and `w` return their reply; those of `r`, `s` and `p` build it in `line`,
-//! and return its outcome.
+//! which must be empty, and return its outcome. Each adds at most `most_steps` of its command to
+//! the ledger `steps`.
 ghost use Rattle.std.specs.Prelude.{◌≡◌, ◌+◌, ◌<◌, ◌≤◌, [], IsTrue, Err, Some, length, slice_get};
 ghost use Rattle.cf_io.specs.Lines.{line_capacity};
 ghost use Rattle.run_model.specs.Terms.{Free, Malloc, said, Slice, Write};
@@ -90,9 +91,8 @@ fn free_reply(fault: SliceFault) -> Short
     }
 }
 
-/// `w`: writes `bytes` into the sliced heap's object of a live id, from byte `at` on. The reply is
-/// `ok`; or `unknown` if the id isn't live, or `range` if the bytes pass the object's end, and then
-/// nothing changes.
+/// `w`: writes `bytes` into the sliced heap's object of a live id, from byte `at` on. The reply is `ok`; or `unknown`
+/// if the id isn't live, or `range` if `at` plus their number exceeds the object's length, and then nothing changes.
 pub(crate) fn write(
     ids: &IdTable,
     heap: &mut SlicedHeap,
@@ -114,9 +114,9 @@ pub(crate) fn write(
     }
 }
 
-/// `r`: reads as many bytes as `buffer` holds from the sliced heap's object of a live id, from byte `at` on. The reply
-/// in `line` is `=` and the bytes in hexadecimal; or `unknown` if the id isn't live, or `range` if the bytes pass the
-/// object's end.
+/// `r`: reads as many bytes as `buffer` holds, at most 4,096, from the sliced heap's object of a live id, from byte
+/// `at` on. The reply in `line` is `=` and the bytes in hexadecimal; or `unknown` if the id isn't live, or `range` if
+/// `at` plus their number exceeds the object's length.
 pub(crate) fn read(
     ids: &IdTable,
     heap: &SlicedHeap,

@@ -1,7 +1,9 @@
 //! Laws of runs over a sliced heap: what reads print, which causes replies show, that each run can
-//! be continued, and that output cut by a failed sink is a prefix. And what is claimed of every
-//! script in mode `slice`, by its lines and their replies alone (`MeetsSliced`). The functions do
-//! nothing: their clauses are the laws.
+//! be continued, that a run of the mode handler is one of a session, that a script has one output,
+//! and that output cut by a failed sink is a prefix of it. Laws of the claim of mode `slice`, which
+//! is about the lines of a script and their replies alone (`MeetsSliced`): that each run meets it,
+//! that it determines the replies to a script without `p`, who is refused as busy and for how long,
+//! and which wrong replies it excludes. The functions do nothing: their clauses are the laws.
 ghost use Rattle.std.specs.Prelude.{◌≡◌, ◌≢◌, ℕ, ◌++◌, Bool, List, [], Option, Err, None, Some, codes, ◌+◌, ◌-◌, ◌*◌, ◌<◌, ◌≤◌, ◌↔◌, length, take, ◌∷◌};
 ghost use Rattle.std.specs.Option.{option_map};
 ghost use Rattle.run_model.specs.Terms.{AreInRange, Command, Free, get, IsPaging, Item, items, Malloc, Profile, Reply, said, Slice, slot_words, text_of};
@@ -27,9 +29,9 @@ ghost use Rattle.slice_session.specs.Small.{MeetsSmallSliced, small_sliced_repli
 use slice_model::{a_malloc_is_busy_only_with_a_job, an_empty_heap_is_consistent};
 
 /// In every run in mode `slice`, each read prints the bytes last written through its id, also while
-/// a job moves the object. These bytes follow from the lines and their replies alone: no address,
-/// handle or job changes them. Clause `run` is about runs of a session, `play` about runs of the
-/// script loop (`RunBy`).
+/// a job moves the object, or `range` if it passes the object's end, `unknown` if the id isn't live.
+/// These bytes follow from the lines and their replies alone: no address, handle or job changes
+/// them. Clause `run` is about runs of a session, `play` about runs of the script loop (`RunBy`).
 pub fn reads_give_what_was_written()
     ensures run { (quantum : ℕ) (items : List Item) (replies : List Reply) (new : Option SliceRun)
         → RunsSliced quantum None items replies new → AreReadsOf None items replies }
@@ -146,8 +148,8 @@ pub fn one_sliced_output()
 /// before the call, as the lines and replies show it, with sound settings; a pending job has words
 /// left. `free`: a free of a live id prints `busy` if and only if a job is pending. `malloc`: a
 /// malloc doesn't print `busy` if the objects with the new one need fewer pages than there are.
-/// `none_left`: `s` prints `left 0` if and only if no job is pending after it. `left`: after a
-/// free, if only slices follow, each `s` lowers the words that are left by the quantum, down to 0.
+/// `none_left`: `s` prints `left 0` if and only if no job is pending after it. `left`: after a free
+/// that is done, if only slices follow, each `s` lowers the words left by the quantum, down to 0.
 /// `ended`: suppose a malloc prints `busy`, `a` slices are enough for the words left of the job,
 /// and `b` slices for a whole slot. Then the malloc isn't refused after `a + b` slices without
 /// another command: at most one more job follows.

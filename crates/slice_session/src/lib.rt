@@ -1,5 +1,6 @@
 //! Mode `slice`: a session does a script's commands on a sliced heap, and maps the script's ids to
 //! handles. The command `f` begins a job and does its first slice; each `s` does one more slice.
+//! Also the mode's handler (`SliceHandler`), and laws of the replies.
 #![tactic(auto)]
 
 mod commands;

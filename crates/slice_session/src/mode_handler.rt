@@ -26,8 +26,8 @@ pub struct SliceHandler {
 
 impl SliceHandler {
     /// A handler with a new session, in which no id is live, for a heap with slices of at most `quantum`
-    /// words. Allocates the table of all 65,536 ids, and fails with `OutOfMemory` if there is no memory for
-    /// it.
+    /// words (1 to 16,384). Allocates the table of all 65,536 ids, and fails with `OutOfMemory` if there is
+    /// no memory for it.
     pub fn start(memory: Memory, alloc: Global, quantum: u32) -> Result<SliceHandler, OutOfMemory>
         requires { IsQuantum quantum }
         ensures session { IfOk result (λ p. p.session ≡ map.empty) }

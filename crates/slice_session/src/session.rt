@@ -57,8 +57,10 @@ impl SliceSession {
         })
     }
 
-    /// Resets the ledger of `meter` to 0, does the command c on the open sliced heap, and writes
-    /// its reply to the sink `out`. Returns the reply's outcome. If the sink fails, the result is
+    /// Resets the ledger of `meter` to 0, does the command c on the open sliced heap, with at most
+    /// `most_steps` steps, and writes its reply to the sink `out`. The live ids must name the
+    /// heap's live objects, each once (`AreTiedTo`), and the fields of c must be in the ranges of
+    /// the grammar (`IsWellFormed`). Returns the reply's outcome. If the sink fails, the result is
     /// `Failed`: the command has taken effect, and a prefix of its reply was written.
     pub fn apply<K: Sink>(
         &mut self,
@@ -108,8 +110,9 @@ impl SliceSession {
 }
 
 /// Does the command c on the sliced heap and builds the text of its reply in `line`, but writes it
-/// to no sink. `buffer` gets the bytes of a read. Returns the reply's outcome. The reply to a
-/// command that mode `slice` doesn't have is `none`.
+/// to no sink. The heap, the ids and c must be as `SliceSession::apply` requires. `buffer`, of 4,096
+/// bytes, gets the bytes of a read. Returns the reply's outcome. The reply to a command that mode
+/// `slice` doesn't have is `none`. Adds at most `most_steps` of c to the ledger `steps`.
 fn build_reply(
     ids: &mut IdTable,
     heap: &mut SlicedHeap,

@@ -1,5 +1,6 @@
--- For `find`, `read` and `write`: an object's words, also in motion, are in two halves in the region that don't overlap. A write in them leaves a valid heap;
--- bytes past the object's end are a fault.
+-- For `find`, `read`, `write`, `length` and, of writes, `LentWrite`: a number without an address has no object. An object's words, also while the object is in
+-- motion, are in two halves in the region that don't overlap, and its header holds its length. A read returns the object's bytes, a write leaves a valid heap
+-- in which it has the new ones; bytes past its end are a fault.
 use Rattle.std.proofs.Common.{◌≡◌, ℕ, ◌+◌, ◌/◌, ◌%◌, ◌^◌, ◌<◌, ◌≤◌, List, length, get_or, Some, None, arith, refl, sym, ◌∙◌, ap, subst, inl, inr}
 use Rattle.std.specs.Prelude.{option_map}
 use Rattle.std.proofs.lemmas.Bool.{cases_eq}

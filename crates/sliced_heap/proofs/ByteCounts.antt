@@ -1,5 +1,5 @@
--- For `malloc`, `start_clearing`, `write` and `totals`: how they change the bytes asked for and those of the slots, and that these counts don't overflow, with
--- 65,536 objects of at most 131,072 bytes.
+-- The bytes asked for and those of the slots: a write changes neither count, the removal of an object takes its bytes away; and with at most 65,536 objects of
+-- at most 131,072 bytes the counts don't overflow.
 use Rattle.std.proofs.Common.{◌≡◌, ℕ, ◌+◌, ◌*◌, ◌≤◌, List, length, Option, Some, None, arith, refl, sym, ◌∙◌, ap, subst}
 use Rattle.std.specs.Prelude.{option_map}
 use Rattle.std.specs.FinMap.{get, insert, len, remove}

@@ -1,5 +1,5 @@
--- For `count_in` and `count_out`: one object more adds one page, or none, to the pages that the objects need, counted by class and rounded up; one less takes
--- it away.
+-- For `count_in`, `count_out` and `write`: one object more adds one page, or none, to the pages that the objects need, counted by class and rounded up; one
+-- less takes it away; with as many objects in each class they are the same.
 use Rattle.std.proofs.Common.{◌≡◌, ℕ, ◌+◌, ◌-◌, ◌*◌, ◌/◌, ◌%◌, ◌<◌, List, Some, None, length}
 use Rattle.std.proofs.Common.{arith, refl, sym, ◌∙◌, ap, inl, inr}
 use Rattle.std.specs.Prelude.{nat_eq}

@@ -1,4 +1,5 @@
--- For `end`: after a job's last word its slot becomes free or the next job moves an object into it, as the model and the order have it; and the heap is valid.
+-- For `end`: after a job's last word its slot becomes free or the next job moves an object into it, as the model and the order have it; the heap is valid, and
+-- the steps are those of the model.
 use Rattle.std.proofs.Common.{◌≡◌, ◌≢◌, ℕ, ◌+◌, ◌-◌, ◌<◌, length, get_or, Some, None, arith, refl, sym, ◌∙◌, ap, subst, inl, inr}
 use Rattle.std.specs.FinMap.{insert}
 use Rattle.page_model.specs.Arrangement.{not_full_pages}

@@ -1,5 +1,5 @@
--- For all other files here: what follows from the invariant of an open sliced heap (`IsValid`) for its pages and classes, its tables, and the addresses and
--- bytes of its objects.
+-- What follows from the invariant of an open sliced heap (`IsValid`) for its settings, its pages and classes, its tables, and the numbers, addresses and bytes
+-- of its objects; and the heap with other tables (`seen_with`).
 use Rattle.std.proofs.Common.{◌≡◌, ℕ, ◌≤◌, Some, None, arith, refl, sym, ◌∙◌, ap, subst}
 use Rattle.std.specs.Prelude.{option_map}
 use Rattle.std.specs.FinMap.{get, len}

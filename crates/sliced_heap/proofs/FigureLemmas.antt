@@ -1,5 +1,6 @@
--- For `figures`, `totals`, `slot_words` and `class_of`: the counts, and the lengths of the page lists, of the pool and of the proxies, are the model's numbers
--- for the objects, with the job's placeholder or without.
+-- For `figures`, `totals` and `slot_words`: the counts, and the lengths of the page lists, of the pool and of the proxies, are the model's numbers for the
+-- objects, with the job's placeholder or without; the counts don't overflow; the job's slot has one of the heap's classes; and each object's length has a
+-- class, whose slot size is the object's.
 use Rattle.std.proofs.Common.{◌≡◌, ℕ, ◌+◌, ◌*◌, ◌^◌, ◌<◌, ◌≤◌, length, get_or, Option, Some, None, arith, refl, sym, ◌∙◌, ap, subst}
 use Rattle.std.specs.Prelude.{if◌then◌else◌, nat_eq, option_map}
 use Rattle.std.specs.FinMap.{get, len}

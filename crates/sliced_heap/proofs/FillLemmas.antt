@@ -1,5 +1,6 @@
--- For `fill` and `start_move`: if the class has two partly full pages, the object that the order lists next gets the address of the slot to be cleared, and moving
--- it there is the job; the heap stays valid.
+-- For `fill` and `end`, while the job is to clear a slot: the facts of the slot and its placeholder, and when `must_move` is true. Then the class has two
+-- partly full pages, and the object that the order lists next is live, on another page than the slot, with its number in its header. It gets the slot's
+-- address, moving it there is the job, and the heap stays valid; to the model this is a slice that does the last word of the job before.
 use Rattle.std.proofs.Common.{◌≡◌, ◌≢◌, ℕ, ◌+◌, ◌-◌, ◌*◌, ◌/◌, ◌%◌, ◌^◌, ◌<◌, [], length, get_or, replicate, Option, Some, None, arith, refl, sym, ◌∙◌, ap}
 use Rattle.std.proofs.Common.{subst, inl, inr}
 use Rattle.std.specs.Prelude.{◌↔◌, IsSome, slice_index_or}

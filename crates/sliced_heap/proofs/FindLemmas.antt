@@ -1,4 +1,5 @@
--- For `start_clearing`: while no job is pending, the object with a given number and address, the length that its header holds, and its class.
+-- For `start_clearing`, while no job is pending: an address that a number has is that of an object, and lies in the region; the header there holds the object's
+-- length, and the class of this length is the object's.
 use Rattle.std.proofs.Common.{◌≡◌, ℕ, ◌+◌, ◌/◌, ◌^◌, ◌<◌, length, get_or, Some, None, arith, sym, ◌∙◌, ap, subst}
 use Rattle.std.specs.FinMap.{get}
 use Rattle.cf_base.specs.Classes.{class_of}

@@ -1,4 +1,5 @@
--- For `start_clearing`: when the object's proxy is released, it is counted out, and clearing its slot is the job, the heap is valid and has one object less.
+-- For `start_clearing`: when an object's proxy is released, the object is counted out, and the job is to clear its slot, the heap is valid and has one object
+-- less; no count falls below 0.
 use Rattle.std.proofs.Common.{◌≡◌, ℕ, ◌+◌, ◌-◌, ◌*◌, ◌<◌, ◌≤◌, length, get_or, set, replicate, Some, arith, refl, sym, ◌∙◌, ap, subst}
 use Rattle.std.specs.Prelude.{nat_eq}
 use Rattle.std.proofs.lemmas.List.{length-set}

@@ -1,4 +1,5 @@
--- For `find`, `start_clearing` and `malloc`: an object's slot is in the region, and its header holds its number and its length.
+-- What holds of a live object: its number has 32 bits, its bytes are at most 131,072, its class is one of the heap's, its slot is long enough and in the
+-- region, and its header holds its number and its length.
 use Rattle.std.proofs.Common.{◌≡◌, ℕ, ◌+◌, ◌*◌, ◌/◌, ◌%◌, ◌^◌, ◌<◌, ◌≤◌, length, get_or, Some, arith, ◌∙◌, ap}
 use Rattle.std.specs.FinMap.{get}
 use Rattle.cf_base.specs.Classes.{need}

@@ -1,5 +1,6 @@
--- For the objects that contracts show of an open heap (`sliced_state_of`): the region's words, as they are when the pending job is done, and the addresses by number
--- determine all objects.
+-- The region's words, as they are when the pending job is done, and the addresses by number determine all objects that contracts show (`sliced_state_of`). Also
+-- the words after a job's last slice (`AreEnded`), that the words that are yet to move don't overlap their new places, and that an object in motion is of the
+-- class of the job's slot.
 use Rattle.std.proofs.Common.{◌≡◌, ℕ, ◌+◌, ◌-◌, ◌*◌, ◌<◌, ◌≤◌, List, Option, Some, None, length, get_or, arith, refl, sym, ◌∙◌, ap, subst}
 use Rattle.std.specs.Prelude.{option_map}
 use Rattle.std.specs.Ordering.{nat_cmp}

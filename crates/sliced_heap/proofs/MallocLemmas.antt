@@ -1,5 +1,5 @@
--- For `malloc`: after a slot is taken and an object is bound to it and counted, the heap is valid and has the new object, as its order determines; each test
--- for a refusal means its cause in the model.
+-- For `malloc` and `has_room`: after a slot is taken and an object is bound to it and counted, the heap is valid and has the new object, as its order
+-- determines; each test for a refusal means its cause in the model; the steps are those of the model; and the slot's address and the counts are in range.
 use Rattle.std.proofs.Common.{◌≡◌, ◌≢◌, ℕ, ◌+◌, ◌*◌, ◌<◌, ◌≤◌, List, length, get_or, set, replicate, ◌∷◌, Some, None, Ok, arith, refl, sym, ◌∙◌, ap}
 use Rattle.std.proofs.Common.{subst, inl, inr}
 use Rattle.std.specs.Prelude.{◌↔◌, Bool, IsTrue, false, nat_eq, option_map}

@@ -1,4 +1,4 @@
--- For `move_next`: if two slots don't overlap, the words that a job moves out of one slot don't overlap the words of the other to which it moves them.
+-- If two slots don't overlap, the words that a job moves out of one slot don't overlap the words of the other to which it moves them.
 use Rattle.std.proofs.Common.{ℕ, ◌+◌, ◌≤◌, arith, inl, inr}
 use Rattle.page_model.specs.Image.{IsDisjoint}
 

@@ -1,5 +1,5 @@
--- For the laws of `laws.rt`: the halves of an object have each word and byte where the model has it; after a write in them the words are those of the object
--- with its new bytes.
+-- For `find`, `read` and `write`: the halves of an object have each word and byte where the model has it; after a write in them the words are those of the
+-- object with its new bytes.
 use Rattle.std.proofs.Common.{◌≡◌, ℕ, suc, ◌+◌, ◌-◌, ◌*◌, ◌/◌, ◌%◌, ◌^◌, ◌<◌, ◌≤◌, List, [], ◌∷◌, length, get_or, arith, sym, ◌∙◌, ap, subst, inl, inr}
 use Rattle.std.specs.Prelude.{if◌then◌else◌}
 use Rattle.std.proofs.lemmas.Bool.{cases_eq, cases_lt}

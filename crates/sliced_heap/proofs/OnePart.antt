@@ -1,5 +1,5 @@
--- For `read_half` and `write_half`: bytes counted from the first word that a read or write touches are the object's, if its words lie side by side; a write of
--- no bytes changes nothing.
+-- For `write_half`, and for callers that write into lent words: bytes counted from the first word that a write touches are the object's, if its words lie side
+-- by side.
 use Rattle.std.proofs.Common.{◌≡◌, ◌≢◌, ℕ, ◌+◌, ◌-◌, ◌*◌, ◌/◌, ◌%◌, ◌^◌, ◌<◌, ◌≤◌, List, length, get_or, arith, sym, ◌∙◌, ap, subst, inl, inr}
 use Rattle.std.proofs.lemmas.Bool.{cases_lt}
 use Rattle.page_model.specs.Bytes.{byte_of}

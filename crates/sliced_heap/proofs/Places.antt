@@ -1,5 +1,5 @@
--- For `fill`, `start_clearing` and `end`: the tables of used slots stay right when the placeholder in the job's slot replaces an object of its class, or
--- exchanges addresses with one.
+-- For `start_clearing` and `fill`: the tables of used slots stay right when the placeholder in the job's slot replaces an object of its class, or exchanges
+-- addresses with one.
 use Rattle.std.proofs.Common.{◌≡◌, ◌≢◌, ℕ, List, Some, None, sym, ◌∙◌, ap, subst, inl, inr}
 use Rattle.std.specs.Prelude.{◌⊎◌}
 use Rattle.std.proofs.lemmas.Bool.{cases_eq}

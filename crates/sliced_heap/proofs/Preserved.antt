@@ -1,4 +1,5 @@
--- For each call that changes a heap: if the objects, words, tables and counts that it leaves fit each other (`Becomes`), the heap is valid (`IsValid`).
+-- For each call that changes a heap: if the objects, words, tables and counts that it leaves fit each other (`Becomes`), the heap is valid (`IsValid`), has
+-- these objects and this job, and has the settings and the quantum of before.
 use Rattle.std.proofs.Common.{◌≡◌, ℕ, ◌<◌, ◌≤◌, length, get_or, Some, arith, sym, ◌∙◌, ap, subst}
 use Rattle.std.specs.FinMap.{get}
 use Rattle.page_model.specs.Arrangement.{live, pages_needed}

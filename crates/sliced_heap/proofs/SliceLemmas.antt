@@ -1,5 +1,5 @@
 -- For `clear_slice` and `move_slice`: a slice that leaves some words of the job, and one that does its last words, keep the heap valid, and are slices of the
--- model that follow the order.
+-- model that follow the order and take its steps.
 use Rattle.std.proofs.Common.{◌≡◌, ℕ, ◌+◌, ◌-◌, ◌<◌, ◌≤◌, List, length, get_or, Some, None, arith, refl, sym, ◌∙◌, ap, subst, inl, inr}
 use Rattle.std.specs.Prelude.{min}
 use Rattle.page_model.specs.Arrangement.{IsSound}

@@ -1,5 +1,5 @@
--- For `clear_slice` and `move_slice`: the words that a slice clears or moves lie in the region and don't overlap their new places, and after the job's last
--- slice its slot is all zeros.
+-- For `clear_slice` and `move_slice`: the object that moves has an address; the words that a slice clears or moves lie in the region, don't overlap their new
+-- places, and are those of the model. After the job's last slice the words are right without the job, and its slot is all zeros.
 use Rattle.std.proofs.Common.{◌≡◌, ℕ, ◌+◌, ◌-◌, ◌≤◌, List, length, get_or, Some, None, arith, refl, sym, ◌∙◌, ap, subst}
 use Rattle.std.specs.Prelude.{min}
 use Rattle.std.specs.FinMap.{get}

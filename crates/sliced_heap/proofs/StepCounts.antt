@@ -1,4 +1,5 @@
--- For the clauses on steps: the test of `MustMove`, the steps of a slice that leaves words of the job and of one that does the last, and the bounds of each cost.
+-- For the clauses on steps: the test of `MustMove`, the steps of a slice that leaves words of the job and of one that does the last, those of finding and
+-- freeing the slot of the next object to move, and the bounds of a malloc, a free and a slice.
 use Rattle.std.proofs.Common.{◌≡◌, ℕ, ◌+◌, ◌-◌, ◌<◌, ◌≤◌, List, [], ◌∷◌, Option, None, Some, Result, Ok, Err, Bool, true, false, arith, refl, subst, inl, inr}
 use Rattle.std.specs.Prelude.{if◌then◌else◌, nat_eq, slice_get}
 use Rattle.std.proofs.lemmas.Bool.{cases_eq, cases_lt}

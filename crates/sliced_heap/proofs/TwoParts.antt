@@ -1,4 +1,5 @@
--- For `read_halves` and `write_halves`: two reads or writes, one in each half of an object in motion, are one of all the bytes, and no word is counted in both.
+-- The two halves of an object in motion: the address of a word in each half. Two reads or writes, one in each half, are one of all the bytes, and no word is
+-- counted in both.
 use Rattle.std.proofs.Common.{◌≡◌, ℕ, ◌+◌, ◌-◌, ◌/◌, ◌%◌, ◌<◌, ◌≤◌, List, length, get_or, ◌++◌, take, drop}
 use Rattle.std.proofs.Common.{arith, sym, ◌∙◌, ap, inl, inr, length-append, length-drop}
 use Rattle.std.specs.Prelude.{◌⊎◌}

@@ -1,5 +1,5 @@
--- For `read`, `write`, `place` and `length` of a sliced heap: their results as the model has them, and what `find` returns: the two halves in which the words
--- of an object in motion are, or a fault.
+-- For `read`, `write`, `place` and `length` of an open sliced heap: a result of a read or a write in the form that the model's calls have (`Event`); an
+-- object's address and its length; and what `find` returns, the halves in which the words of an object lie or a fault, with the steps of `find`.
 use Rattle.std.specs.Prelude.{◌≡◌, ℕ, ◌+◌, ◌≤◌, List, length, Option, Some, None, Result, Ok, Err, option_map}
 use Rattle.std.specs.FinMap.{get}
 use Rattle.cf_base.specs.declared.results.AccessFault.{AccessFault}
@@ -21,7 +21,7 @@ abbrev pub access_fault : {T : Type 0} → Result T AccessFault → Option Acces
 access_fault (Ok u) = None
 access_fault (Err e) = Some e
 
--- in heap h object `position.number` is live and has `count` bytes from byte `position.from` on, and its words lie in the halves s
+-- in heap h object `position.number` is live, its length is at least `position.from + count` bytes, and its words lie in the halves s
 pub record HoldsSlicedBytes (h : Heap) (position : Position) (count : ℕ) (s : Halves) : Type 0 where
   pub object : Placed
   pub found : get (sliced_state_of h).held position.number ≡ Some object

@@ -1,5 +1,5 @@
--- The exact steps of malloc, free, `step`, read, write and `length` of a sliced heap, computed from its settings (`plan`), the state s before the call, the
--- order o of that state, and the result. Each comment lists what the steps pay for.
+-- The exact steps of malloc, free, `step`, read, write and `length` of a sliced heap and of their parts, computed from its settings (`plan`), the state s
+-- before the call, the order o of that state, and the result; and the test whether a free must move an object. Each comment on steps lists what they pay for.
 use Rattle.std.specs.Prelude.{ℕ, ◌+◌, ◌-◌, Bool, ◌&&◌, Option, Some, None, Result, Ok, Err, nat_eq, nat_le, nat_lt, if◌then◌else◌}
 use Rattle.std.specs.FinMap.{get}
 use Rattle.cf_base.specs.declared.results.AccessFault.{AccessFault}
@@ -77,7 +77,8 @@ abbrev pub sliced_free_cost : Plan → Sliced → Order → ℕ → Option Slice
 sliced_free_cost plan s o h None = 1 + freed_cost plan s o h
 sliced_free_cost plan s o h (Some e) = 1
 
--- a read or a write of `count` bytes from byte `from` on: the proxy, the header, and the words that hold one of the bytes
+-- a read or a write of `count` bytes from byte `from` on: the proxy, the header, and the words that hold one of the bytes; if refused, only the proxy
+-- (`Unknown`), or the proxy and the header (`Range`)
 abbrev pub sliced_access_steps : {T : Type 0} → Result T AccessFault → ℕ → ℕ → ℕ
 sliced_access_steps (Ok u) from count = 2 + words_touched from count
 sliced_access_steps (Err access.Unknown) from count = 1

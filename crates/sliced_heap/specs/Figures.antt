@@ -1,5 +1,6 @@
--- The figures that a sliced heap shows of a class and of the whole heap, and for a caller that plans a call the words of an object's slot. A pending job's slot
--- counts as used and its words as taken, so that its page is one of its class; but the slot is no live object, and no bytes are asked for it.
+-- The figures that a sliced heap shows of a class and of the whole heap, and for a caller that plans a call the words of an object's slot, with the steps of
+-- the call that returns them. A pending job's slot counts as used and its words as taken, as if an object (the job's placeholder) were in it, so that its page
+-- is one of its class; but the slot is no live object, and no bytes are asked for it.
 use Rattle.std.specs.Prelude.{ℕ, Option, Some, None, if◌then◌else◌, nat_lt, option_map}
 use Rattle.std.specs.FinMap.{get, len}
 use Rattle.cf_base.specs.declared.results.Figures.{Figures}

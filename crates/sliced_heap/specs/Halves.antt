@@ -1,5 +1,5 @@
--- Where the words and the bytes of an object are while a job moves it: the words that were moved, its first half, at its new address, the others in its
--- old slot.
+-- Where the words and the bytes of an object are, also while a job moves it: the words that were moved, its first half, at its new address, the others in its
+-- old slot. Also how many of some bytes are in the first half, and when the halves don't overlap.
 use Rattle.std.specs.Prelude.{◌≢◌, ℕ, ◌+◌, ◌-◌, ◌*◌, ◌/◌, ◌%◌, ◌<◌, ◌≤◌, List, slice_index, if◌then◌else◌, nat_eq, nat_le, min}
 use Rattle.page_model.specs.Bytes.{byte_of}
 use Rattle.slice_model.specs.State.{Job, Idle, Clear, Move}

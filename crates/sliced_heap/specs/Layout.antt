@@ -1,5 +1,6 @@
--- From the fields of an open sliced heap: the objects, the job, the words and the order that contracts show, and the heap's invariant (`IsValid`). An object's
--- bytes are those that the words have when the job is done.
+-- From the fields of an open sliced heap: the settings, the objects, the job, the words, the tables and the order; whether one more object needs one more page
+-- (`opens`); the heap's invariant (`IsValid`); and what a heap is that was just opened (`IsNew`). An object's bytes are those that the words have when the job
+-- is done.
 use Rattle.std.specs.Prelude.{◌≡◌, ℕ, ◌+◌, ◌-◌, ◌*◌, ◌%◌, ◌≤◌, ◌<◌, List, Option, Some, None, length, replicate, slice_index, nat_eq, if◌then◌else◌}
 use Rattle.std.specs.Ordering.{nat_cmp}
 use Rattle.std.specs.FinMap.{FinMap, get, empty}

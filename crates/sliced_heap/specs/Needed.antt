@@ -10,7 +10,8 @@ use Rattle.page_slots.specs.Needed.{table_bytes}
 use Rattle.class_lists.specs.Needed.{list_bytes}
 use Rattle.proxy_table.specs.Needed.{proxy_bytes}
 
--- the tables of the pages, the region, the lists of the pages of each class, and the proxies
+-- the memory that opening a heap with the settings p asks for: the tables of the pages, the region, the lists of the
+-- pages of each class, and the proxies
 abbrev pub sliced_bytes : Profile → BytesNeeded
 sliced_bytes p =
     both (both (table_bytes p Words) (region_bytes (p.pages * p.page_words)))

@@ -1,5 +1,5 @@
 -- The state that public contracts show of a sliced heap, closed or open: settings, quantum, objects, job, words and order. Also the rules that an open heap
--- keeps, and the state as nested pairs.
+-- keeps, what its calls leave unchanged (`StaysSlicedOpen`), the invariant of a heap closed or open, and the state as nested pairs.
 use Rattle.std.specs.Prelude.{◌≡◌, ℕ, ◌*◌, Bool, true, false, List, [], Option, Some, None, length, refl, replicate}
 use Rattle.std.specs.FinMap as map
 use Rattle.std.specs.Coded.{Coded, code_by, coded×, coded_ℕ, coded_list, coded_bool, coded_option}
@@ -92,7 +92,8 @@ abbrev pub IsValidSlicedIn : Option OpenHeap → Type 0
 IsValidSlicedIn None = Unit {0}
 IsValidSlicedIn (Some h) = IsValid (sliced_seen h)
 
--- From here on: the state as nested pairs, which the trait `Model` needs. A job is a pair of the moving object's number, if there is one, and the slot.
+-- The type of a job as nested pairs: None without a job, else the moving object's number, if there is one, and the slot. The trait `Model` needs the pairs
+-- that are defined from here on.
 abbrev pub JobParts : Type 0
 JobParts = Option (Option ℕ × (ℕ × (ℕ × ℕ)))
 

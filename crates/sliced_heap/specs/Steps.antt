@@ -1,4 +1,4 @@
--- What the parts of a free and of a slice do: `start_clearing`, `fill` and `start_move`. Of this module, public clauses cite `fault_in` alone.
+-- What the parts of a free and of a slice do: `start_clearing`, `fill` and `start_move`; and the fault of a free (`fault_in`), which alone public clauses cite.
 use Rattle.std.specs.Prelude.{◌≡◌, ℕ, ◌∷◌, ◌+◌, ◌%◌, ◌^◌, Bool, true, false, Option, Some, None, Result, Ok, Err, slice_index}
 use Rattle.std.specs.FinMap.{get, remove}
 use Rattle.page_model.specs.Arrangement.{class_at, objects_on}
@@ -20,7 +20,7 @@ abbrev pub fault_in : {T : Type 0} → Result T SliceFault → Option SliceFault
 fault_in (Ok u) = None
 fault_in (Err e) = Some e
 
--- what `start_clearing` does: object q is removed, and its slot k is what the new job clears; no word of the region changes
+-- what `start_clearing` does: object q is removed, its number is the next spare one, and its slot k is what the new job clears; no word of the region changes
 pub record StartsClearing (old : Heap) (q : ℕ) (k : JobSlot) (new : Heap) : Type 0 where
   pub object : Placed
   pub found : get (sliced_state_of old).held q ≡ Some object
@@ -33,8 +33,8 @@ pub record StartsClearing (old : Heap) (q : ℕ) (k : JobSlot) (new : Heap) : Ty
   pub order : sliced_order_in new ≡ record (sliced_order_in old) { spare = q ∷ (sliced_order_in old).spare }
 
 -- What `fill` does with slot k if it must be filled. The object that the order lists next to move is on another page of the class, a partly full one. It
--- gets the slot's address, and the new job moves it there. No word of the region changes. Each page holds as many objects as before, the placeholder among
--- them (`counts`), and freeing the slot that the object leaves takes 2 steps less than finding and freeing it (`leaves`).
+-- gets the slot's address, and the new job moves it there. No word of the region changes. Each page holds as many objects of each class as before, if the
+-- pending job's slot counts as one (`counts`), and freeing the slot that the object leaves takes 2 steps less than finding and freeing it (`leaves`).
 pub record IsFilled (old : Heap) (k : JobSlot) (new : Heap) : Type 0 where
   pub must : MustMove (sliced_paging old) (occupied (plan_of old) (sliced_state_of old)) (placeholder (sliced_paging old) k)
   pub object : ℕ

@@ -53,10 +53,10 @@ impl OpenHeap {
         Some(Header::unpack(header).length)
     }
 
-    /// In a sliced heap, fills `out` with the bytes of object `h` from byte `at` on. Fails, with
-    /// `out` unchanged, with `Unknown` if the handle is not live, else with `Range` if the bytes
-    /// pass the object's end. Costs two steps, and one for each word that holds one of the bytes;
-    /// if it fails, one (`Unknown`) or two.
+    /// In a sliced heap, fills `out` with the bytes of object `h` from byte `at` on. Fails, with `out` unchanged,
+    /// with `Unknown` if the handle is not live, else with `Range` if `at` plus their number exceeds the object's
+    /// length. Costs two steps, and one for each word that holds one of the bytes; if it fails, one (`Unknown`) or
+    /// two.
     pub fn read(
         &self,
         h: Handle,
@@ -76,9 +76,9 @@ impl OpenHeap {
         Ok(())
     }
 
-    /// In a sliced heap, writes `bytes` into object `h` from byte `at` on. Fails, with nothing
-    /// changed, with `Unknown` if the handle is not live, else with `Range` if the bytes pass the
-    /// object's end. Costs as many steps as a read of as many bytes from there.
+    /// In a sliced heap, writes `bytes` into object `h` from byte `at` on. Fails, with nothing changed, with
+    /// `Unknown` if the handle is not live, else with `Range` if `at` plus their number exceeds the object's length.
+    /// Costs as many steps as a read of as many bytes from there.
     pub fn write(
         &mut self,
         h: Handle,
@@ -102,8 +102,8 @@ impl OpenHeap {
 
     /// In a sliced heap, returns the two halves in which the words of object `h` lie: those that
     /// the job has already moved to the object's address, and the others. Fails with `Unknown` if
-    /// the handle is not live, else with `Range` if the object has fewer than `count` bytes from
-    /// byte `at` on. Costs two steps; one at `Unknown`.
+    /// the handle is not live, else with `Range` if `at` and `count` sum to more than the object's
+    /// length in bytes. Costs two steps; one at `Unknown`.
     fn find(
         &self,
         h: Handle,

@@ -18,7 +18,7 @@ impl OpenHeap {
     /// In a sliced heap, ends the job of slot `k`, whose words are all zero. The caller has already
     /// set the job to `Clear(k)` with `done` 0, even if it moved an object. If `fill` must fill the
     /// slot, the next job moves an object into it; else the slot becomes free, and no job is
-    /// pending.
+    /// pending. Costs `end_cost` steps.
     pub(crate) fn end(&mut self, k: JobSlot, steps: &mut Steps)
         requires kept { IsValid (sliced_seen self.old) }
         requires job { job_of self.old.job ≡ Clear k }

@@ -17,9 +17,9 @@ use class_lists::Which;
 use step_ledger::Steps;
 
 impl OpenHeap {
-    /// In a sliced heap, the figures of class c: its slot size, slots of a page, live objects,
-    /// pages and partly full pages. None if there is no such class. A pending job's slot counts as
-    /// used, but not as live.
+    /// In a sliced heap, the figures of class c: its slot size in words, slots of a page, live
+    /// objects, pages and partly full pages. None if there is no such class. A pending job's slot
+    /// counts as used, but not as live.
     pub fn figures(&self, c: u32) -> Option<Figures>
         requires { IsValid (sliced_seen self.now) }
         ensures { result ≡ sliced_figures_in (plan_of (sliced_seen self.now)) (sliced_state_of (sliced_seen self.now)) c }

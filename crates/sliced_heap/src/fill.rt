@@ -19,10 +19,10 @@ use slice_model::JobSlot;
 use step_ledger::Steps;
 
 impl OpenHeap {
-    /// In a sliced heap, starts to fill slot `k`, the slot of the pending job, if freeing it would
-    /// give its class two partly full pages. An object of the class's partly full page then gets
-    /// the slot's address, and the new job moves the object there. Returns true if so, after six
-    /// steps; else false after one, and nothing changes.
+    /// In a sliced heap whose pending job clears slot `k`, with no word of it done yet, starts to
+    /// fill the slot if freeing it would give its class two partly full pages. An object of the
+    /// class's partly full page then gets the slot's address, and the new job moves the object
+    /// there. Returns true if so, after six steps; else false after one, and nothing changes.
     pub(crate) fn fill(&mut self, k: JobSlot, steps: &mut Steps) -> bool
         requires kept { IsValid (sliced_seen self.old) }
         requires job { job_of self.old.job ≡ Clear k }
@@ -42,8 +42,8 @@ impl OpenHeap {
     }
 
     /// For `fill`, chooses the object at the lowest used slot of the first partly full page of the
-    /// class of slot `k`, and sets its proxy to the address of slot `k`. Moving the object's words
-    /// there is then the pending job. Costs five steps.
+    /// class of slot `k`, which must have such a page, and sets its proxy to the address of slot
+    /// `k`. Moving the object's words there is then the pending job. Costs five steps.
     fn start_move(&mut self, k: JobSlot, steps: &mut Steps)
         requires tables { AreTables self.old.tables.classes (tables_with self.old.tables self.old.lists) }
         requires class { k.class < length self.old.tables.classes.sizes }

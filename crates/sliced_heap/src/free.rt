@@ -21,6 +21,7 @@ use step_ledger::Steps;
 impl OpenHeap {
     /// In a sliced heap, frees the object of handle `h`, and does the first slice of the job that this leaves.
     /// Fails, with nothing changed, with `Unknown` if the handle is not live, else with `Busy` if a job is pending.
+    /// Costs `sliced_free_cost` steps.
     pub fn free(&mut self, h: Handle, steps: &mut Steps) -> Result<(), SliceFault>
         requires { IsValid (sliced_seen self.old) }
         ensures step { Happens (plan_of (sliced_seen self.old)) (working_of (sliced_seen self.old)) (Free h.0 (fault_in result)) (working_of (sliced_seen self.new)) }
@@ -44,7 +45,7 @@ impl OpenHeap {
 
     /// In a sliced heap, frees the live object `h`, whose address is `place`, while no job is
     /// pending. Starts the job that clears its slot, or one that moves another object into it, and
-    /// does the job's first slice.
+    /// does the job's first slice. Costs `freed_cost` steps.
     fn free_live(&mut self, h: Handle, place: u32, steps: &mut Steps)
         requires kept { IsValid (sliced_seen self.old) }
         requires idle { job_of self.old.job ≡ Idle }
@@ -62,9 +63,10 @@ impl OpenHeap {
         self.slice(steps);
     }
 
-    /// In a sliced heap, removes the live object `h`, whose address is `place`: releases its proxy,
-    /// takes it out of the counts of objects, pages and bytes, and makes clearing its slot the
-    /// pending job. Returns that slot. No word of the region changes yet. Costs four steps.
+    /// In a sliced heap without a pending job, removes the live object `h`, whose address is
+    /// `place`: releases its proxy, takes it out of the counts of objects, pages and bytes, and
+    /// makes clearing its slot the pending job. Returns that slot. No word of the region changes
+    /// yet. Costs four steps.
     fn start_clearing(&mut self, h: Handle, place: u32, steps: &mut Steps) -> JobSlot
         requires kept { IsValid (sliced_seen self.old) }
         requires idle { job_of self.old.job ≡ Idle }
@@ -89,7 +91,8 @@ impl OpenHeap {
     }
 
     /// In a sliced heap, counts one object less, of class c and of `bytes` bytes: in `live`, in `needed` if the other
-    /// objects of the class need one page less, and in the bytes asked and taken.
+    /// objects of the class need one page less, and in the bytes asked and taken. These counts must include such an
+    /// object.
     fn count_out(&mut self, c: u32, bytes: u32)
         requires class { c < length self.old.tables.classes.sizes }
         requires listed { c < length self.old.live }

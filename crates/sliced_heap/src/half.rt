@@ -1,6 +1,8 @@
 //! Reads and writes bytes of one half of an object in motion; the words of a half are consecutive.
 //! `place` is the address of the slot that has this half; `at` counts from the object's first byte
-//! for both halves.
+//! for both halves. The region must have less than 2^32 words, among them those of the slot up to
+//! the last one that is read or written; if none is, up to the one with the byte before `at`, or the
+//! header if `at` is 0.
 ghost use Rattle.std.specs.Prelude.{◌≡◌, ℕ, ◌+◌, ◌/◌, ◌^◌, ◌<◌, ◌≤◌, length, slice_index};
 ghost use Rattle.cf_model.specs.Costs.{words_touched};
 ghost use Rattle.step_ledger.specs.Counting.{RoseBy};

@@ -1,5 +1,9 @@
-//! Reads and writes words and bytes of an object in motion: the words that were moved, its first half, are at
-//! its new address, the others, its second half, in its old slot.
+//! `Halves`: where the words of an object are, also while a job moves the object; and functions that read a
+//! word of it, or read or write its bytes. The words that were moved, the first half, are at the object's new
+//! address; the others, the second half, are in its old slot. For each word that a function uses, the region
+//! must have all words of the object up to this one, both from `to` and from `from` on. For a read or write of
+//! no bytes these are the words up to the one with the byte before `at`, or the header if `at` is 0. The region
+//! must have less than 2^32 words; `at` and the number of bytes must sum to less than 2^32.
 ghost use Rattle.std.specs.Prelude.{◌≡◌, ℕ, ◌+◌, ◌-◌, ◌*◌, ◌/◌, ◌^◌, ◌<◌, ◌≤◌, length, min, slice_index};
 ghost use Rattle.cf_model.specs.Costs.{words_touched};
 ghost use Rattle.step_ledger.specs.Counting.{RoseBy};
@@ -64,7 +68,7 @@ pub fn read_halves(region: &Region, s: Halves, at: u32, out: &mut [u8], steps: &
 }
 
 /// Writes `bytes` over the bytes from byte `at` on of the object whose halves are `s`, each in the half that
-/// holds it. Costs one step for each word that holds one of them.
+/// holds it. The two halves must not overlap. Costs one step for each word that holds one of them.
 pub fn write_halves(region: &mut Region, s: Halves, at: u32, bytes: &[u8], steps: &mut Steps)
     requires small { length region.old < 2 ^ 32 }
     requires short { at + length bytes.now < 2 ^ 32 }

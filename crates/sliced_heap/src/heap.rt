@@ -26,9 +26,10 @@ use step_ledger::Steps;
 
 /// A moving heap whose frees are done in slices. A free leaves its long work as a job: to clear the
 /// freed slot, or to move another object into it. The free and each `step` do a slice of the job,
-/// at most a quantum of words. Every class has at most one partly full page; while a job is
-/// pending, its class may have two. `inner` is none while the heap is closed, and `alloc` is where
-/// open heaps allocate.
+/// at most a quantum of words. Every class has at most one partly full page if a pending job's slot
+/// counts as used; if it counts as free, the job's class may have two. `inner` is none while the
+/// heap is closed, and `alloc` is where open heaps allocate. All calls but `closed`,
+/// `bytes_needed`, `is_open` and `open_heap` require that the heap is open.
 #[derive(Drop)]
 pub struct SlicedHeap {
     alloc: Global,
@@ -75,7 +76,7 @@ impl SlicedHeap {
     }
 
     /// `SlicedHeap`: opens the sliced heap without objects, with the settings `s` and slices of at
-    /// most `quantum` words (1 to 16,384); an open heap is closed first. Each class has bound 1,
+    /// most `quantum` words (1 to 16,384). An open heap loses its objects. Each class has bound 1,
     /// whatever bound `s` has. All memory is allocated here. If this fails with `OutOfMemory`, the
     /// heap is closed, and may be opened again.
     pub fn open_heap(&mut self, s: &Settings, quantum: u32) -> Result<(), OutOfMemory>
@@ -252,8 +253,8 @@ impl SlicedHeap {
         }
     }
 
-    /// The figures of size class `c` of a `SlicedHeap`: its slot size, slots of a page, live
-    /// objects, pages and partly full pages. `None` if there is no such class. The slot of a
+    /// The figures of size class `c` of a `SlicedHeap`: its slot size in words, slots of a page,
+    /// live objects, pages and partly full pages. `None` if there is no such class. The slot of a
     /// pending job counts as used, but not as live.
     pub fn figures(&self, c: u32) -> Option<Figures>
         requires open { IsTrue self.now.is_open }
@@ -279,10 +280,10 @@ impl SlicedHeap {
         }
     }
 
-    /// `SlicedHeap`: fills `out` with the bytes of object `h` from byte `at` on, also while a job
-    /// moves the object. Fails, with `out` unchanged, with `Unknown` if the handle is not live,
-    /// else with `Range` if the bytes pass the object's end. Costs at most two steps, and one for
-    /// each word that holds one of the bytes.
+    /// `SlicedHeap`: fills `out` with the bytes of object `h` from byte `at` on, also while a job moves the object.
+    /// Fails, with `out` unchanged, with `Unknown` if the handle is not live, else with `Range` if `at` plus their
+    /// number exceeds the object's length. Costs at most two steps, and one for each word that holds one of the
+    /// bytes.
     pub fn read(
         &self,
         h: Handle,
@@ -303,10 +304,10 @@ impl SlicedHeap {
         }
     }
 
-    /// `SlicedHeap`: writes `bytes` into object `h` from byte `at` on, also while a job moves the
-    /// object, and changes nothing else. Fails, with nothing changed, with `Unknown` if the handle
-    /// is not live, else with `Range` if the bytes pass the object's end. Costs at most two steps,
-    /// and one for each word that holds one of the bytes.
+    /// `SlicedHeap`: writes `bytes` into object `h` from byte `at` on, also while a job moves the object, and
+    /// changes nothing else. Fails, with nothing changed, with `Unknown` if the handle is not live, else with
+    /// `Range` if `at` plus their number exceeds the object's length. Costs at most two steps, and one for each
+    /// word that holds one of the bytes.
     pub fn write(
         &mut self,
         h: Handle,

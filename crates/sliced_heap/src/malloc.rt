@@ -115,8 +115,9 @@ impl OpenHeap {
         self.needed + self.opens_page(c) > self.settings.pages
     }
 
-    /// In a sliced heap, binds the next free proxy to the address `place`, writes there the header
-    /// of an object of `bytes` bytes, and returns the proxy's number. Costs three steps.
+    /// In a sliced heap, binds the next free proxy, of which there must be one, to the address
+    /// `place`, writes there the header of an object of `bytes` bytes, and returns the proxy's
+    /// number. Costs three steps.
     fn bind(&mut self, place: u32, bytes: u32, steps: &mut Steps) -> Handle
         requires some { map.len self.old.proxies.places ≢ self.old.proxies.limit }
         requires within { place < length self.old.region }
@@ -142,7 +143,8 @@ impl OpenHeap {
     }
 
     /// In a sliced heap, counts one more object, of class c and of `bytes` bytes: in `live`, in `needed` if it needs
-    /// one more page, and in the bytes asked and taken.
+    /// one more page, and in the bytes asked and taken. Before, at most 65,536 objects of the class, 4,096 pages and
+    /// 2^33 bytes of each kind may be counted.
     fn count_in(&mut self, c: u32, bytes: u32)
         requires class { c < length self.old.tables.classes.sizes }
         requires listed { c < length self.old.live }

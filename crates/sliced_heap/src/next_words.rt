@@ -1,5 +1,6 @@
-//! Clears or moves the next words of a pending job's slot, and counts these words: the quantum, or
-//! all words left if they are fewer.
+//! Clears or moves the next words of a pending job's slot; and returns how many of them the next
+//! slice does: the quantum, or all words left if they are fewer. These words, and the places to
+//! which words move, must lie in the region, which has less than 2^32 words.
 ghost use Rattle.std.specs.Prelude.{◌≡◌, ◌+◌, ◌-◌, ◌^◌, ◌<◌, ◌≤◌, length, min};
 ghost use Rattle.page_model.specs.Image.{Clears, IsDisjoint, MovesWords};
 ghost use Rattle.step_ledger.specs.Counting.{RoseBy};
@@ -30,8 +31,8 @@ pub fn clear_next(region: &mut Region, k: JobSlot, n: u32, steps: &mut Steps)
 }
 
 /// Moves the next `n` words of the job's slot `k`, after the `k.done` words that were moved before,
-/// to the same places in the slot at `to`, and leaves zeros in their place in slot `k`. Costs a
-/// step for each.
+/// to the same places in the slot at `to`, and leaves zeros in their place in slot `k`. These words
+/// and their new places must not overlap. Costs a step for each.
 pub fn move_next(region: &mut Region, k: JobSlot, to: u32, n: u32, steps: &mut Steps)
     requires small { length region.old < 2 ^ 32 }
     requires source { k.address + k.done + n ≤ length region.old }

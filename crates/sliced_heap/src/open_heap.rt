@@ -1,5 +1,5 @@
 //! The fields of an open sliced heap: its tables, the words of its region, and the pending job; and how a heap
-//! without objects is made. The other files of this crate have its calls.
+//! without objects is made, and what memory it takes. The other files of this crate have its calls.
 ghost use Rattle.std.specs.Prelude.{◌≡◌, ◌*◌, ◌^◌, ◌<◌, ◌≤◌, length, replicate, IfOk};
 ghost use Rattle.cf_base.specs.Settings.{profile_of};
 ghost use Rattle.cf_base.specs.declared.kind.Layout.TheVariants.{Words};
@@ -30,7 +30,9 @@ pub enum Pending {
     Move(Handle, JobSlot),
 }
 
-/// An open sliced heap.
+/// An open sliced heap. `new` makes its fields fit each other (`IsValid`). The other public functions with a heap
+/// require this, but for `peek`, `has_job` and `moving`, and a call leaves it true. The functions that are not public
+/// require it, or the part of it that they use; a class or a slot that they take must be one of the heap's.
 #[derive(Drop)]
 pub struct OpenHeap {
     pub(crate) settings: Settings,
@@ -57,7 +59,7 @@ pub struct OpenHeap {
 
 impl OpenHeap {
     /// Opens a heap without objects and without a job, with the settings `s` and slices of at most `quantum`
-    /// words. No other function of `OpenHeap` allocates. Fails if out of memory.
+    /// words, which must be at least 1. No other function of `OpenHeap` allocates. Fails if out of memory.
     pub fn new(alloc: Global, s: &Settings, quantum: u32) -> Result<OpenHeap, OutOfMemory>
         requires least { 1 ≤ quantum }
         ensures kept { IfOk result (λ h. IsValid (sliced_seen h)) }

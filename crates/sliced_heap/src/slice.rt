@@ -19,7 +19,8 @@ use step_ledger::Steps;
 
 impl OpenHeap {
     /// In a sliced heap, does one slice of the pending job; changes nothing if none is pending.
-    /// Only calls `slice`, but its contract has the clauses of the public call `step`.
+    /// Costs `slice_cost` steps. `slice` does the same; this contract has the clauses of
+    /// `SlicedHeap::step`.
     pub fn step(&mut self, steps: &mut Steps)
         requires { IsValid (sliced_seen self.old) }
         ensures step { Happens (plan_of (sliced_seen self.old)) (working_of (sliced_seen self.old)) Step (working_of (sliced_seen self.new)) }
@@ -65,7 +66,7 @@ impl OpenHeap {
     }
 
     /// In a sliced heap, does one slice of the pending job, whether it clears a slot or moves an
-    /// object; changes nothing if none is pending.
+    /// object; changes nothing if none is pending. Costs `job_cost` steps.
     pub(crate) fn slice(&mut self, steps: &mut Steps)
         requires { IsValid (sliced_seen self.old) }
         ensures step { Slices (plan_of (sliced_seen self.old)) (working_of (sliced_seen self.old)) (working_of (sliced_seen self.new)) }
@@ -96,8 +97,9 @@ impl OpenHeap {
         )
     }
 
-    /// Does a slice of the job that clears slot `k`. If its last word is cleared, the job ends: the
-    /// slot becomes free, or the next job moves an object into it.
+    /// Does a slice of the pending job, which clears slot `k`. If the slot's last word is cleared,
+    /// the job ends: the slot becomes free, or the next job moves an object into it. Costs
+    /// `part_cost` steps.
     fn clear_slice(&mut self, k: JobSlot, steps: &mut Steps)
         requires kept { IsValid (sliced_seen self.old) }
         requires job { job_of self.old.job ≡ Clear k }
@@ -120,9 +122,9 @@ impl OpenHeap {
         self.end(vacant, steps);
     }
 
-    /// Does a slice of the job that moves object `h` out of slot `k`. Each word that it moves
-    /// becomes 0 in slot `k`. If the last word is moved, the job ends: slot `k` becomes free, or
-    /// the next job moves an object into it.
+    /// Does a slice of the pending job, which moves object `h` out of slot `k`. Each word that it
+    /// moves becomes 0 in slot `k`. If the last word is moved, the job ends: slot `k` becomes free,
+    /// or the next job moves an object into it. Costs `part_cost` steps, and one more.
     fn move_slice(&mut self, h: Handle, k: JobSlot, steps: &mut Steps)
         requires kept { IsValid (sliced_seen self.old) }
         requires job { job_of self.old.job ≡ Move h.0 k }

@@ -1,4 +1,5 @@
--- For the calls of `SlotMaps`: where the words of a page are in the table, and what a write to one page does to all pages.
+-- For the calls of `SlotMaps` and for `free_table`: where the words of a page are in the table, that the table has each page and slot that contracts see, what
+-- a write to one page does to all pages, and a table in which no slot is used.
 use Rattle.std.proofs.Common.{◌≡◌, ◌≢◌, ℕ, ◌+◌, ◌*◌, ◌/◌, ◌<◌, ◌≤◌, Bool, false, List, [], length, get_or, set, replicate}
 use Rattle.std.proofs.Common.{Some, arith, refl, ap, sym, subst, ◌∙◌, inl, inr}
 use Rattle.std.specs.Prelude.{slice_get}

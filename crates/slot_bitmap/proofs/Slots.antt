@@ -1,5 +1,5 @@
--- For the calls of `SlotMap` and of `SlotMaps`: the slots of a page as bits of its words, what writing one bit does to them and to the two summary words, and
--- how these lead to the lowest free or used slot.
+-- For the calls of `SlotMap` and of `SlotMaps`: the slots of a page as bits of its words, what writing one bit does to them and to the two summary words, how
+-- these lead to the lowest free or used slot, and the words and the summary of a page without a used slot.
 use Rattle.std.proofs.Common.{◌≡◌, ◌≢◌, ℕ, ◌+◌, ◌-◌, ◌*◌, ◌/◌, ◌%◌, ◌^◌, ◌<◌, ◌≤◌, ◌==◌, Bool, true, false, cond, not, List, length, get_or, set, replicate}
 use Rattle.std.proofs.Common.{Some, None, arith, refl, ap, sym, ◌∙◌, inl, inr, w64}
 use Rattle.std.specs.Prelude.{slice_get}

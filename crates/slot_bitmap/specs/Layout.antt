@@ -25,8 +25,8 @@ has_free word n j = not (word j + 1 == 2 ^ bits_in n j)
 abbrev pub has_used : (ℕ → ℕ) → ℕ → Bool
 has_used word j = not (word j == 0)
 
--- The rules of a page with w words: no bit of a word is set beyond the slots of the page; bit j of the summaries shows whether word j has a free slot, and a
--- used one; `used` is the number of used slots.
+-- The rules of a page with w words, at most 64: its slots have their bits in these words, and no bit beyond them is set; bit j of the summaries shows whether
+-- word j has a free slot, and a used one; `used` is the number of used slots.
 pub record IsValid (w : ℕ) (word : ℕ → ℕ) (s : PageSummary) : Type 0 where
   pub short : w ≤ 64
   pub few : s.slots ≤ 64 * w
@@ -41,7 +41,7 @@ pub record IsValid (w : ℕ) (word : ℕ → ℕ) (s : PageSummary) : Type 0 whe
 abbrev pub word_in : List ℕ → ℕ → ℕ
 word_in words j = slice_index words j
 
--- the invariant of `SlotMap`
+-- the invariant of `SlotMap`: it has 64 words, and keeps the rules of a page
 pub record IsMap (words : List ℕ) (s : PageSummary) : Type 0 where
   pub count : length words ≡ 64
   pub page : IsValid 64 (word_in words) s

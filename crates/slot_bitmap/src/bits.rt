@@ -30,7 +30,7 @@ pub(crate) fn lowest_clear(word: u64) -> u32
     word.trailing_ones()
 }
 
-/// For slot maps, the word with its lowest `count` bits set and all others cleared.
+/// For slot maps, the word with its lowest `count` bits, 1 to 64, set and all others cleared.
 pub(crate) fn ones(count: u32) -> u64
     requires some { 1 ≤ count }
     requires few { count ≤ 64 }

@@ -1,4 +1,4 @@
-//! `PageSummary`, what a slot map keeps of a page beside its words.
+//! `PageSummary`, what a slot map keeps of a page beside its words, and how many bytes one has.
 use std::mem::size_of;
 use step_ledger::WordCell;
 

@@ -34,7 +34,7 @@ impl Model for SlotMap {
 
 #[tactic(auto, using(crate::proofs::Slots::slot_rules))]
 impl SlotMap {
-    /// Makes a `SlotMap` of `slots` slots, at most 4096, all free.
+    /// Makes a `SlotMap` of `slots` slots, 1 to 4096, all free.
     pub fn new(slots: u32) -> SlotMap
         requires some { 1 ≤ slots }
         requires few { slots ≤ 4096 }

@@ -15,8 +15,8 @@ use step_ledger::{Cells, Steps, WordCell, with_bit};
 /// The maps of the used slots of all pages. Contracts see a list of truth values for each page, and
 /// the most slots that a page may have.
 ///
-/// Each call on a `SlotMap` is here too, for one page and at the same steps. Each page has only the
-/// words that the most slots of a page need: with w words it takes 8 w + 24 bytes, its summary
+/// Each call on a `SlotMap` is here too, for one page, which must be one of the maps' pages, and at the same steps.
+/// Each page has only the words that the most slots of a page need: with w words it takes 8 w + 24 bytes, its summary
 /// included.
 #[derive(Drop)]
 pub struct SlotMaps {
@@ -41,9 +41,9 @@ impl Model for SlotMaps {
 
 #[tactic(auto, using(crate::proofs::Pages::page_rules))]
 impl SlotMaps {
-    /// Makes the maps of `pages` pages that may have up to `most` slots each. Until `renew`, each
-    /// map has one free slot, since no class uses the page yet. Only this call allocates. It fails
-    /// with `OutOfMemory` if an allocation fails.
+    /// Makes the maps of `pages` pages that may have up to `most` slots each; `most` is 1 to 4096. Until `renew`, each
+    /// map has one free slot, since no class uses the page yet. Only this call allocates. It fails with `OutOfMemory`
+    /// if an allocation fails.
     pub fn new(alloc: Global, pages: u32, most: u32) -> Result<SlotMaps, OutOfMemory>
         requires some { 1 ≤ most }
         requires few { most ≤ 4096 }
@@ -56,7 +56,7 @@ impl SlotMaps {
         }
     }
 
-    /// The memory that new slot maps ask for.
+    /// The memory that new slot maps of `pages` pages with up to `most` slots each, at most 4096, ask for.
     pub fn bytes_needed(pages: u32, most: u32) -> BytesNeeded
         requires { most ≤ 4096 }
         ensures needed { result ≡ map_bytes pages most }
@@ -66,8 +66,8 @@ impl SlotMaps {
         summaries.and(BytesNeeded::block(8 * (u64::from(pages) * u64::from(most.div_ceil(64)))))
     }
 
-    /// Turns the map of a page, which must have no used slot, into one of `slots` slots, all free.
-    /// For a page that a class begins to use. Costs two steps.
+    /// Turns the map of a page, which must have no used slot, into one of `slots` slots, all free. There must be at
+    /// least one slot, and no more than a page may have. For a page that a class begins to use. Costs two steps.
     pub fn renew(&mut self, page: u32, slots: u32, steps: &mut Steps)
         requires page { page < length self.old.pages }
         requires some { 1 ≤ slots }
@@ -162,8 +162,8 @@ impl SlotMaps {
         summary.used += 1;
     }
 
-    /// Marks the lowest free slot of a page in the maps as used and returns it; none if all are used. Costs three
-    /// steps, or one if it returns none.
+    /// Marks the lowest free slot of a page in the maps as used and returns it; none if all are used, and then nothing
+    /// changes. Costs three steps, or one if it returns none.
     pub fn take_first(&mut self, page: u32, steps: &mut Steps) -> Option<u32>
         requires { page < length self.old.pages }
         ensures found { result ≡ position (λ used. not used) (on_page self.old page) }
@@ -203,8 +203,8 @@ impl SlotMaps {
     }
 }
 
-/// Makes the maps' table of `pages` pages, each with `width` words and one free slot. Fails if an
-/// allocation fails.
+/// Makes the maps' table of `pages` pages, each with `width` words, 1 to 64, and one free slot. Fails if an allocation
+/// fails.
 fn free_table(alloc: Global, pages: u32, width: u32) -> Result<SlotMaps, AllocError>
     requires some { 1 ≤ width }
     requires few { width ≤ 64 }

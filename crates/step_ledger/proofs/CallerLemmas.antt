@@ -1,4 +1,5 @@
--- What other crates' proofs may cite: how the steps of several calls, one after the other, add up.
+-- What other crates' proofs may cite: how the steps of several calls, one after the other, add up; and that a count too low to saturate
+-- rises by exactly the steps of a call.
 use Rattle.std.proofs.Common.{◌≡◌, ℕ, ◌+◌, ◌^◌, ◌<◌, ◌≤◌, inl, inr, arith, subst}
 use Rattle.std.proofs.lemmas.Bool.{cases_lt}
 use Rattle.step_ledger.specs.Counting.{RoseAtMost, RoseBy}

@@ -8,7 +8,7 @@ use crate::Steps;
 use std::marker::Model;
 
 /// `N` cells in an array, for structs that allocate no memory. Each access to a cell adds its step
-/// to the ledger.
+/// to the ledger. The index of a cell must be below `N`, the position of a bit below 64.
 #[derive(Drop)]
 pub struct CellArray<T, const N: usize> {
     items: [T; N],
@@ -72,8 +72,8 @@ impl<const N: usize> CellArray<u64, N> {
     }
 }
 
-/// Returns `word` with its bit `bit` set if `on`, else cleared, for a counted cell that the caller
-/// then writes. It touches no cell itself, so it costs no step.
+/// Returns `word` with its bit `bit`, below 64, set if `on`, else cleared, for a counted cell that the
+/// caller then writes. It touches no cell itself, so it costs no step.
 pub fn with_bit(word: u64, bit: u32, on: bool) -> u64
     requires { bit < 64 }
     ensures written { WritesBit 64 word result bit on }

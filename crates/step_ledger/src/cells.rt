@@ -11,7 +11,8 @@ use crate::array::with_bit;
 use std::marker::Model;
 
 /// A list of cells in allocated memory. Each access to a cell, or exchange of two, adds a step to the
-/// ledger. Reading the length costs none.
+/// ledger. Reading the length costs none. A call's cells must be in the list, and the position of a
+/// bit must be below 64.
 #[derive(Drop)]
 pub struct Cells<T> {
     items: Vec<T>,

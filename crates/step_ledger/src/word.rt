@@ -50,8 +50,8 @@ impl WordCell {
         self.word = word;
     }
 
-    /// Sets bit `bit` of the cell's word if `on`, else clears it. Costs one step: the word is read and written in one
-    /// access.
+    /// Sets bit `bit`, below 64, of the cell's word if `on`, else clears it. Costs one step: the word is read and
+    /// written in one access.
     pub fn write_bit(&mut self, bit: u32, on: bool, steps: &mut Steps)
         requires { bit < 64 }
         ensures written { WritesBit 64 self.old self.new bit on }

@@ -1,5 +1,6 @@
--- Words that describe blocks (`IsDescribed`: headers, tags and zeros are right): the fields of a header word, that these blocks are read from the words, and
--- that other words with the same headers, tags and zeros describe them too.
+-- Words that describe blocks (`IsDescribed`: headers, tags and zeros are right): the fields of a header word, one of them the size of the block before; these
+-- blocks are read from the words, and meet the definitions of a tiling (`HaveHeaders`, `AreCleared`); other words with the same headers, tags and zeros
+-- describe them too; two lists of blocks and the two joined, by the size of the last block of the first list.
 use Rattle.std.proofs.Common.{◌≡◌, ℕ, zero, suc, Bool, true, false, ◌+◌, ◌*◌, ◌/◌, ◌^◌, ◌<◌, ◌≤◌, List, [], ◌∷◌, ◌++◌, Option, Some, None, length, cond, get_or}
 use Rattle.std.proofs.Common.{arith, refl, sym, ap, ◌∙◌, inl, inr, subst}
 use Rattle.std.specs.Prelude.{is_none}

@@ -1,5 +1,6 @@
--- For `join`, which coalesces: a used block with tag 0 and a free neighbour, before or after it, become one used block; the free one leaves its list, and the
--- invariant of `TagBlocks` still holds.
+-- For `join`, which coalesces: a used block with tag 0 and a free neighbour, before or after it, become one used block; the free one leaves its list, the other
+-- used blocks keep their contents, and the invariant of `TagBlocks` still holds. For `absorb_next` and `absorb_previous`, with the neighbour after and before:
+-- the two are such a pair, and their one block is that of the definition (`with_next`, `with_previous`).
 use Rattle.std.proofs.Common.{◌≡◌, ◌≢◌, ℕ, Bool, true, false, ◌+◌, ◌-◌, ◌*◌, ◌^◌, ◌<◌, ◌≤◌, List, [], ◌∷◌, ◌++◌, Some, None, length, cond, get_or, set}
 use Rattle.std.proofs.Common.{arith, refl, sym, ap, ◌∙◌, inl, inr, subst, append_assoc}
 use Rattle.std.specs.Prelude.{◌⊎◌}

@@ -1,5 +1,5 @@
--- For the clauses `lists` of `TagBlocks`: the free lists read from the heads and links (`lists_of`) are those of the invariant, also after a block leaves a
--- list or becomes the head of one.
+-- For clauses that name the free lists of `TagBlocks`, read from the heads and links (`lists_of`): they are those of the invariant, also after a block leaves a
+-- list or becomes the head of one; and what the invariant says of members (`IsIn`, `AreOnce`) in the words of the clauses (`Contains`, `IsDistinct`).
 use Rattle.std.proofs.Common.{◌≡◌, ℕ, zero, suc, ◌+◌, ◌%◌, ◌^◌, ◌<◌, ◌≤◌, List, [], ◌∷◌, length, get_or, map, arith, refl, sym, ap, ◌∙◌, inl, inr}
 use Rattle.std.specs.Prelude.{nat_eq}
 use Rattle.std.specs.List.{Contains, IsDistinct}

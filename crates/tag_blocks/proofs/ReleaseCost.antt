@@ -1,5 +1,5 @@
--- For the clauses `steps` and `lists` of `release`: the steps of its stages (clear, coalesce with each neighbour, make free) add up to those of the
--- definition, and so do their changes to the free lists.
+-- For the clauses `steps` and `lists` of `release`: the steps of its stages (clear, coalesce with each neighbour, make free) add up to those of the definition,
+-- and so do their changes to the free lists. For `absorb_next` and `absorb_previous`: without a free neighbour no list changes.
 use Rattle.std.proofs.Common.{◌≡◌, ◌≢◌, ℕ, Bool, true, false, ◌+◌, ◌-◌, ◌<◌, ◌≤◌, ◌==◌, List, [], ◌∷◌, ◌++◌, Option, Some, None, length, cond, get_or}
 use Rattle.std.proofs.Common.{arith, refl, sym, ap, ◌∙◌, inl, inr, subst}
 use Rattle.std.specs.Prelude.{◌⊎◌, is_none}

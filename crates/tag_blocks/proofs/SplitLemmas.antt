@@ -1,5 +1,5 @@
--- For `split`: the first words of a free block become used and the rest a free block, and the invariant of `TagBlocks` still holds, as if the whole block
--- became used and were cut then.
+-- For `split`: the first words of a free block become used and the rest a free block, as if the whole block became used and were cut then. The invariant of
+-- `TagBlocks` still holds, the other used blocks keep their contents, and the rest is the head of its free list; also the steps of making it the head.
 use Rattle.std.proofs.Common.{◌≡◌, ℕ, true, false, ◌+◌, ◌-◌, ◌^◌, ◌<◌, ◌≤◌, List, length, get_or, set, arith, refl, sym, ap, ◌∙◌, subst}
 use Rattle.std.proofs.lemmas.List.{set-set, set_comm}
 use Rattle.block_model.specs.Buckets.{FreeLists}

@@ -1,5 +1,5 @@
--- The heads of the free lists, the address of the first block of each, and how two levels of bitmaps mark the lists that have one. No public clause cites
--- this module.
+-- The heads of the free lists, the address of the first block of each; how two levels of bitmaps mark the lists that have one; and which is the first such
+-- list, from a list on, or the last. No public clause cites this module.
 use Rattle.std.specs.Prelude.{◌≡◌, ◌≢◌, ℕ, ◌+◌, ◌*◌, ◌^◌, ◌<◌, ◌≤◌, ◌==◌, not, List, length, Option, Some, None, cond, slice_index, slice_index_or}
 use Rattle.std.specs.Int.{bit_at}
 pub use Rattle.block_model.specs.FreeOrder.{no_block}
@@ -8,8 +8,8 @@ pub use Rattle.block_model.specs.FreeOrder.{no_block}
 abbrev pub head_of : List ℕ → ℕ → ℕ
 head_of heads list = slice_index_or heads list no_block
 
--- The bitmaps mark the lists that have a head. `lists` has one word for each group of 16 lists: bit k of word j is set if list 16 j + k has a head. Bit j of
--- `groups` is set if a list of group j has one.
+-- The bitmaps mark the lists that have a head, of at most 512 lists. `lists` has one word for each group of 16 lists: bit k of word j is set if list 16 j +
+-- k has a head. Bit j of `groups` is set if a list of group j has one. No bit from 16 on is set in a word of `lists`, and none from 32 on in `groups`.
 pub record AreMarked (heads lists : List ℕ) (groups : ℕ) : Type 0 where
   pub few : length heads ≤ 512
   pub small : (j : ℕ) → slice_index lists j < 2 ^ 16

@@ -1,5 +1,5 @@
--- What the definitions that depend on the kind of a heap are for TLSF and Half-Fit: there is no block table, the free lists are those of the kind's rule, and
--- a malloc follows their order.
+-- What the definitions that depend on the kind of a heap are for TLSF and Half-Fit: there is no block table, the words of an object are those of its block, the
+-- free lists are those of the kind's rule, and a malloc follows their order.
 use Rattle.std.proofs.Common.{◌≡◌, ℕ, Result, refl, subst}
 use Rattle.cf_base.specs.declared.results.Handle.{Handle}
 use Rattle.cf_base.specs.declared.results.Refusal.{Refusal}

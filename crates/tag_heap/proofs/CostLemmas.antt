@@ -1,5 +1,5 @@
 -- The steps of a malloc and of a free of a heap with blocks, added up from their parts: the search for a free block, the proxy, and making the block used or
--- free.
+-- free. A malloc takes at most 25 steps; its steps and what it chooses don't depend on the cost that the new state holds.
 use Rattle.std.proofs.Common.{◌≡◌, ℕ, ◌+◌, ◌-◌, ◌≤◌, List, Option, Some, None, Result, Ok, Err, arith, refl, ◌∙◌, ap}
 use Rattle.std.specs.Prelude.{IfSome}
 use Rattle.cf_base.specs.Classes.{need}

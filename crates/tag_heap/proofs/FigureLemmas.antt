@@ -1,5 +1,5 @@
 -- For `totals` and `usage`: the counts that an open heap with blocks keeps (proxies in use, bytes asked, used words, used and free blocks) are the figures of
--- its state.
+-- its state. For `malloc`: the bytes asked are few enough to be counted.
 use Rattle.std.proofs.Common.{◌≡◌, ℕ, ◌+◌, ◌*◌, ◌^◌, ◌≤◌, List, Option, Some, None, length, arith, refl, sym, ◌∙◌, ap}
 use Rattle.std.specs.Prelude.{option_map}
 use Rattle.std.specs.FinMap.{get, len}

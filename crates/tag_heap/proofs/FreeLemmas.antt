@@ -1,5 +1,5 @@
 -- For `free`: after an object is removed and its block becomes free, a heap with blocks satisfies its invariant, and the order lists the free block and the
--- number first.
+-- number first; and the counts of bytes and used words are no less than what the free subtracts.
 use Rattle.std.proofs.Common.{◌≡◌, ◌≢◌, ℕ, ◌+◌, ◌-◌, ◌/◌, ◌^◌, ◌≤◌, [], ◌∷◌, Some, None, length, get_or, arith, refl, sym, ◌∙◌, ap, subst}
 use Rattle.std.proofs.lemmas.Option.{same_Some as some_placed}
 use Rattle.std.specs.FinMap.{get, remove}

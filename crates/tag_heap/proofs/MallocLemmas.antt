@@ -1,5 +1,5 @@
--- For `malloc` and `has_room`: after an object of zeros is added in the next block of the order, a heap with blocks satisfies its invariant; and the cause of
--- each refusal, no proxy or no block.
+-- For `malloc` and `has_room`: after an object of zeros is added in the next block of the order, a heap with blocks satisfies its invariant, and at most 2^23
+-- words are used; and the cause of each refusal, no proxy or no block, and that there is none if there is room.
 use Rattle.std.proofs.Common.{◌≡◌, ◌≢◌, ℕ, zero, suc, ◌+◌, ◌^◌, ◌<◌, ◌≤◌, ◌∷◌, Some, None, length, replicate, arith, refl, sym, ◌∙◌, ap, subst, inl, inr}
 use Rattle.std.proofs.lemmas.List.{length-replicate}
 use Rattle.std.specs.FinMap.{get, insert, len}

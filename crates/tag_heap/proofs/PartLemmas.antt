@@ -1,4 +1,5 @@
--- For `read` and `write`: bytes within an object are within its block, and the bytes read from the block's words are those of the object.
+-- If a range of bytes is within an object (`HoldsTagBytes`), the object's number has the address given, the words of the range are within the object's block,
+-- and the bytes that `read` reads from these words are those of the object.
 use Rattle.std.proofs.Common.{◌≡◌, ℕ, ◌+◌, ◌/◌, ◌%◌, ◌<◌, ◌≤◌, List, length, get_or, take, drop, Some, arith, sym, ◌∙◌, ap}
 use Rattle.std.specs.Prelude.{option_map}
 use Rattle.std.proofs.lemmas.Grind.{same_number_lists}

@@ -1,5 +1,6 @@
--- For all calls: if the words, blocks, proxies and counts of an open heap with blocks agree with a map of objects (`MeetsInvariantWith`), the heap has these
--- objects and satisfies its invariant and the rules.
+-- If the words, blocks, proxies and counts of an open heap with blocks agree with a map of objects (`MeetsInvariantWith`), the heap has these objects and
+-- satisfies its invariant and the rules; what holds of each heap that satisfies its invariant; and the address and the bytes of an object read from words.
+-- Also: all settings are in range, and the rules don't depend on the cost.
 use Rattle.std.proofs.Common.{◌≡◌, ℕ, ◌+◌, ◌*◌, ◌<◌, List, Option, Some, None, length, arith, refl, sym, ◌∙◌, ap, subst}
 use Rattle.std.specs.Prelude.{option_map}
 use Rattle.std.specs.List.{Contains}

@@ -1,5 +1,5 @@
--- For calls that look an object up by its number: its address is that of the proxy, its bytes are in a block large enough for them, and a range of bytes
--- passes its end or not.
+-- For calls that look an object up by its number: its address is that of the proxy; a number with an address has an object, of at most 2^26 bytes; the
+-- object's block lies in the region, and has room for the bytes; how many words the block has; and whether a range of bytes passes the object's end.
 use Rattle.std.proofs.Common.{◌≡◌, ℕ, ◌+◌, ◌/◌, ◌^◌, ◌<◌, ◌≤◌, List, length, Option, Some, None, arith, sym, ◌∙◌, ap}
 use Rattle.std.specs.Prelude.{option_map}
 use Rattle.std.specs.Ordering.{nat_cmp}

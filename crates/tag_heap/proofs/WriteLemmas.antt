@@ -1,5 +1,5 @@
--- For `write`: after bytes are written into the block of an object, the object has these bytes, nothing else changes, and a heap with blocks satisfies its
--- invariant.
+-- After bytes are written into the block of an object, by `write` or by C during a loan, the object has these bytes, nothing else changes, and a heap with
+-- blocks satisfies its invariant.
 use Rattle.std.proofs.Common.{◌≡◌, ◌≢◌, ℕ, suc, ◌+◌, ◌-◌, ◌/◌, ◌%◌, ◌^◌, ◌<◌, ◌≤◌, List, [], length, get_or, Some, ◌∷◌, arith, refl, sym, ◌∙◌, ap, subst, inl, inr}
 use Rattle.std.specs.Prelude.{option_map}
 use Rattle.std.proofs.lemmas.Bool.{cases_lt}

@@ -1,5 +1,5 @@
--- The choices of a malloc and a free of a heap with blocks: a malloc uses the number and the block that the order lists next; after a free the number and
--- the block that it frees are first in the order. No public clause cites this module.
+-- The choices of a malloc and a free of a heap with blocks: a malloc uses the number (of a proxy) and the block that the order lists next; after a free
+-- the number and the block that it frees are first in the order. No public clause cites this module.
 use Rattle.std.specs.Prelude.{◌≡◌, ℕ, ◌∷◌, IfOk, IfSome, Result}
 use Rattle.cf_base.specs.declared.results.Freed.{Freed}
 use Rattle.cf_base.specs.declared.results.Handle.{Handle}

@@ -1,5 +1,5 @@
--- How many steps the calls of a heap with blocks take: at most for each (`block_bounds`), exactly for `has_room`, the figures, reads, writes and
--- `block_words`.
+-- How many steps the calls of a heap with blocks take: at most for each (`block_bounds`), exactly for a refused malloc, `has_room`, the figures, `find`,
+-- reads, writes and `block_words`.
 use Rattle.std.specs.Prelude.{ℕ, ◌+◌, ◌*◌, Option, Some, None, Result, Ok, Err}
 use Rattle.cf_base.specs.declared.results.AccessFault.{AccessFault}
 use Rattle.cf_base.specs.declared.results.AccessFault.TheVariants as access

@@ -1,4 +1,5 @@
--- What contracts see of an open heap with blocks (`Heap`: settings, words, blocks, free lists, proxies, counts), and its invariant (`IsValid`).
+-- What contracts see of an open heap with blocks (`Heap`: settings, words, blocks, free lists, proxies, counts): its objects, its order, the state of a
+-- manager that has it or is closed, its invariant (`IsValid`), and its encoding.
 use Rattle.std.specs.Prelude.{◌≡◌, ℕ, ◌*◌, List, [], true, Option, Some, None, length, refl}
 use Rattle.std.specs.Coded.{Coded, code_by, coded×, coded_ℕ, coded_list}
 use Rattle.cf_base.specs.contracts.Settings as settings
@@ -18,8 +19,9 @@ use Rattle.cf_model.specs.ReadObjects.{read_objects}
 use Rattle.cf_model.specs.Rules.{AreOwned, KeepsRules, content_word}
 use Rattle.cf_model.specs.State.{HeapState, block_code, closed_state}
 
--- An open heap as definitions see it: its settings; its words, blocks and free lists (`tagged`); the addresses by number (`proxies`); how many
--- bytes all objects have together (`asked`), and how many words all used blocks; and the steps of the last malloc or free (`cost`).
+-- An open heap as definitions see it: its settings; its words, blocks and free lists (`tagged`); the addresses of its objects by the
+-- numbers of their proxies (`proxies`); how many bytes all objects have together (`asked`), and how many words all used blocks; and the steps of the last
+-- malloc or free (`cost`).
 pub record Heap : Type 0 where
   pub settings : Settings
   pub tagged : Tagged
@@ -32,7 +34,7 @@ pub record Heap : Type 0 where
 abbrev pub tag_held_in : Heap → Held
 tag_held_in h = read_objects h.tagged.words h.proxies.places
 
--- the order of the heap: its free lists and its free numbers, each list with the next one first
+-- the order of the heap: its free lists, and the numbers of its spare proxies, each list with the next one first
 abbrev pub tag_order_of : Heap → Order
 tag_order_of h = record { pool = []; not_full = h.tagged.lists; spare = h.proxies.free }
 

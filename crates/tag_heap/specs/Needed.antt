@@ -8,6 +8,7 @@ use Rattle.cf_model.specs.State.{region_words}
 use Rattle.tag_blocks.specs.Needed.{tagged_bytes}
 use Rattle.proxy_table.specs.Needed.{proxy_bytes}
 
--- an open heap of each kind with blocks: the region, the heads of the free lists of the kind, and the proxies
+-- the memory that an open heap of this kind with blocks asks for: the region, the heads of the free lists of the kind,
+-- and the proxies
 abbrev pub tag_bytes : Kind → Profile → BytesNeeded
 tag_bytes kind p = both (tagged_bytes (region_words p) (list_count_of kind)) (proxy_bytes p.proxies)

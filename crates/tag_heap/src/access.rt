@@ -20,7 +20,7 @@ use region::Header;
 use step_ledger::Steps;
 
 impl<B: FitPolicy> OpenHeap<B> {
-    /// With blocks, the address of the object, that of the first word of its block; none if the
+    /// Returns the address of an object of a heap with blocks, the index of the first word of its block; none if the
     /// handle isn't live. Costs one step.
     pub(crate) fn place(&self, h: Handle, steps: &mut Steps) -> Option<u32>
         ensures value { result ≡ place_of (tag_state_of B.kind self.now) h.0 }
@@ -29,8 +29,8 @@ impl<B: FitPolicy> OpenHeap<B> {
         self.proxies.lookup(h, steps)
     }
 
-    /// With blocks, the word of the region at the index `word`, for one step; none past the
-    /// region's end, for no step.
+    /// Returns the word of the region at the index `word`, in a heap with blocks, for one step; none past the region's
+    /// end, for no step.
     pub(crate) fn peek(&self, word: u32, steps: &mut Steps) -> Option<u64>
         ensures value { result ≡ slice_get (tag_state_of B.kind self.now).words word }
         ensures rules { KeepsRules (tag_state_of B.kind self.now) }
@@ -43,9 +43,9 @@ impl<B: FitPolicy> OpenHeap<B> {
         }
     }
 
-    /// With blocks, fills `out` with the bytes of an object from byte `at` on. Fails with `Unknown`
-    /// if the handle isn't live, else with `Range` if the bytes pass the object's end; `out` is
-    /// unchanged then. Costs at most two steps and one for each word that holds one of the bytes.
+    /// Fills `out` with the bytes of an object of a heap with blocks, from byte `at` on. Fails with `Unknown` if the
+    /// handle isn't live, else with `Range` if `at` plus their number exceeds the object's length; `out` is unchanged
+    /// then. Costs at most two steps and one for each word that holds one of the bytes.
     pub(crate) fn read(
         &self,
         h: Handle,
@@ -68,8 +68,8 @@ impl<B: FitPolicy> OpenHeap<B> {
         Ok(())
     }
 
-    /// With blocks, writes bytes into an object from byte `at` on. Fails as `read` does, and then
-    /// changes nothing. Costs at most two steps and one for each word that holds one of the bytes.
+    /// Writes bytes into an object of a heap with blocks, from byte `at` on. Fails as `read` does, and then changes
+    /// nothing. Costs at most two steps and one for each word that holds one of the bytes.
     pub(crate) fn write(
         &mut self,
         h: Handle,
@@ -90,9 +90,9 @@ impl<B: FitPolicy> OpenHeap<B> {
         Ok(())
     }
 
-    /// With blocks, the address of the object, if it has `count` bytes from byte `at` on. Fails
-    /// with `Unknown` if the handle isn't live, else with `Range` if these bytes pass the object's
-    /// end. Costs two steps, or one if the handle isn't live.
+    /// Returns the address of an object of a heap with blocks, if the object has `count` bytes from byte `at` on. Fails
+    /// with `Unknown` if the handle isn't live, else with `Range` if `at` plus their number exceeds the object's
+    /// length. Costs two steps, or one if the handle isn't live.
     fn find(&self, h: Handle, at: u32, count: usize, steps: &mut Steps) -> Result<u32, AccessFault>
         ensures found { IsTagFound B.kind self.now (record { number = h.0; from = at }) count result }
         ensures steps { RoseBy steps.old steps.new (found_steps result) }
@@ -107,8 +107,8 @@ impl<B: FitPolicy> OpenHeap<B> {
         Ok(place)
     }
 
-    /// With blocks, the number of bytes of an object; none if the handle isn't live. Costs two
-    /// steps, or one if the handle isn't live.
+    /// Returns the number of bytes of an object of a heap with blocks; none if the handle isn't live. Costs two steps,
+    /// or one if the handle isn't live.
     pub(crate) fn length(&self, h: Handle, steps: &mut Steps) -> Option<u32>
         ensures value { result ≡ length_of (tag_state_of B.kind self.now) h.0 }
         ensures steps { RoseBy steps.old steps.new (length_steps B.kind result) }
@@ -119,8 +119,8 @@ impl<B: FitPolicy> OpenHeap<B> {
         }
     }
 
-    /// With blocks, how many words an object's block has; none if the handle isn't live. Costs two
-    /// steps, or one if the handle isn't live.
+    /// Returns how many words the block of an object has, in a heap with blocks; none if the handle isn't live. Costs
+    /// two steps, or one if the handle isn't live.
     pub(crate) fn block_words(&self, h: Handle, steps: &mut Steps) -> Option<u32>
         ensures value { result ≡ option_map (slot_in B.kind (tag_state_of B.kind self.now)) (map.get (tag_state_of B.kind self.now).held h.0) }
         ensures steps { RoseBy steps.old steps.new (block_words_steps result) }
@@ -131,8 +131,8 @@ impl<B: FitPolicy> OpenHeap<B> {
         }
     }
 
-    /// With blocks, why a resize of the object to any length is refused: with `Unknown` if the handle isn't live, else
-    /// with `Kind`, since heaps with blocks have no resize. Costs one step.
+    /// Returns why a heap with blocks refuses a resize of the object to any length: `Unknown` if the handle isn't live,
+    /// else `Kind`, since heaps with blocks have no resize. Costs one step.
     pub(crate) fn resize_fault(&self, h: Handle, steps: &mut Steps) -> ResizeFault
         ensures step { (bytes : ℕ) → IsResizeFault (tag_state_of B.kind self.now) (record { number = h.0; length = bytes }) result }
         ensures rules { KeepsRules (tag_state_of B.kind self.now) }

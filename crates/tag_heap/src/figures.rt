@@ -1,4 +1,5 @@
-//! The figures of an open heap with blocks: counts of live objects, bytes, words and blocks.
+//! The figures of an open heap with blocks: counts of live objects, of bytes and of blocks, and the size of the largest
+//! free block.
 ghost use Rattle.std.specs.Prelude.{◌≡◌, ◌+◌, ◌*◌};
 ghost use Rattle.step_ledger.specs.Counting.{RoseAtMost, RoseBy};
 ghost use Rattle.cf_model.specs.Answers.{block_totals, usage_of};
@@ -12,8 +13,8 @@ use cf_model::Usage;
 use step_ledger::Steps;
 
 impl<B: FitPolicy> OpenHeap<B> {
-    /// The figures of the whole heap with blocks. Costs at most three steps and two for each free block, since it
-    /// searches the last free list that isn't empty for the largest free block.
+    /// Returns the figures of a whole heap with blocks. Costs at most three steps and two for each free block, since
+    /// the call searches the last free list that isn't empty for the largest free block.
     pub(crate) fn totals(&self, steps: &mut Steps) -> Totals
         ensures value { result ≡ block_totals (tag_state_of B.kind self.now) }
         ensures steps { RoseBy steps.old steps.new (totals_steps (tag_state_of B.kind self.now).order) }
@@ -30,7 +31,8 @@ impl<B: FitPolicy> OpenHeap<B> {
         }
     }
 
-    /// With blocks, the bytes asked for by live objects, those of used blocks, and those of the region. Costs no step.
+    /// Returns three numbers of bytes of a heap with blocks: those asked for by live objects, those of used blocks, and
+    /// those of the region. Costs no step.
     pub(crate) fn usage(&self) -> Usage
         ensures { result ≡ usage_of (block_totals (tag_state_of B.kind self.now)) }
     {

@@ -17,11 +17,11 @@ use region::Header;
 use step_ledger::Steps;
 
 impl<B: FitPolicy> OpenHeap<B> {
-    /// With blocks, removes an object, and makes its block free, coalesced with its free
-    /// neighbours. The free block that results becomes the first of its list, and the object's
-    /// number the next that a malloc uses. Fails if the handle isn't live, and then changes only
-    /// `cost`. Sets `cost` to the steps of this call: at most 41 and one for each word of the
-    /// block, or 1 if it fails.
+    /// Removes an object of a heap with blocks, and makes its block free, coalesced with its free neighbours. The free
+    /// block that results becomes the first of its list, and the object's number the next that a malloc uses. Returns
+    /// how many words the object's block had (`Freed`). Fails if the handle isn't live, and then changes only `cost`.
+    /// The count of the ledger must be at most 2^63. Sets `cost` to the steps of this call: at most 41 and one for each
+    /// word of the block, or 1 if the call fails.
     pub(crate) fn free(&mut self, h: Handle, steps: &mut Steps) -> Result<Freed, NotLive>
         requires { steps.old ≤ 2 ^ 63 }
         ensures step { IsFreeStep (tag_state_of B.kind self.old) h.0 result (tag_state_of B.kind self.new) }

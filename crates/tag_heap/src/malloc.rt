@@ -18,10 +18,10 @@ use region::Header;
 use step_ledger::Steps;
 
 impl<B: FitPolicy> OpenHeap<B> {
-    /// With blocks, adds an object of `bytes` bytes, all zero. It gets the number and the block
-    /// that the heap's order lists next. Refused, in this order: `Size` if it needs more than a
-    /// page, `Proxy` if no number is free, `Space` if no free list that is searched has a block;
-    /// then only `cost` changes. Sets `cost` to the steps of this call, at most 25.
+    /// Adds an object of `bytes` bytes, all zero, to a heap with blocks. The object gets the number (of a proxy) and
+    /// the block that the heap's order lists next. Refused, in this order: `Size` if the object with its header needs
+    /// more than a page, `Proxy` if no number is free, `Space` if no free list that is searched has a block; then only
+    /// `cost` changes. The count of the ledger must be at most 2^63. Sets `cost` to the steps of this call, at most 25.
     pub(crate) fn malloc(&mut self, bytes: u32, steps: &mut Steps) -> Result<Handle, Refusal>
         requires { steps.old ≤ 2 ^ 63 }
         ensures step { IsMallocStep (tag_state_of B.kind self.old) bytes result (tag_state_of B.kind self.new) }
@@ -60,8 +60,8 @@ impl<B: FitPolicy> OpenHeap<B> {
         Ok(handle)
     }
 
-    /// With blocks, returns the address of the free block that a malloc of `bytes` bytes would take now, or fails with
-    /// the refusal that it would return. Changes nothing. Costs at most four steps.
+    /// Returns the address of the free block that a malloc of `bytes` bytes would take now in a heap with blocks, or
+    /// fails with the refusal that the malloc would return. Changes nothing. Costs at most four steps.
     pub(crate) fn room(&self, bytes: u32, steps: &mut Steps) -> Result<u32, Refusal>
         ensures room { IsBlockFor B.rule B.kind self.now bytes result }
         ensures answer { IsHasRoomAnswer (tag_state_of B.kind self.now) bytes (done_by result) }

@@ -1,4 +1,5 @@
-//! `TagHeap`: the trait `Manager` over an open heap with blocks, or none while it is closed.
+//! `TagHeap`: the trait `Manager` over an open heap with blocks, or over none while the manager is closed;
+//! the memory that such a heap asks for; and how many words the block of an object has.
 ghost use Rattle.std.specs.Prelude.{◌≡◌, ◌^◌, ◌<◌, IsTrue, Some, option_map};
 ghost use Rattle.std.specs.FinMap as map;
 ghost use Rattle.step_ledger.specs.Counting.{RoseBy};
@@ -52,8 +53,8 @@ impl<B: FitPolicy> TagHeap<B> {
         TagHeap { alloc, inner: None }
     }
 
-    /// The memory that opening a manager with blocks asks for with the settings `s`. The bytes of
-    /// the manager itself, which its owner keeps, aren't counted.
+    /// The memory that opening a manager with blocks asks for with the settings `s`, fewer than
+    /// 2^45 bytes in all. The bytes of the manager itself, which its owner keeps, aren't counted.
     pub fn bytes_needed(s: &Settings) -> BytesNeeded
         ensures needed { result ≡ tag_bytes B.kind (profile_of s.now) }
         ensures few { result.total < 2 ^ 45 }
@@ -61,8 +62,8 @@ impl<B: FitPolicy> TagHeap<B> {
         OpenHeap::<B>::bytes_needed(s)
     }
 
-    /// `TagHeap`: how many words an object's block has; none if the handle isn't live. The manager
-    /// must be open. Costs two steps, or one if it returns none.
+    /// Returns how many words the block of an object of a `TagHeap` has; none if the handle isn't
+    /// live. The manager must be open. Costs two steps, or one if the call returns none.
     pub fn block_words(&self, h: Handle, steps: &mut Steps) -> Option<u32>
         requires { IsTrue self.now.is_open }
         ensures value { result ≡ option_map (slot_in B.kind self.now) (map.get self.now.held h.0) }
@@ -71,7 +72,8 @@ impl<B: FitPolicy> TagHeap<B> {
         self.open().block_words(h, steps)
     }
 
-    /// `TagHeap`: borrows the open heap with blocks, for calls that change nothing.
+    /// Borrows the open heap of a `TagHeap`, for calls that change nothing. The manager must be
+    /// open.
     fn open(&self) -> &OpenHeap<B>
         requires { IsTrue self.now.is_open }
         ensures { tag_state_of B.kind result.now ≡ self.now }
@@ -160,7 +162,8 @@ impl<B: FitPolicy> Manager for TagHeap<B> {
         }
     }
 
-    // Refuses every resize, since heaps with blocks have none. Costs one step.
+    // Refuses every resize: with `Unknown` if the handle isn't live, else with `Kind`, since heaps with blocks have no
+    // resize. Costs one step.
     fn resize(
         &mut self,
         h: Handle,

@@ -18,8 +18,9 @@ use std::marker::Model;
 use tag_blocks::TagBlocks;
 
 /// An open heap with blocks. `blocks` has the region, its used and free blocks, and the free lists;
-/// `proxies` has the objects' addresses by number. `asked` counts the bytes of all objects,
-/// `used_words` the words of all used blocks, and `cost` the steps of the last malloc or free.
+/// `proxies` has the address of each object by the number of its proxy. `asked` counts the bytes of
+/// all objects, `used_words` the words of all used blocks, and `cost` the steps of the last malloc or
+/// free.
 #[derive(Drop)]
 pub(crate) struct OpenHeap<B: FitPolicy> {
     pub(crate) settings: Settings,
@@ -62,7 +63,7 @@ impl<B: FitPolicy> OpenHeap<B> {
         Ok(OpenHeap::empty(s, blocks, proxies))
     }
 
-    /// The memory that `OpenHeap::new` asks for, with blocks and the settings `s`.
+    /// The memory that `OpenHeap::new` asks for, with blocks and the settings `s`: fewer than 2^45 bytes in all.
     pub(crate) fn bytes_needed(s: &Settings) -> BytesNeeded
         ensures needed { result ≡ tag_bytes B.kind (profile_of s.now) }
         ensures few { result.total < 2 ^ 45 }
@@ -71,7 +72,8 @@ impl<B: FitPolicy> OpenHeap<B> {
         blocks.and(ProxyTable::bytes_needed(s.proxies))
     }
 
-    /// Makes an open heap with blocks from these parts, which hold no object.
+    /// Makes an open heap with blocks and without objects. The parts must fit the settings `s`: `blocks` must be one
+    /// free block of the whole region, as `TagBlocks::new` makes it, and in `proxies` none may be in use.
     fn empty(s: &Settings, blocks: TagBlocks<B>, proxies: ProxyTable) -> OpenHeap<B>
         requires blocks { blocks.blocks ≡ one_free_block (s.now.pages * s.now.page_words) }
         requires words { length blocks.words ≡ s.now.pages * s.now.page_words }

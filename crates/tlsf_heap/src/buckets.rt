@@ -5,9 +5,9 @@ ghost use Rattle.block_model.proofs.CallerLemmas.{tlsf_lawful};
 use block_model::tlsf;
 use tag_blocks::Buckets;
 
-/// TLSF (2004): a free list for each size below 16 words, and 16 lists for each power of two from
-/// there on, each for an equal range of sizes. A request is rounded up before the search, so that
-/// every block of the first list that is searched is large enough.
+/// The free-list rule of TLSF (2004): a list for each size below 16 words, and 16 lists for each
+/// power of two from there on, each for an equal range of sizes. A request is rounded up before the
+/// search, so that every block of the first list that is searched is large enough.
 #[derive(Drop)]
 pub struct TlsfBuckets;
 

@@ -1,4 +1,5 @@
--- For mode `compare`: the `heap` line on many managers, and what was written before the sink failed.
+-- For mode `compare`: the `heap` line on many managers: its reply, whole or cut, that their runs begin and are in progress, and that kinds and promises of an
+-- order stay, also if an allocation failed. For the law `what_was_cut_is_a_prefix`: output that was cut is a prefix of that of a whole run.
 use Rattle.std.proofs.Common.{◌≡◌, ◌++◌, ◌∙◌, ◌+◌, ◌<◌, ℕ, List, [], ◌∷◌, sym, ap, length, take, drop, get_or, map, append_assoc, append-nil, arith, take-append-drop, refl, suc, inl, inr, subst, codes, is_some}
 use Rattle.std.proofs.lemmas.List.{get_or-map, length-map, map-append, take_more, get_or_past, same_lists}
 use Rattle.cf_io.proofs.CallerLemmas.{led-append}

@@ -1,5 +1,5 @@
--- For `run_bench`: opening the manager and applying the commands is a run of the generated script (`BenchRun`), and the line that is printed, or a prefix of
--- it, has the numbers of that run.
+-- For `run_bench` and `BenchFigures::put`: opening the manager and applying the commands is a run of the generated script (`BenchRun`), and the line that is
+-- printed, or a prefix of it, has the numbers of that run.
 use Rattle.std.proofs.Common.{◌≡◌, ◌++◌, ℕ, List, [], ◌∷◌, map, Option, Some, None, refl, subst, append_assoc, codes}
 use Rattle.top_call.specs.Bench.{BenchRun, EndsBench, IsAppliedTo, IsTextWritten, bench_items, bench_settings, bench_text, bench_figures}
 use Rattle.top_call.specs.Bench.{good_ones, refusals}

@@ -1,5 +1,5 @@
--- For `read_arguments`, `u64_in` and `quantum_in`: the numbers and the errors that the crate `clap` returns for the arguments are those of the definitions
--- in `Choices`.
+-- For `read_arguments`, `u64_in` and `quantum_in`: the numbers and the errors that the crate `clap` returns for the arguments are those of the definitions in
+-- `Choices`; and the command of `cf_tool` is simple as `clap` defines it (`is_simple`, `is_simple_and_free`).
 use Rattle.std.proofs.Common.{◌≡◌, ◌≤◌, ◌<◌, ◌^◌, ℕ, Bool, true, false, List, refl, arith, Option, Some, None, ◌≢◌, [], ◌∷◌, inl, inr}
 use Rattle.std.specs.Prelude.{Result, Ok, Err, unwrap_or}
 use Rattle.std.specs.Str.Parse.{ParsesUnsigned, digits_value, without_leading_plus}

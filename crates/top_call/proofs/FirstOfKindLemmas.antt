@@ -1,5 +1,5 @@
--- For `first_of` and mode `run`, which uses the first manager of a kind in a list: which one that is, and that all managers keep their kinds and promises of
--- an order if that one does.
+-- For `first_of` and mode `run`, which uses the first manager of a kind in a list: which one that is, or that there is none, so that a closed one is used; and
+-- that all managers keep their kinds and promises of an order if the one used does.
 use Rattle.std.proofs.Common.{◌≡◌, ◌∙◌, ◌+◌, ◌<◌, ◌≤◌, ℕ, true, false, List, Option, Some, None, refl, sym, ap, length, get_or, set, map, arith, inl, inr, is_some}
 use Rattle.std.proofs.lemmas.Bool.{cases_lt}
 use Rattle.std.proofs.lemmas.List.{get_or-map, length-map}

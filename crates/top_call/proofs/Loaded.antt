@@ -1,4 +1,6 @@
--- For the laws on `save` and `load`: a run over the script that makes some objects holds these.
+-- For modes `save` and `load` and their laws: which objects a run holds, shows and, if every bound is 1, leaves; the script that makes some objects keeps every
+-- bound at 1 and asks for no address; a run over it holds these objects, each reply is `ok`, and mode `save` then prints their image; a load holds the objects
+-- of the image and printed their script, and refuses no image.
 use Rattle.std.proofs.Common.{◌≡◌, ◌∙◌, List, [], ◌∷◌, Option, Some, sym, ap, subst, ◌++◌, ◌+◌, ◌-◌, ◌*◌, ◌≤◌, ◌<◌, ℕ, zero, suc, true, false, None, length, take, drop, map, refl, arith, append_assoc, append-nil, inl, inr, length-append, length-drop, ◌≢◌}
 use Rattle.std.specs.Prelude.{option_map, ⊤, Err, codes, nat_eq, nat_le, nat_lt, replicate, Ok, if◌then◌else◌}
 use Rattle.run_model.specs.Terms.{IsGoing, IsPaged, Item, Kind, Objects, Reply, RunState, asks, Command, Malloc, Moving, need, Profile, said, Write, written, appended, items, profile_of}

@@ -1,4 +1,4 @@
--- From what a mode did and why it ended to the claims of `cf_main`.
+-- From what a mode did and why it ended to the claims of `cf_main`; and the law `each_meets_the_headline`.
 use Rattle.std.proofs.Common.{List, [], ◌∷◌, Option, ◌≡◌, ◌∙◌, ℕ, Some, None, true, false, refl, ap, sym, subst, arith, inl, inr, ◌≢◌}
 use Rattle.run_model.specs.Terms.{Item, Kind, Reply, RunState, closed_state, fresh_session, Moving, SinkFailsIf, SourceFailsIf, Status, HeapState}
 use Rattle.script_laws.proofs.CallerLemmas.{headline_met}

@@ -1,5 +1,5 @@
--- For the laws of `cf_main`, mode by mode: two calls with the same arguments and script that answer every line print the same and have the same status, if
--- the managers promise an order.
+-- For the laws of `cf_main`, mode by mode: two calls with the same arguments and script that answer every line print the same and have the same status, if the
+-- managers promise an order, as managers that were never open do. In modes `run` and `compare` they print the replies of runs in that order.
 use Rattle.std.proofs.Common.{◌≡◌, ℕ, List, [], ◌∷◌, Option, Some, None, refl, sym, ◌∙◌, ap, subst, length, get_or, map, inl, inr}
 use Rattle.std.proofs.lemmas.Bool.{cases_lt}
 use Rattle.std.proofs.lemmas.List.{get_or_past}

@@ -1,4 +1,6 @@
--- For the law `only_images_are_read`: bytes that `Decoded` accepts are those of an image, byte for byte.
+-- For the law `only_images_are_read`: bytes that `Decoded` accepts are those of an image, byte for byte, of objects that a heap may hold; they decode to given
+-- objects if and only if they are the image of these. On the way: an object with the greatest id is the last entry of a map, and the parts of a list of bytes
+-- are lists of bytes.
 use Rattle.std.proofs.Common.{◌≡◌, ◌∙◌, ◌++◌, ◌≤◌, ◌<◌, ℕ, false, List, [], ◌∷◌, Some, None, refl, ap, sym, arith, ◌+◌, ◌^◌, zero, suc, Bool, true, length, get_or, take, drop, subst, append-nil, append_assoc, inl, inr, lit<, ◌*◌, ◌/◌, ◌%◌}
 use Rattle.std.specs.Prelude.{⊤, cond, nat_le, nat_lt, if◌then◌else◌, ◌==◌, ◌↔◌}
 use Rattle.std.specs.Ordering.{eq_by_cmp, nat_cmp}

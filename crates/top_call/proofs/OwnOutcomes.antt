@@ -1,4 +1,5 @@
--- Many managers' run over a script splits into a run of each.
+-- Many managers' run over a script splits into a run of each, whole or up to a cut reply, and leaves each manager in the last state of its run, open if the run
+-- has begun.
 use Rattle.std.proofs.Common.{◌≡◌, ◌++◌, ◌∙◌, ℕ, List, [], ◌∷◌, Option, Some, None, refl, sym, ap, subst, inl, inr, map, suc, length, arith}
 use Rattle.std.specs.Prelude.{⊤, option_map}
 use Rattle.run_model.proofs.CallerLemmas.{one_run, run_joined, step_rules, step_same, part_seen, run_seen, begins_going, step_going}

@@ -1,4 +1,6 @@
--- For mode `compare`: one command on each of many managers.
+-- For mode `compare`: one command on each of many managers, or up to the one whose reply the sink cut: the loop that does it, over sessions and managers as one
+-- list of runs; the lines of the reply, with the kind's name before each; and that kinds and promises of an order stay. Also a lemma on a list that is mapped
+-- twice.
 use Rattle.std.proofs.Common.{◌≡◌, ◌∙◌, ◌<◌, ℕ, suc, zero, List, [], ◌∷◌, refl, sym, ap, length, set, get_or, map, arith, ◌++◌, append_assoc, ◌+◌, ◌≤◌, subst, inl, inr, append-nil, length-append, Option, Result, Ok, Err, is_some}
 use Rattle.std.proofs.lemmas.List.{get_or-map, length-map, map-set, set-get_or, get_or_at, set_at, length_push}
 use Rattle.run_model.specs.Terms.{HeapState, SessionState, appended, Command, IsGoing, Kind, led, Reply, RunState, Failed}

@@ -1,4 +1,4 @@
--- For `print.rt`: the lines that mode `load` prints are those of the script that makes the live objects.
+-- For `image_script.rt`: the lines that mode `load` prints are those of the script that makes the live objects, or a prefix of them if the sink failed.
 use Rattle.std.proofs.Common.{◌≡◌, ◌∙◌, ◌++◌, List, [], ◌∷◌, ℕ, ap, sym, append_assoc, append-nil, ◌+◌, ◌-◌, ◌<◌, ◌≤◌, zero, suc, length, take, drop, refl, arith, inl, inr, length-drop, codes, decimal, Err, Ok, min, Result, drop-drop, take_all}
 use Rattle.run_model.specs.Terms.{Malloc, with_number, Write, Command, Failed, SinkState, Writes, Profile, RunState}
 use Rattle.script_reader.specs.CommandText.{line_of}

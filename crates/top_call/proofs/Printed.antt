@@ -1,4 +1,5 @@
--- For the law `printed_scripts_are_read_back`, clauses `read` and `clean`: the printed script is plain and within the limit.
+-- For the law `printed_scripts_are_read_back`, clauses `read` and `clean`: the printed script is read back as its items, has no bad line, and is within the
+-- limit. For the law `the_size_of_an_image_is_known_beforehand`: the length of an image.
 use Rattle.std.proofs.Common.{◌≡◌, ◌∙◌, ◌++◌, ◌+◌, ◌*◌, ◌/◌, ◌%◌, ◌≤◌, ◌<◌, ℕ, zero, suc, true, List, [], ◌∷◌, Option, Some, None, length, take, drop, map, refl, ap, sym, subst, arith, length-drop, inl, inr, ◌-◌, false, mul_assoc, mul-le-mul_left, mul-le-mul_right, add-mul, length-append, take-append-drop, ◌^◌, length-take-le, take_all, ◌==◌, nat_le, nat_eq, sum_by, codes, div-add-mod'}
 use Rattle.std.specs.Int.{div_ceil}
 use Rattle.std.specs.FinMap.{entries, get, empty, insert, get-empty, len, len-empty}

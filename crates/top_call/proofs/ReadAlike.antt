@@ -1,5 +1,5 @@
--- For the laws of `laws.rt`: at whatever addresses the names of modes and kinds are, arguments are read alike; so they make at most one choice, and none if
--- they are refused.
+-- At whatever addresses the names of modes and kinds are, arguments are read alike (laws of `argument_laws.rt`); so they make at most one choice, and none if
+-- they are refused, and `read_arguments` may return only that choice or the refusal, or `OutOfMemory`.
 use Rattle.std.proofs.Common.{◌≡◌, ◌∙◌, ◌⊎◌, List, map, refl, sym, ap, ap₂, inl, inr}
 use Rattle.std.specs.Prelude.{Result, Ok, Err}
 use Rattle.clap.specs.Simple.{argument_words, built, names_of}

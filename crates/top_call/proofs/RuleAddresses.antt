@@ -1,5 +1,5 @@
 -- For the law `all_such_commands_read_alike`: the rule of the crate `clap` for one argument accepts, refuses and reads values as the same rule with its
--- names at address 0 does.
+-- names at address 0 does; so do the defaults of a list of rules.
 use Rattle.std.proofs.Common.{◌≡◌, ◌∙◌, ◌||◌, Bool, List, [], ◌∷◌, map, refl, sym, ap, ap₂, Option, Some, None, if◌then◌else◌}
 use Rattle.std.specs.Borrow.{Bor}
 use Rattle.std.specs.List.{fold, list_any}

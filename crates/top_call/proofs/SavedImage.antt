@@ -1,4 +1,6 @@
--- For mode `save`: what it prints is the image of its run.
+-- For mode `save` and the laws `what_was_loaded_is_saved_again` and `what_was_saved_is_loaded_again`: the mode ends as `EndsSave` says, its status has its
+-- causes (`HasCauses`), and it prints the image of its run. Mode `load` never refuses it, its heap then has the same objects, and with bounds 1 further items
+-- get the same replies. Saving the script that a load printed gives the same image and a heap with the same objects.
 use Rattle.std.proofs.Common.{◌≡◌, ◌∙◌, ℕ, List, [], Some, ap, sym, ◌≢◌, ◌++◌, Bool, false, true, Option, None, refl, subst, ◌↔◌, option_map, if◌then◌else◌, IsTrue}
 use Rattle.run_model.specs.Terms.{appended, AreBytes, at_bound_one, EveryBoundIsOne, get, IsGoing, IsPaged, Item, Kind, Moving, Objects, paging_in, Profile, profile_of, Reply, RunState, SinkFailsIf, SinkState, SourceState, Status}
 use Rattle.cf_base.specs.declared.status.Status.TheVariants.{Done, Words, BadScript, ReadFault, WriteFault, OutOfMemory, TooLong, BadImage}

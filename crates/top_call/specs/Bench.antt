@@ -1,5 +1,5 @@
--- For `run_bench`, one bench of a manager: the run of its generated script, the numbers of that run, and the line that it prints. The generator makes the
--- first `count` commands of the seed `seed`.
+-- For `run_bench`, one bench of a manager: the run of its generated script, the numbers of that run, the line that it prints, and how it may end; for its loop,
+-- `apply_commands`, that commands were applied. The generator makes the first `count` commands of the seed `seed`.
 use Rattle.std.specs.Prelude.{◌≡◌, ◌++◌, ℕ, Bool, true, false, List, [], ◌∷◌, Option, Some, None, map, codes}
 use Rattle.std.specs.List.{count_by}
 use Rattle.top_call.specs.declared.figures.BenchFigures.{BenchFigures}

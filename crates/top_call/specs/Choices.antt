@@ -1,6 +1,6 @@
--- Which choice the arguments of the command line make, and when they are refused, by the definitions of the crate `clap`. In this file `words` are the
--- arguments; the first is the program's name. For a value that "never occurs" the function returns a default: the command of `clap` (`cf_command`) refuses such
--- a value, and an option that is not named has its own default.
+-- Which choice the arguments of the command line make, when they are refused, and what `read_arguments` may return for them, by the definitions of the crate
+-- `clap`. In this file `words` are the arguments; the first is the program's name. For a value that "never occurs" the function returns a default: the command
+-- of `clap` (`cf_command`) refuses such a value, and an option that is not named has its own default.
 use Rattle.std.specs.Prelude.{◌≡◌, ◌≢◌, ⊤, ℕ, List, [], Option, Some, None, Result, Ok, Err, codes, false, if◌then◌else◌}
 use Rattle.std.specs.Str.{bytes_eq}
 use Rattle.std.specs.Str.Parse.{digits_value, without_leading_plus}

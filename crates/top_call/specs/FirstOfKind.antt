@@ -1,4 +1,5 @@
--- The first manager of a kind in a list of managers: the one that mode `run` uses.
+-- The first manager of a kind in a list of managers, which mode `run` uses, or a closed one if there is none; and the list of managers with another state in
+-- its place.
 use Rattle.std.specs.Prelude.{ℕ, Bool, true, false, List, Option, Some, None, slice_index_or, slice_set}
 use Rattle.std.specs.List.{position}
 use Rattle.run_model.specs.Terms.{closed_state, HalfFit, HeapState, Kind, Moving, NonMoving, Tlsf}

@@ -17,7 +17,8 @@ abbrev pub image_shown : Option ShownHeap → List ℕ
 image_shown None = []
 image_shown (Some t) = image_under t.heap.profile (objects t.heap.held)
 
--- Mode `save`: the script has some replies that meet the headline and lead to the heap `left`, and what is printed is the image of this heap.
+-- Mode `save`: the script has some replies that meet the claim of mode `run` (`MeetsHeadline`) for kind Moving, and lead to the heap `left` (None without a
+-- `heap` line); and what is printed is the image of this heap (`image_shown`).
 pub record MeetsSave (script : List Item) (printed : List ℕ) : Type 0 where
   pub replies : List Reply
   pub left : Option ShownHeap

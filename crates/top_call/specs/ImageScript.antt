@@ -9,8 +9,8 @@ use Rattle.heap_image.specs.Heaps.{live_objects}
 use Rattle.script_laws.specs.ById.{ById, begun}
 use Rattle.script_laws.specs.Transcripts.{after_at}
 
--- n write commands, where n is the first argument: they write `bytes` into the object of `id`, from its byte `at` on, 4,096 bytes each; the last command may
--- write fewer
+-- n write commands, where n is the first argument: they write the first 4,096n of `bytes` into the object of `id`, from its byte `at` on, 4,096 bytes each; if
+-- there are fewer bytes, the last commands write fewer or none
 unfoldable pub writes_from : ℕ → ℕ → ℕ → List ℕ → List Command
 writes_from zero id at bytes = []
 writes_from (suc more) id at bytes = Write id at (take 4096 bytes) ∷ writes_from more id (at + 4096) (drop 4096 bytes)
@@ -36,7 +36,7 @@ commands_of (e ∷ es) = object_commands e.0 e.1 ++ commands_of es
 abbrev pub opening_line : Profile → List ℕ
 opening_line p = heap_line p.pages (8 * p.page_words) 1 p.proxies
 
--- the script that makes these objects by id, in rising order of the ids, on a heap with the settings `p`
+-- the script that makes these objects by id, in rising order of the ids, on a heap with the settings `p`, but with the bound 1
 abbrev pub script_under : Profile → Objects → List ℕ
 script_under p objects = opening_line p ++ command_lines (commands_of (entries objects))
 
@@ -53,6 +53,6 @@ after_items kind t (item ∷ rest) = after_items kind (after_at kind t item) res
 abbrev pub state_of_objects : Profile → Objects → ById
 state_of_objects p o = record (begun Moving p) { objects = o }
 
--- the items of the script that makes the objects `o` on a heap with the settings `p`
+-- the items of the script that makes the objects `o` on a heap with the settings `p`, whose bound must be 1, as that of the script's `heap` line is
 abbrev pub script_items : Profile → Objects → List Item
 script_items p o = starts p ∷ map (λ c. asks c) (commands_of (entries o))

@@ -1,5 +1,5 @@
--- The contract of `load_script`, by status: an image is loaded and the script that makes its objects is written, or a line `bad image`, or nothing. `from`
--- is the state of the run before, `to` after it.
+-- The contract of `load_script`, by status: an image is loaded and the script that makes its objects is written, or a line `bad image`, whole or in part, or
+-- nothing. `from` is the state of the run before, `to` after it.
 use Rattle.std.specs.Prelude.{◌≡◌, ℕ, List, [], Option, Result, Ok, Err, codes}
 use Rattle.cf_base.specs.declared.settings.Settings.{Settings}
 use Rattle.run_model.specs.Terms.{appended, led, RunState, said, Status, with_number}

@@ -1,4 +1,5 @@
--- For the laws of `cf_main`: conditions under which the arguments (here `words`) and the script determine the output of a call.
+-- For the laws of `cf_main`: conditions under which the arguments (here `words`) and the script determine the output of a call; and the claim that a call
+-- printed the replies of runs in order.
 use Rattle.std.specs.Prelude.{◌≡◌, ⊤, ℕ, IsSome, List, [], ◌∷◌, Option, None, Some, map}
 use Rattle.std.specs.List.{All}
 use Rattle.clap.specs.Words.{Text}

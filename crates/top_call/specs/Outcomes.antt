@@ -1,5 +1,6 @@
--- What a call of each mode of this crate did. A record for each mode relates three things: the source, the sink and the
--- managers before the call (`old`), its status, and the same devices and managers after it (`new`).
+-- What a call of each mode of this crate did (of modes `slice` and `quota` in `TopOutcome`). A record for each mode relates three things: the source, the sink
+-- and the managers before the call (`old`), its status, and the same devices and managers after it (`new`). `EndsWithCause` adds that kinds and promises of an
+-- order stay, and the causes of the status. `EndsWhole` has the statuses of a call that did all, or lacked memory.
 use Rattle.std.specs.Prelude.{◌≡◌, ◌⊎◌, Bool, IsSome, List, None, is_some, map}
 use Rattle.run_model.specs.Terms.{closed_state, fresh_session, HeapState, Kind, Moving, RunState, SinkState, SourceState, Status}
 use Rattle.cf_base.specs.declared.status.Status.TheVariants.{Done, OutOfMemory}
@@ -53,8 +54,8 @@ pub record Compares (old : CallState) (status : Status) (new : CallState) : Type
   pub outcome : MeetsOutcome many_managers (fresh_side_by_side old.managers) (effects_of old status new) end
   pub stand : new.managers ≡ end.heaps
 
--- Mode `bench`: the commands generated from the seed ran on a manager made for them, up to the state `end`, and the counts are printed. That manager promises
--- an order. Nothing is read, and no given manager changes.
+-- Mode `bench`: the commands generated from the seed ran on a manager made for them, up to the state `end`, and the counts are printed, as `EndsBench` says for
+-- the status. That manager promises an order. Nothing is read, and no given manager changes.
 pub record Benches (choice : Choice) (old : CallState) (status : Status) (new : CallState) : Type 0 where
   pub end : RunState
   pub outcome : EndsBench status choice.seed choice.count (run_at fresh_session (closed_state choice.kind)) end old.sink.written new.sink.written
@@ -81,15 +82,15 @@ abbrev pub PlaysLarge : CallState → Status → CallState → Type 0
 PlaysLarge = PlaysOwn large_heap IsMadeLarge
 
 -- Mode `save`: the script ran on a moving manager made for it, up to the state `end`, and its replies were not printed; the objects live at the end were
--- written as an image. That manager promises an order. No given manager changes.
+-- written as an image, as `EndsSave` says for the status. That manager promises an order. No given manager changes.
 pub record Saves (old : CallState) (status : Status) (new : CallState) : Type 0 where
   pub end : RunState
   pub outcome : EndsSave (run_at fresh_session (closed_state Moving)) (effects_of old status new) end
   pub ordered : IsSome end.heap.order
   pub untouched : new.managers ≡ old.managers
 
--- Mode `load`: an image was read into a moving manager made for it, up to the state `end`, and a script that makes its objects was printed. No given manager
--- changes.
+-- Mode `load`: an image was read into a moving manager made for it, up to the state `end`, and a script that makes its objects was printed, or a line
+-- `bad image`, or nothing, as `EndsLoad` says for the status. No given manager changes.
 pub record Loads (old : CallState) (status : Status) (new : CallState) : Type 0 where
   pub end : RunState
   pub outcome : EndsLoad (run_at fresh_session (closed_state Moving)) (effects_of old status new) end

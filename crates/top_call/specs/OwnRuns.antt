@@ -1,4 +1,5 @@
--- A run of many managers side by side as separate runs, one for each manager, whose replies are interleaved. A list of kinds has the kind of each manager.
+-- A run of many managers side by side as separate runs, one for each manager, whose replies are interleaved, whole or up to a cut reply; what is claimed of
+-- these replies; and the managers after the runs. A list of kinds has the kind of each manager.
 use Rattle.std.specs.Prelude.{◌≡◌, ◌++◌, ◌⊎◌, ⊤, ℕ, List, [], ◌∷◌, Option, Some, None, map}
 use Rattle.run_model.specs.Terms.{asks, bad, bad_line, Command, HeapState, Item, Kind, led, Reply, RunState, said, starts}
 use Rattle.run_model.specs.Runs.{Run}
@@ -43,7 +44,7 @@ OwnRuns [] items replies end = (replies ≡ map bare_reply items) × HasNoManage
 OwnRuns (kind ∷ kinds) items replies end = (owns : List Reply) × (others : List Reply) × (own : Option RunState) × (rest : Option (List RunState))
     × Run kind None items owns own × OwnRuns kinds items others rest × (replies ≡ interleaved_replies kind items owns others) × JoinStates own rest end
 
--- `replies` interleaves a list of replies to the items for each kind, and each list meets the headline of its kind.
+-- `replies` interleaves a list of replies to the items for each kind, and each list meets the claim of mode `run` for its kind (`MeetsHeadline`).
 abbrev pub MeetHeadlines : List Kind → List Item → List Reply → Type 0
 MeetHeadlines [] items replies = replies ≡ map bare_reply items
 MeetHeadlines (kind ∷ kinds) items replies = (owns : List Reply) × (others : List Reply)

@@ -1,4 +1,5 @@
--- One command on many managers, after some of them have done it: what `answer_one` and the loop of `answer_each` claim. No public clause cites this module.
+-- One command on many managers, after some of them have done it: what `answer_one`, `answer_each` and its loop claim. No clause of an exported function cites
+-- this module.
 use Rattle.std.specs.Prelude.{◌≡◌, ◌++◌, ℕ, List, [], Option, Result, Ok, Err, length}
 use Rattle.run_model.specs.Terms.{appended, Command, led, Reply, RunState}
 use Rattle.run_model.specs.Runs.{IsCommandStep}
@@ -17,8 +18,8 @@ pub record TurnNamedInPart (old : RunState) (c : Command) (out : List ℕ) (new 
   pub turn : IsCommandStep old c own new
   pub cut : led [] (named_lines old.heap.kind own) ≡ out ++ lost
 
--- The command c led from the state `old` to `new`, and the sink, which held the bytes `before`, holds `after`. `Ok`: by the relation `turns`, and its reply
--- was written. `Err`: the sink failed, the relation `in_part` holds, and `out`, a prefix of the reply, was written.
+-- The command c led from the state `old` to `new`, and the sink, which held the bytes `before`, holds `after`. `Ok`: the relation `turns` holds, and the whole
+-- reply was written. `Err`: the sink failed, the relation `in_part` holds, and `out`, a prefix of the reply, was written.
 abbrev pub AnswersWith : {S T E : Type 0} → (S → Command → Reply → S → Type 0) → (S → Command → List ℕ → S → Type 0) → S → Option (List ℕ) → Command
     → Result T E → S → Option (List ℕ) → Type 0
 AnswersWith turns in_part old before c (Ok u) new after = (reply : Reply) × turns old c reply new × (after ≡ appended before (led [] reply))

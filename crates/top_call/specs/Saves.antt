@@ -33,8 +33,8 @@ pub record CanBeSaved (s : RunState) : Type 0 where
   pub kind : s.heap.kind ≡ Moving
   pub have : HaveImage (at_bound_one s.heap.profile) (live_objects s)
 
--- what the call did: the script led the run from `from` to `to`; the image of `to`, or a prefix of it, was written; and if the
--- status is `Done` and a heap was opened, its objects have an image (`CanBeSaved`)
+-- what the call did: the script led the run from `from` to `to`; by the status the image of `to`, a prefix of it, or nothing was written (`WritesAtEnd`); and
+-- if the status is `Done` and a heap was opened, its objects have an image (`CanBeSaved`)
 pub record EndsSave (from : RunState) (call : Effects) (to : RunState) : Type 0 where
   pub script : MeetsOutcome one_manager from (unseen call) to
   pub written : WritesAtEnd call.status call.before (saved to) call.after

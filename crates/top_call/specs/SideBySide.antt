@@ -1,5 +1,5 @@
--- Managers side by side, each with its session: how they begin, do one command, and stop if the sink cuts a reply. It ends with the mode handler's relations
--- (`many_managers`).
+-- Managers side by side, each with its session: how they begin, do one command, and stop if the sink cuts a reply or an allocation fails. The file ends with
+-- the mode handler's relations (`many_managers`).
 use Rattle.std.specs.Prelude.{◌≡◌, ◌++◌, ◌⊎◌, ℕ, Bool, List, [], ◌∷◌, codes, is_some, length, map}
 use Rattle.std.specs.List.{All}
 use Rattle.run_model.specs.Terms.{Command, fresh_session, HeapState, IsGoing, Kind, led, Profile, Reply, RunState, SessionState}

@@ -1,4 +1,4 @@
--- The contract of `cf_main`: what a call did, and what it printed, by the mode that the arguments (here `words`) choose.
+-- The contract of `cf_main`: what a call did, what it printed, and which input is right for it, by the mode that the arguments (here `words`) choose.
 use Rattle.std.specs.Prelude.{◌≡◌, ⊤, ℕ, List, Option, Some, None}
 use Rattle.run_model.specs.Terms.{empty, Kind, Moving, Status}
 use Rattle.clap.specs.Words.{Text}
@@ -56,8 +56,8 @@ pub record DoesChosen (words : List Text) (old : CallState) (status : Status) (n
   pub chosen : Chooses words choice
   pub done : InMode choice.mode choice old status new
 
--- With the status `Words` the arguments are refused, and the call changed nothing. With any other it did what they choose; but with `OutOfMemory` it may have
--- changed nothing, and wrote nothing (`OrLacks`).
+-- With the status `Words` the arguments are refused, and the call changed nothing. With `OutOfMemory` it wrote nothing, and either changed nothing or did what
+-- the arguments choose (`OrLacks`). With any other status it did what they choose.
 abbrev pub EndsWell : List Text → CallState → Status → CallState → Type 0
 EndsWell words old Words new = AreRefused words × (new ≡ old)
 EndsWell words old status new = OrLacks (DoesChosen words) old status new
@@ -67,9 +67,11 @@ abbrev pub PrintsBytes : (Status → List ℕ → List ℕ → Type 0) → Optio
 PrintsBytes Claim None call = ⊤
 PrintsBytes Claim (Some read) call = Prints Claim read call
 
--- What is claimed of the output, by the mode. `run`: the replies meet the headline. `compare`: those of each manager do. `large`, `quota` and, but for the word
--- that `p` prints, `slice`: each reply is a function of the lines. `save` (`SavesAs`): if all is done, the image of the objects that the script leaves. `load`
--- (`LoadsAs`): the script of the image read. Of `bench`, which reads nothing, clause `outcome` of `cf_main` has the whole claim.
+-- What is claimed of the output of a call in this mode, if its source is observable; `kinds` are those of the given managers. `run`: the items and the replies
+-- meet `MeetsHeadline` for the chosen kind. `compare`: so do the replies of each manager, for its kind. `large`, `slice`, `quota`: each reply is fixed by its
+-- line and the lines before it, except the word that `p` prints in mode `slice`. `save` (`SavesAs`): the image of the objects that the script leaves; nothing
+-- unless the status is `Done`. `load` (`LoadsAs`): the script that makes the image's objects, or the line `bad image`. `bench`: nothing is claimed here, since
+-- clause `outcome` of `cf_main` has the whole claim.
 abbrev pub PrintsInMode : Mode → Choice → List Kind → Effects → Type 0
 PrintsInMode Run choice kinds call = MeetsClaim (MeetsHeadline choice.kind) call.had call
 PrintsInMode Compare choice kinds call = MeetsClaim (MeetHeadlines kinds) call.had call
@@ -95,7 +97,8 @@ AnswersInput status = AnswersAll status
 abbrev pub PrintsAsClaimed : List Text → CallState → Status → CallState → Type 0
 PrintsAsClaimed words old status new = AnswersInput status → PrintsChosen words (kinds_in old) (effects_of old status new)
 
--- the input is right for the mode: an image, or a script within the limit with no bad line; mode `bench` reads nothing
+-- the input `had` is observable and right for the mode: in mode `load` an image, else a script within the limit with no bad line; in mode `bench`, which reads
+-- nothing, any input is right, observable or not
 abbrev pub IsRightInput : Mode → Option (List ℕ) → Type 0
 IsRightInput Bench had = ⊤
 IsRightInput Load had = GivesImage had

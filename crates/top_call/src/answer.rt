@@ -1,5 +1,6 @@
 //! `answer_each`: does one command of a script on each manager in order, and writes their replies, each
-//! line after the name of the manager's kind.
+//! line after the name of the manager's kind. The run of each manager with its session must be in
+//! progress (`IsGoing`), and the command well formed (`IsWellFormed`).
 ghost use Rattle.std.specs.Prelude.{◌≡◌, ◌≤◌, is_some, length, map};
 ghost use Rattle.std.specs.List.{All};
 ghost use Rattle.run_model.specs.Terms.{IsGoing, IsWellFormed, owned_command, SinkFailsIf};
@@ -15,10 +16,10 @@ use cf_model::Manager;
 use cf_session::Session;
 use script_reader::CommandRef;
 
-/// In mode `compare`, does a command on each manager in order, in the session with the same index,
-/// and writes each line of a manager's reply after the name of the manager's kind. Returns `Failed`
-/// if the sink failed. Then the managers up to the one whose reply was cut have done the command,
-/// and those after it have not.
+/// In mode `compare`, does a command on each manager in order, in the session with the same index
+/// (there must be as many sessions as managers), and writes each line of a manager's reply after
+/// the name of the manager's kind. Returns `Failed` if the sink failed. Then the managers up to the
+/// one whose reply was cut have done the command, and those after it have not.
 pub fn answer_each<H: Manager, K: Sink>(
     sessions: &mut Vec<Session>,
     managers: &mut Vec<H>,

@@ -1,6 +1,7 @@
-//! Laws of the arguments: they make at most one choice, `read_arguments` returns this choice,
-//! `Refused` or `OutOfMemory`, and examples of arguments with the choices that they make, or that
-//! are refused.
+//! Laws of the arguments: `clap` reads them alike at whatever addresses the names of modes and kinds
+//! are; they make at most one choice, and none if they are refused; `read_arguments` returns this
+//! choice, `Refused` or `OutOfMemory`; and examples of arguments with the choices that they make, or
+//! that are refused.
 ghost use Rattle.std.specs.Prelude.{◌⊎◌, ◌≡◌, ◌∷◌, [], Err, List, Ok, Result, codes};
 ghost use Rattle.cf_base.specs.Kind.{kind_name};
 ghost use Rattle.cf_base.specs.declared.kind.Kind.{Kind};
@@ -50,22 +51,22 @@ pub fn no_arguments_choose_the_defaults()
     ensures { (name : Text) → Chooses (name ∷ []) (chosen Run Moving 0 1000 16) }
 {}
 
-/// For each mode and kind: the mode's name and then `--manager`, the kind's name, `--seed 5`, `--count=7` and
-/// `--quantum=8` make the choice of these values.
+/// For each mode and kind: after the program's name, the mode's name and then `--manager`, the kind's name,
+/// `--seed 5`, `--count=7` and `--quantum=8` make the choice of these values.
 pub fn arguments_choose_what_they_say()
     ensures { (name : Text) (mode : Mode) (kind : Kind) → Chooses
         (name ∷ mode_name mode ∷ codes "--manager" ∷ kind_name kind ∷ codes "--seed" ∷ codes "5" ∷ codes "--count=7" ∷ codes "--quantum=8" ∷ [])
         (chosen mode kind 5 7 8) }
 {}
 
-/// A mode or a kind whose name is not in the list is refused. These two examples differ from `run` in the case
-/// of a letter, and from `half` in a letter.
+/// Two examples of names that are refused, since they are not in the list: the mode `Run`, which differs from
+/// `run` in the case of a letter, and the kind `halt`, which differs from `half` in a letter.
 pub fn other_names_are_refused()
     ensures mode { (name : Text) → AreRefused (name ∷ codes "Run" ∷ []) }
     ensures manager { (name : Text) → AreRefused (name ∷ codes "--manager" ∷ codes "halt" ∷ []) }
 {}
 
-/// `--help` as the first argument is refused, whatever follows it.
+/// `--help` right after the program's name is refused, whatever follows it.
 pub fn help_is_refused()
     ensures { (name : Text) (rest : List Text) → AreRefused (name ∷ codes "--help" ∷ rest) }
 {}

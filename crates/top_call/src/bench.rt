@@ -103,8 +103,9 @@ fn run_bench<H: Manager, K: Sink>(
     figures.put(sink)
 }
 
-/// In mode `bench`, applies the first `count` commands that the generator makes of the seed. Counts how many of their
-/// replies are good, that is `ok` or the bytes of a read, and how many are refusals.
+/// In mode `bench`, applies the first `count` commands that the generator makes of the seed, in a run that must be in
+/// progress (`IsGoing`). Returns how many of their replies are good, that is `ok` or the bytes of a read, and how many
+/// are refusals.
 fn apply_commands<H: Manager>(session: &mut Session, heap: &mut H, seed: u64, count: u64) -> Tally
     requires { IsGoing (run_at session.old (H.state heap.old)) }
     ensures applied { IsAppliedTo (run_at session.old (H.state heap.old)) (generated seed count) (run_at session.new (H.state heap.new))

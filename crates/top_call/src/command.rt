@@ -1,5 +1,6 @@
 //! Builds the `clap` command, the description by which the crate `clap` reads the arguments: for each
-//! argument its name, the values that it may have, and its default.
+//! argument its name, the values that it may have, and its default. No argument is `global`, that is, valid
+//! for subcommands too.
 ghost use Rattle.std.specs.Prelude.{◌≡◌, IfOk, false};
 ghost use Rattle.clap.specs.Words.{app_of, rule_of};
 ghost use Rattle.top_call.specs.Command.{IsCfApp, count_rule, manager_rule, mode_rule, quantum_rule, seed_rule};

@@ -1,7 +1,8 @@
-//! Laws of heap images and of modes `save` and `load`: which bytes are an image, how many bytes it
-//! has, that the script that `load` prints makes the image's objects, that the two modes undo each
-//! other, and that their claims exclude wrong output. The functions do nothing but call other laws
-//! for their contracts: the contract of each is a theorem.
+//! Laws of heap images and of modes `save` and `load`: which bytes are an image, that a broken rule
+//! of images stays broken, how many bytes an image has, that the script that `load` prints makes the
+//! image's objects, that the two modes undo each other, and that their claims exclude wrong output.
+//! The functions do nothing but call other laws for their contracts: the contract of each is a
+//! theorem.
 ghost use Rattle.std.specs.Prelude.{IsTrue, ◌≡◌, ◌≢◌, ◌↔◌, ◌+◌, ◌*◌, ◌<◌, ◌^◌, ◌++◌, [], ℕ, List, None, Option, Some, codes, false, length, map, true};
 ghost use Rattle.run_model.specs.Terms.{AreBytes, at_bound_one, EveryBoundIsOne, get, insert, IsGoing, Item, items, len, Moving, Objects, paging_in, Profile, Reply, RunState, said};
 ghost use Rattle.cf_base.specs.declared.status.Status.TheVariants.{BadImage, Done};
@@ -35,14 +36,14 @@ pub fn only_images_are_read()
 }
 
 /// If `bytes` break a rule of images, and not only because they end too early, then all longer bytes that
-/// begin with them break it at the same offset. So a prefix of an image breaks no rule except that it ends
-/// too early.
+/// begin with them decode to the same, and break the rule at the same offset. So a prefix of an image breaks
+/// no rule except that it ends too early.
 pub fn a_broken_rule_stays_broken()
     ensures { (bytes more : List ℕ) (at : ℕ) → (decoded bytes).broken ≡ Some at → (decoded bytes).is_cut ≡ false
         → decoded (bytes ++ more) ≡ decoded bytes }
 {}
 
-/// If ids have 16 bits, an image has 20 bytes, 6 for each object, and the bytes of all objects.
+/// If ids have 16 bits, the length of an image is 20 bytes, and for each object 6 bytes and the object's own.
 pub fn the_size_of_an_image_is_known_beforehand()
     ensures { (p : Profile) (o : Objects) → ((id : ℕ) (v : List ℕ) → get o id ≡ Some v → id < 2 ^ 16)
         → length (image_under p o) ≡ 20 + 6 * len o + asked_bytes o }
@@ -51,7 +52,7 @@ pub fn the_size_of_an_image_is_known_beforehand()
 /// Four facts about the script that mode `load` prints for objects `o`, if they have an image under the
 /// settings `p`. `read`: its items are the `heap` line and the commands that make the objects. `clean`: it
 /// has no bad line and is within the limit of a script. `makes`: its items leave exactly the objects `o`.
-/// `replies`: in every run each reply is `ok`.
+/// `replies`: in every run on a moving manager each reply is `ok`.
 pub fn printed_scripts_are_read_back()
     ensures read { (p : Profile) (o : Objects) → HaveImage p o → items (script_under p o) true ≡ script_items p o }
     ensures clean { (p : Profile) (o : Objects) → HaveImage p o → IsClean (Some (script_under p o)) }

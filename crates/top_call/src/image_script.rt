@@ -45,7 +45,8 @@ impl ObjectWriter for Lines {
 
 /// Writes the script that makes the live objects of a heap of kind Moving: the `heap` line of the
 /// settings `s`, with bound 1, and for each live id in rising order an `m` line and `w` lines of
-/// 4,096 bytes each; the last of an object may have fewer. The session maps the ids to handles.
+/// 4,096 bytes each; the last of an object may have fewer. The session maps the ids to handles. The
+/// heap must be open with the settings `s`, and the session consistent with it (`AreTied`).
 pub fn print_script<H: Manager, K: Sink>(
     s: &Settings,
     heap: &H,
@@ -90,7 +91,8 @@ fn put_malloc<K: Sink>(id: u16, n: u32, line: &mut Line, out: &mut K) -> Result<
 }
 
 /// For mode `load`, writes `w` lines for the `n` bytes of the object with the handle `h`, which
-/// `id` names, at most 4,096 bytes each. `buffer` is scratch, for the bytes of one line.
+/// `id` names, at most 4,096 bytes each. The heap must be open, and the handle live. `buffer`, of
+/// 4,096 bytes, is scratch, for the bytes of one line.
 fn put_writes<H: Manager, K: Sink>(
     heap: &H,
     id: u16,
@@ -125,7 +127,8 @@ fn put_writes<H: Manager, K: Sink>(
     Ok(())
 }
 
-/// For mode `load`, writes the `w` line that writes `bytes` into the object of `id` from byte `at` on.
+/// For mode `load`, writes the `w` line that writes `bytes`, at most 4,096, into the object of `id`
+/// from byte `at` on.
 fn put_write<K: Sink>(
     id: u16,
     at: u32,

@@ -1,7 +1,8 @@
 //! Laws of many managers on one script (mode `compare`), and of calls of `cf_main`: the run and the
 //! output of each manager, and when two calls print the same bytes. Each manager has its own run,
 //! whose replies meet the claim of mode `run`; a cut stops between two managers; what was written
-//! is a prefix. On managers that promise an order, a call prints the replies of runs in that order.
+//! is a prefix. On managers that promise an order, as those do that were never open, a call prints
+//! the replies of runs in that order.
 //! The last law has the steps from which the step bounds of long objects follow. The functions do
 //! nothing: their contracts are the laws.
 ghost use Rattle.std.specs.Prelude.{◌≡◌, ℕ, IsSome, List, Option, map, ◌++◌, [], None, Some, option_map};
@@ -45,9 +46,9 @@ pub fn equal_scripts_get_equal_output()
         → (two.status ≡ one.status) × (two.new.sink.written ≡ one.new.sink.written) }
 {}
 
-/// In mode `run`, on a manager that promises an order, the replies printed are those of a run in that
-/// order: each address, choice, word and count of steps follows from the order. There is one
-/// such list of replies (`one_output` of `script_laws`).
+/// In mode `run`, on a manager that promises an order, a call that answered every item printed the
+/// replies of a run in that order: each address, choice, word and count of steps follows from the
+/// order. There is one such list of replies (`one_output` of `script_laws`).
 pub fn a_run_in_order_is_printed()
     ensures { (words : List Text) (choice : Choice) (all : List ℕ) (call : TopCall) → Chooses words choice
         → choice.mode ≡ Run → KeepsContract words call → AnswersWhole all call
@@ -55,9 +56,10 @@ pub fn a_run_in_order_is_printed()
         → PrintsReplies (IsRunInOrder choice.kind) all call }
 {}
 
-/// In mode `compare`, on managers that each promise an order, the replies printed interleave those
-/// of a run of each manager in its order (clause `printed`). There is at most one such list of
-/// replies to items of which only the first may be a `heap` line (`one`), as in every script.
+/// In mode `compare`, on managers that each promise an order, a call that answered every item
+/// printed replies that interleave those of a run of each manager in its order (clause `printed`).
+/// There is at most one such list of replies to items of which only the first may be a `heap` line
+/// (`one`), as in every script.
 pub fn a_comparison_in_order_is_printed()
     ensures printed { (words : List Text) (choice : Choice) (all : List ℕ) (call : TopCall) → Chooses words choice
         → choice.mode ≡ Compare → KeepsContract words call → AnswersWhole all call
@@ -75,9 +77,9 @@ pub fn closed_managers_leave_no_choice()
         → LeavesNoChoice mode choice (map closed_state kinds) }
 {}
 
-/// Two benches of one seed and one count on managers of one kind print the same line, with all six
-/// numbers. Clause `calls`: two calls in mode `bench`. Clause `runs`: any two benches whose managers promise
-/// an order at the end.
+/// Two benches of one seed and one count on managers of one kind, both with the status `Done`, print the
+/// same line, with all six numbers, if their sinks have the same bytes before. Clause `calls`: two calls
+/// in mode `bench`. Clause `runs`: any two benches whose managers promise an order at the end.
 pub fn equal_benches_print_equal_lines()
     ensures calls { (choice : Choice) (one two last end : CallState)
         → Benches choice one Done last → Benches choice two Done end
@@ -152,9 +154,10 @@ pub fn what_was_cut_is_a_prefix()
         → IsPrefixBy many_managers from (items_within all) (text_of [] w.replies ++ w.front) }
 {}
 
-/// The steps that calls of the manager inside a heap of long objects take; the step bounds of long
-/// objects follow from these. If the manager promises an order, a moving one takes at most
-/// `moving_costs` (clause `moving`), and a non-moving one at most `nonmoving_costs` (`non_moving`).
+/// The steps that calls of the manager inside a heap of long objects take if they succeed; the step
+/// bounds of long objects follow from these. If the manager promises an order, a moving one takes at
+/// most `moving_costs` (clause `moving`), and a non-moving one at most `nonmoving_costs`
+/// (`non_moving`). For a read or a write these numbers are exact.
 pub fn long_objects_take_the_steps_of_their_manager()
     ensures moving { (s : HeapState) → s.kind ≡ Moving → IsSome s.order
         → AreInnerCosts s ⟦<MovingHeap as StepBounds>⟧.most moving_costs }

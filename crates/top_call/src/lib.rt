@@ -1,7 +1,8 @@
 //! The top call `cf_main`: parses the arguments and runs the mode that they choose, over any source, any sink
 //! and any managers. `cf_tool` calls it with standard input and output. Each of the eight modes has a function.
 //! In mode `compare` many managers run a script side by side: each has a session; each command is done on one
-//! after the other, and each line of a reply begins with the name of the manager's kind.
+//! after the other, and each line of a reply begins with the name of the manager's kind. Laws of arguments,
+//! images and calls are here too.
 #![tactic(auto)]
 
 mod answer;

@@ -17,7 +17,8 @@ use std::rt::Memory;
 use tlsf_heap::TlsfHeap;
 
 /// In mode `run`, runs a script on the first of `managers` that is of the kind; if there is none, on a new one, which
-/// is dropped at the end. Returns the status, `OutOfMemory` also if the session or the new manager can't be allocated.
+/// is dropped at the end. No other manager changes. Returns the status, `OutOfMemory` also if the session or the new
+/// manager can't be allocated.
 pub fn run_chosen<H: Manager, S: Source, K: Sink>(
     memory: Memory,
     alloc: Global,
@@ -39,8 +40,8 @@ pub fn run_chosen<H: Manager, S: Source, K: Sink>(
     }
 }
 
-/// In mode `run`, runs a script on a closed manager of the kind, which is made for it, with a new
-/// session. The manager is in a box, as those of `cf_tool` are: so only mode `bench` compiles a
+/// In mode `run`, runs a script on a closed manager of the kind, which is made for it. `session`
+/// must be new. The manager is in a box, as those of `cf_tool` are: so only mode `bench` compiles a
 /// session over an unboxed manager. Returns the status, `OutOfMemory` also if the manager can't be
 /// allocated.
 fn run_own<S: Source, K: Sink>(

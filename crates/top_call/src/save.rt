@@ -18,7 +18,8 @@ use step_ledger::Meter;
 /// Runs a script on a closed manager of kind Moving, drops its replies, and writes the image of the
 /// objects that are live at the end; nothing if the script has no `heap` line. Returns `Done`, or
 /// `WriteFault` if the sink failed, after a prefix of the image. If the script doesn't end with
-/// `Done`, writes nothing and returns its status.
+/// `Done`, writes nothing and returns its status. The session must be new, and `mode_handler` have
+/// no settings.
 pub fn save_script<H: Manager, S: Source, K: Sink>(
     memory: Memory,
     mode_handler: &mut WithSettings<Session>,

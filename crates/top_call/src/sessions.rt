@@ -49,8 +49,9 @@ impl<H: Manager> ModeHandler<Vec<H>> for Sessions {
     ghost semantics = { many_managers };
 
     /// In mode `compare`, opens all managers in order with the settings of the `heap` line, and
-    /// writes a line with `ok` for each. Fails with `OutOfMemory` if a manager can't be opened, and
-    /// then nothing is written; and with `Failed` if the sink fails.
+    /// writes a line with `ok` for each. Fails with `OutOfMemory` if a manager can't be opened: then
+    /// nothing is written, and the managers after it are unchanged. Fails with `Failed` if the sink
+    /// fails: then all managers are open, and a prefix of the lines was written.
     fn open<K: Sink>(
         &mut self,
         heap: &mut Vec<H>,

@@ -12,7 +12,8 @@ use std::alloc::Global;
 use std::rt::Memory;
 
 /// In mode `slice`, runs a script on a sliced heap that is made for it. Each free and each command `s` does at most
-/// `quantum` words of the pending job. Returns the status, `OutOfMemory` also if the session can't be allocated.
+/// `quantum` words, from 1 to 16,384, of the pending job. Returns the status, `OutOfMemory` also if the session can't
+/// be allocated.
 pub fn play_slices<S: Source, K: Sink>(
     memory: Memory,
     alloc: Global,

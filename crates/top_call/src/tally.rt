@@ -12,7 +12,8 @@ pub(crate) struct Tally {
 }
 
 impl Tally {
-    /// For mode `bench`, counts one more reply, by its outcome; `Other` is counted in neither.
+    /// For mode `bench`, counts one more reply, by its outcome; `Other` is counted in neither. The
+    /// sum of the two counts must be less than `2^64 - 1`.
     pub(crate) fn add(&mut self, outcome: Outcome)
         requires { self.old.ok + self.old.refused + 1 < 2 ^ 64 }
         ensures ok { self.new.ok ≡ self.old.ok + cond (is_good outcome) 1 0 }

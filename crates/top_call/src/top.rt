@@ -1,4 +1,5 @@
-//! `cf_main`, the top call: parses the arguments and runs the chosen mode.
+//! `cf_main`, the top call: parses the arguments and runs the chosen mode. `run_arguments` does the
+//! same without a `HostRuntime`, for instance for an export.
 ghost use Rattle.std.specs.Prelude.{◌≡◌, ◌<◌, ◌≤◌, ◌+◌, ◌⊎◌, is_some, map, string_bytes, true};
 ghost use Rattle.cf_io.specs.Feeds.{SinkFailsIf, SourceFailsIf, last_count};
 ghost use Rattle.script_loop.specs.ScriptOutcome.{MOST_BYTES, is_read_fault, is_write_fault};
@@ -27,10 +28,11 @@ use std::rt::Memory;
 /// and the reply to each command is written before the next chunk is taken from the source. No
 /// other manager is touched. In mode `compare` every given manager runs the script, in order: each
 /// line of its replies begins with the name of its kind; `bad line` is printed once and without a
-/// name. Mode `bench` reads nothing: it runs generated commands on a manager made for them, and
-/// prints counts. Mode `save` prints no reply, but at the end the live objects as an image; mode
-/// `load` reads an image, and prints the script that makes its objects, or returns `BadImage`. In
-/// the modes `large`, `slice` and `quota` a heap that is made for the call runs the script.
+/// name. The other modes touch none of `managers`. Mode `bench` reads nothing: it runs generated
+/// commands on a manager made for them, and prints counts. Mode `save` prints no reply, but at the
+/// end the live objects as an image; mode `load` reads an image, and prints the script that makes
+/// its objects, or returns `BadImage`. In the modes `large`, `slice` and `quota` a heap that is made
+/// for the call runs the script.
 ///
 /// The call returns `Done` at the end of the input or of the bench; `BadScript` at a line that the
 /// grammar does not allow at its place; `TooLong` if the script has more than 268,435,455 bytes;
@@ -100,7 +102,8 @@ pub fn run_arguments<H: Manager, S: Source, K: Sink>(
     }
 }
 
-/// Runs the mode of `choice`, which has the values of the arguments, and returns the status.
+/// Runs the mode of `choice`, which has the values of the arguments, and returns the status. The
+/// quantum must be from 1 to 16,384 words.
 fn run_mode<H: Manager, S: Source, K: Sink>(
     memory: Memory,
     alloc: Global,

@@ -5,10 +5,10 @@ use cf_base::Kind;
 use std::test::Fail;
 use top_call::{ArgumentsFault, Choice, Mode, read_arguments};
 
-// Each row has arguments, and the mode, kind of manager, seed and count of commands that they choose. What
-// they don't name has its default: mode `run`, the moving manager, seed 0, 1,000 commands, slices of 16
-// words. An option may be before or after the mode, with `=` or a space before its value. A number may have
-// a `+` and leading zeros.
+// `read_arguments` accepts the arguments of each row, and returns the mode, kind of manager, seed and count of
+// commands that the row has after them. What arguments don't name has its default: mode `run`, the moving
+// manager, seed 0, 1,000 commands, slices of 16 words. An option may be before or after the mode, with `=` or
+// a space before its value. A number may have a `+` and leading zeros.
 #[test]
 fn arguments_are_taken(rt: HostRuntime) -> Result<(), Fail> {
     for (words, mode, kind, seed, count) in [
@@ -128,9 +128,9 @@ fn a_quantum_is_taken_in_each_mode(rt: HostRuntime) -> Result<(), Fail> {
     Ok(())
 }
 
-// `read_arguments` returns `Refused` for each of these: requests for help; unknown names of modes and managers
-// (upper and lower case differ); a second mode; an option that is unknown, given twice, or without a value;
-// and a number that is malformed or out of range.
+// `read_arguments` fails with `Refused` for each of these: requests for help or for the version; unknown names
+// of modes and managers (upper and lower case differ); a second mode; an option that is unknown, given twice,
+// or without a value; and a number that is malformed or out of range.
 #[test]
 fn arguments_are_refused(rt: HostRuntime) -> Result<(), Fail> {
     for words in [

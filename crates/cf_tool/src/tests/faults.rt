@@ -1,5 +1,6 @@
-//! Tests of modes `run` and `compare` on each kind: each call of the source, then each call of the sink, fails
-//! in turn, while the script `MOVE` runs.
+//! Tests of modes `run` and `compare` with managers of each kind. While the script `MOVE` runs, one call of the
+//! source or of the sink fails; each call has its turn. A test compares the status, the output and the managers
+//! with what the lines done before the fault lead to.
 
 use super::{ROOM, answer_on, closed_managers};
 use cf_base::{Handle, Kind, Status};
@@ -9,7 +10,8 @@ use std::alloc::{AllocError, Global};
 use std::test::Fail;
 use step_ledger::Meter;
 
-/// A script with a free that moves an object into the freed slot and returns a page to the pool.
+/// A script with a free (`f 3`) that, on a manager with pages, moves another object into the freed slot and leaves
+/// that object's page free.
 pub const MOVE: &[u8] =
     b"heap 2 512 1 8\nm 1 176\nm 2 176\nm 3 176\nm 4 176\nm 5 176\nw 2 0 a1b2\nf 1\nq 2\nq 3\nf 3\nq 2\nm 6 504\nr 2 0 2\n";
 
@@ -17,14 +19,14 @@ pub const MOVE: &[u8] =
 pub const MOVED: &[u8] =
     b"ok\nok\nok\nok\nok\nrefused space\nok\nok\nat 23\nat 64\nok\nat 64\nok\n=a1b2\n";
 
-/// The state of an open manager: the number of its live objects, and the address in words of the object with
-/// handle 1 (id 2), if it is live.
+/// What these tests call the state of an open manager: the number of its live objects, and the address in words
+/// of the object with handle 1 (id 2), if that object is live.
 type ManagerState = (u32, Option<u32>);
 
 /// The state of a manager after 0, 1, and so on up to 14 lines of `MOVE`; `None` while it is closed.
 type StatesByLine = [Option<ManagerState>; 15];
 
-/// The moving manager: the line `f 3` moves the object with handle 1 from word 23 to word 64.
+/// The states of the moving manager. The line `f 3` moves the object with handle 1 from word 23 to word 64.
 const MOVING: StatesByLine = [
     None,
     Some((0, None)),
@@ -43,8 +45,8 @@ const MOVING: StatesByLine = [
     Some((3, Some(64))),
 ];
 
-/// The non-moving manager, whose slots have 24 words: the line `f 3` moves the object with handle 1 from word 24 to
-/// word 64.
+/// The states of the non-moving manager, in which the objects of 176 bytes have slots of 24 words. The line `f 3`
+/// moves the object with handle 1 from word 24 to word 64.
 const NON_MOVING: StatesByLine = [
     None,
     Some((0, None)),
@@ -63,8 +65,8 @@ const NON_MOVING: StatesByLine = [
     Some((3, Some(64))),
 ];
 
-/// The managers with blocks, which move no object: five blocks of 24 words fit the region of 128 words, and the
-/// last malloc, of a whole page, is refused.
+/// The states of a manager with blocks, which moves no object. Five blocks of 24 words fit the region of 128
+/// words, and the last malloc, of a whole page, is refused.
 const BLOCKS: StatesByLine = [
     None,
     Some((0, None)),
@@ -83,9 +85,9 @@ const BLOCKS: StatesByLine = [
     Some((3, Some(24))),
 ];
 
-/// One way to run `MOVE`, and what it leads to: the arguments, the kinds of the managers, the whole output, and
-/// in `stands` the states of each manager. `calls` is the number of calls of a sink that takes at most 5 bytes a
-/// call.
+/// One way to run `MOVE`, and what it leads to if no call fails: the arguments (`words`), the kinds of the
+/// managers, the whole output (`text`), and in `stands` the states of each manager. `calls` is the number of calls
+/// in which a sink that takes at most 5 bytes a call gets the whole output.
 #[derive(Clone, Copy)]
 struct Answers {
     words: &'static [&'static str],
@@ -95,7 +97,7 @@ struct Answers {
     calls: u64,
 }
 
-/// The four kinds in mode `run`, and all of them in mode `compare`.
+/// The ways to run `MOVE`: mode `run` on each of the four kinds, and mode `compare` on all of them.
 const ANSWERS: [Answers; 5] = [
     Answers {
         words: &[],
@@ -134,7 +136,7 @@ const ANSWERS: [Answers; 5] = [
     },
 ];
 
-/// How many whole lines a source that returns 7 bytes a call has returned before each call.
+/// For each call of a source that returns `MOVE`, 7 bytes a call: how many whole lines were returned before it.
 const LINES: [usize; 16] = [0, 0, 0, 1, 2, 3, 4, 5, 6, 6, 8, 9, 11, 12, 13, 14];
 
 /// Returns the state of a manager; `None` if it is closed.
@@ -151,8 +153,9 @@ fn state_of_manager(rt: &HostRuntime, manager: &Boxed) -> Option<ManagerState> {
 /// A call that fails, and the outcome. If a call of the source fails, `take` is its number; if a call of the
 /// sink fails, `put` is its number. Both count from 0. Each call of the source that doesn't fail returns 7
 /// bytes, or fewer at the end, and each such call of the sink takes at most 5. `written` counts the bytes
-/// written, and `lines` the lines that have taken effect. If a reply was cut, it was that of manager number
-/// `cut`, counted from 0; on the managers after it one line less has taken effect.
+/// written, and `lines` the lines that have taken effect. If a call of the sink fails, the reply that it cuts is
+/// that of manager number `cut`, counted from 0; on the managers after it one line less has taken effect, unless
+/// the line is the `heap` line. If no call of the sink fails, `cut` is 4, past the last manager.
 #[derive(Clone, Copy, Debug)]
 struct Fault {
     take: Option<u64>,
@@ -163,7 +166,8 @@ struct Fault {
     cut: usize,
 }
 
-/// Returns the list of the numbers of the calls that fail: this one, or no number.
+/// Returns the list of the calls that fail, for a source or a sink: the number `call` alone; the empty list at
+/// `None`.
 fn failing(alloc: Global, call: Option<u64>) -> Result<Vec<u64>, AllocError> {
     let mut fails = Vec::new(alloc);
     if let Some(call) = call {
@@ -172,8 +176,9 @@ fn failing(alloc: Global, call: Option<u64>) -> Result<Vec<u64>, AllocError> {
     Ok(fails)
 }
 
-/// Returns whether each manager has the state that the lines before the fault lead to. The `heap` line opens all
-/// managers before the first reply.
+/// Returns whether each manager has its state of `answers.stands` after `fault.lines` lines, or after one line less
+/// if it comes after manager number `fault.cut`. The `heap` line opens all managers before the first reply, so this
+/// line has taken effect on each.
 fn have_states(rt: &HostRuntime, answers: &Answers, managers: &Vec<Boxed>, fault: &Fault) -> bool {
     for (i, manager) in managers.iter().enumerate() {
         let late = i > fault.cut && fault.lines > 1;
@@ -188,8 +193,9 @@ fn have_states(rt: &HostRuntime, answers: &Answers, managers: &Vec<Boxed>, fault
     true
 }
 
-/// Runs the script `MOVE` while the call of the source or of the sink that `fault` names fails. Returns whether
-/// status, output and managers are then as in `fault`.
+/// Runs the script `MOVE` in the way of `answers`, while the call of the source or of the sink that `fault` names
+/// fails. Returns whether the status is that of `fault`, the output is the first `fault.written` bytes of
+/// `answers.text`, and the managers have their states (`have_states`).
 fn leaves_so(rt: &HostRuntime, answers: &Answers, fault: &Fault) -> Result<bool, Fail> {
     let alloc = rt.alloc();
     let (chunks, parts) = (vec![in alloc; 7; 16]?, vec![in alloc; 5; 128]?);
@@ -206,7 +212,7 @@ fn leaves_so(rt: &HostRuntime, answers: &Answers, fault: &Fault) -> Result<bool,
     )
 }
 
-/// Returns the length in bytes of the first `count` lines of a text.
+/// Returns the length in bytes of the first `count` lines of a text; of the whole text if it has fewer.
 fn length_of_lines(text: &[u8], count: usize) -> usize {
     let mut left = count;
     for (i, byte) in text.iter().enumerate() {
@@ -220,7 +226,8 @@ fn length_of_lines(text: &[u8], count: usize) -> usize {
     text.len()
 }
 
-/// Returns the outcome if the script ends before the calls with these numbers, so that no call fails.
+/// Returns the `Fault` whose calls `take` and `put` are past the last calls that are made, so that no call fails and
+/// the script runs to its end.
 fn whole(answers: &Answers, take: Option<u64>, put: Option<u64>) -> Fault {
     Fault {
         take,
@@ -257,7 +264,7 @@ fn a_read_fault_leaves_the_replies_of_the_whole_lines(rt: HostRuntime) -> Result
 }
 
 /// If a call of the sink fails, what the calls before it took is written, and no more. The line whose reply
-/// was cut has taken effect on the managers up to the one whose reply it was.
+/// was cut has taken effect on the managers up to the one whose reply it was; the `heap` line on all of them.
 #[test]
 fn a_write_fault_leaves_a_prefix_of_the_text(rt: HostRuntime) -> Result<(), Fail> {
     for answers in ANSWERS {

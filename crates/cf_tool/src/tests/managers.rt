@@ -9,7 +9,7 @@ use cf_io::SureSource;
 use std::test::Fail;
 
 /// A call of `cf_main`: what it shows, the arguments, the kinds of the managers passed in, which are closed,
-/// the script, and then the status and the text that it must print.
+/// the script, and then the status that it must return and the text that it must print.
 #[derive(Clone, Copy)]
 struct Case {
     shows: &'static str,
@@ -98,13 +98,14 @@ static CASES: [Case; 8] = [
     },
 ];
 
-/// Returns whether a case has the status, the output and the live objects that it names.
+/// Runs a case. Returns whether it has the status, the output and the live objects that it names.
 fn is_answered_so(rt: &HostRuntime, case: &Case) -> Result<bool, Fail> {
     let got = answered_on(rt, case.words, case.managers, case.script)?;
     Ok(got.is(case.status, case.text, case.live))
 }
 
-/// Returns the name of the first case with another outcome; empty if there is none.
+/// Returns the field `shows` of the first case whose outcome is not the one that it names; empty if each case has
+/// the outcome that it names.
 fn first_other(rt: &HostRuntime, cases: &[Case]) -> Result<&'static str, Fail> {
     for case in cases {
         if !is_answered_so(rt, case)? {
@@ -133,7 +134,7 @@ const CUTS: [(u64, &'static [u8], [Option<u32>; 2]); 5] = [
 ];
 
 /// Runs a script of a `heap` line, a malloc and a bad line on two managers side by side, while this call of the
-/// sink fails.
+/// sink fails. Returns what the run leaves and writes.
 fn answered_until(rt: &HostRuntime, call: u64) -> Result<OutputOn, Fail> {
     let mut sink = failing_sink(rt, call)?;
     let mut source = SureSource::new(b"heap 1 512 1 4\nm 1 8\nx\n".to_vec(rt.alloc())?);
@@ -142,14 +143,15 @@ fn answered_until(rt: &HostRuntime, call: u64) -> Result<OutputOn, Fail> {
     Ok(OutputOn { left, sink })
 }
 
-/// Returns whether, if this call of the sink fails, this text is written and the managers have these numbers
-/// of live objects.
+/// Returns whether, if this call of the sink fails in `answered_until`, the status is `WriteFault`, this text is
+/// written and the managers have these numbers of live objects.
 fn is_cut_so(rt: &HostRuntime, call: u64, text: &[u8], live: &[Option<u32>]) -> Result<bool, Fail> {
     let got = answered_until(rt, call)?;
     Ok(got.is(Status::WriteFault, text, live))
 }
 
-/// If the sink fails in mode `compare`, the managers up to the one whose reply was cut have done the command.
+/// If the sink fails in mode `compare`, the managers up to the one whose reply was cut have done the command, and
+/// the others have done it only if it is the `heap` line.
 #[test]
 fn a_cut_stops_between_two_managers(rt: HostRuntime) -> Result<(), Fail> {
     for (call, text, live) in CUTS {

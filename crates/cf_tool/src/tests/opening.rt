@@ -13,9 +13,9 @@ use std::test::Fail;
 use step_ledger::Meter;
 use tlsf_heap::TlsfHeap;
 
-/// Returns whether a closed manager opens: at the first try, or at the second one if an allocation failed and
-/// left it closed. The open heap must be empty: it has space for one object of `page` bytes, the most that a
-/// page or the region holds, and not for a second one.
+/// Returns whether a closed manager opens, at the first try, or at the second one if an allocation failed and
+/// left it closed; and whether it is then empty, with cost 0, and has space for one object of `page` bytes, the
+/// most that a page or the region holds, and not for a second one.
 fn opens_in_two<H: Manager>(
     rt: &HostRuntime,
     heap: &mut H,
@@ -63,7 +63,8 @@ fn a_heap_opens_again_where_an_allocation_failed(rt: HostRuntime) -> Result<(), 
     Ok(())
 }
 
-/// Closed heaps of every kind take no memory: `checks/refused-memory` would refuse their first allocation.
+/// Closed managers of every kind, and closed heaps of modes `slice` and `quota`, take no memory:
+/// `checks/refused-memory` would refuse their first allocation.
 #[test]
 fn closed_heaps_take_no_memory(rt: HostRuntime) -> Result<(), Fail> {
     let alloc = rt.alloc();

@@ -1,6 +1,6 @@
 //! Tests of modes `slice`, `quota`, `large`, `save` and `load`: each call of the source, then each call of the
-//! sink, fails in turn, and no call follows it. In each mode with replies a line is answered before the next
-//! one is read.
+//! sink, fails in turn, and no call follows it. In each mode with replies, `run` and `compare` too, a line is
+//! answered before the next one is read.
 
 use super::faults::MOVE;
 use super::watched::{Log, WatchedSink, WatchedSource};
@@ -54,7 +54,8 @@ struct Ended {
 }
 
 /// Runs a case on a source that returns at most 7 bytes a call and a sink that takes at most 5. Call number `take`
-/// of the source and call number `put` of the sink fail, both counted from 0.
+/// of the source and call number `put` of the sink fail, both counted from 0. Returns how the call of `cf_main`
+/// ended.
 fn played(rt: &HostRuntime, case: &Case, take: u64, put: u64) -> Result<Ended, Fail> {
     let alloc = rt.alloc();
     let (words, read, _, _) = *case;
@@ -93,7 +94,7 @@ fn played(rt: &HostRuntime, case: &Case, take: u64, put: u64) -> Result<Ended, F
 /// source or of the sink fails.
 const NEVER: u64 = u64::MAX;
 
-/// Returns the first `count` lines of a text.
+/// Returns the first `count` lines of a text; the whole text if it has fewer.
 fn first_lines(text: &[u8], count: usize) -> &[u8] {
     let mut left = count;
     for (i, byte) in text.iter().enumerate() {
@@ -107,7 +108,7 @@ fn first_lines(text: &[u8], count: usize) -> &[u8] {
     text
 }
 
-/// Returns how many lines end within the first `bytes` bytes.
+/// Returns how many lines of `read` end within its first `bytes` bytes.
 fn lines_within(read: &[u8], bytes: usize) -> usize {
     read.get(..bytes)
         .unwrap_or(read)
@@ -116,8 +117,8 @@ fn lines_within(read: &[u8], bytes: usize) -> usize {
         .count()
 }
 
-/// Returns what is written if this call of the source fails: the replies to the whole lines read by then; in
-/// modes `save` and `load` nothing.
+/// Returns what must be written if this call of the source fails, and each call before it returned 7 bytes: the
+/// replies to the whole lines read by then; in modes `save` and `load` nothing.
 fn written_at(case: &Case, call: u64) -> &'static [u8] {
     let (_, read, text, by_line) = *case;
     if by_line {
@@ -128,7 +129,8 @@ fn written_at(case: &Case, call: u64) -> &'static [u8] {
 }
 
 /// Lets call 0, 1, and so on of the source fail, in a run each, until a run makes no such call and ends with
-/// `Done`. Returns the number of calls that failed, `None` if a run has a wrong outcome.
+/// `Done`. Returns the number of calls that failed, `None` if a run has a wrong outcome or 64 calls fail. Each run
+/// must end at its fault with `ReadFault`, and have written what `written_at` says.
 fn read_faults(rt: &HostRuntime, case: &Case) -> Result<Option<u64>, Fail> {
     for call in 0..64u64 {
         let ended = played(rt, case, call, NEVER)?;
@@ -146,8 +148,9 @@ fn read_faults(rt: &HostRuntime, case: &Case) -> Result<Option<u64>, Fail> {
 }
 
 /// Lets call 0, 1, and so on of the sink fail, in a run each, until a run makes no such call and
-/// ends with `Done`. Returns the number of calls that failed, `None` if a run has a wrong outcome:
-/// each must leave a longer prefix of the text than the run before.
+/// ends with `Done`. Returns the number of calls that failed, `None` if a run has a wrong outcome
+/// or 128 calls fail. Each run must end at its fault with `WriteFault`, and leave a longer prefix of
+/// the text than the run before; the last run must write the whole text.
 fn write_faults(rt: &HostRuntime, case: &Case) -> Result<Option<u64>, Fail> {
     let (_, _, text, _) = *case;
     let mut shorter = 0;
@@ -171,7 +174,8 @@ fn write_faults(rt: &HostRuntime, case: &Case) -> Result<Option<u64>, Fail> {
 }
 
 /// Each call of the source and of the sink fails in turn, and ends the run. The source returns 7 bytes a call, so
-/// a script of n bytes takes n / 7 calls, rounded up, and one more that finds the end.
+/// a script of n bytes takes n / 7 calls, rounded up, and one more that finds the end. In modes `save` and `load`
+/// the calls are not counted.
 #[test]
 fn each_fault_ends_the_run_in_the_other_modes(rt: HostRuntime) -> Result<(), Fail> {
     for case in CASES {

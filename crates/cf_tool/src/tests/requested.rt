@@ -1,6 +1,7 @@
-//! A test of the memory that a heap asks for: it opens each heap with each page size.
-//! `checks/refused-memory` runs it while each request is recorded, and compares the requests with
-//! what the heap's `bytes_needed` returned.
+//! A test of the memory that heaps request: it opens each of seven heaps with each page size, and
+//! makes requests of certain sizes before and after each opening, to mark it in a record.
+//! `checks/refused-memory` runs the test while each request is recorded, and compares the requests
+//! of a heap with what its `bytes_needed` returned.
 
 use cf_base::{BytesNeeded, Settings};
 use cf_model::Manager;
@@ -14,11 +15,11 @@ use std::alloc::AllocError;
 use std::test::Fail;
 use tlsf_heap::TlsfHeap;
 
-/// The size in bytes of a request that announces three more, whose sizes in bytes are the fields of
-/// a `BytesNeeded`: `blocks`, `total` and `largest`.
+/// The size in bytes of the request before the opening of a heap. Three more follow it, whose sizes
+/// in bytes are the fields of a `BytesNeeded`: `blocks`, `total` and `largest`.
 const BEFORE: u64 = 1_000_003;
 
-/// The size in bytes of the request after the last one of a heap.
+/// The size in bytes of the request after the opening of a heap.
 const AFTER: u64 = 1_000_033;
 
 /// The sizes of a page in bytes.
@@ -26,14 +27,14 @@ const PAGE_BYTES: [u32; 9] = [
     512, 1_024, 2_048, 4_096, 8_192, 16_384, 32_768, 65_536, 131_072,
 ];
 
-/// Allocates a block of `bytes` bytes and frees it.
+/// Requests `bytes` bytes from the allocator, and gives them back. Fails if the request is refused.
 fn ask(rt: &HostRuntime, bytes: u64) -> Result<(), AllocError> {
     let _block: Vec<u8> = Vec::with_capacity(rt.alloc(), bytes as usize)?;
     Ok(())
 }
 
-/// Announces what the next heap needs: requests `BEFORE` bytes, then as many bytes as each field of
-/// `needed` says.
+/// Announces in the record what the next heap needs: requests `BEFORE` bytes, then as many bytes as
+/// each field of `needed` says.
 fn announce(rt: &HostRuntime, needed: BytesNeeded) -> Result<(), AllocError> {
     ask(rt, BEFORE)?;
     ask(rt, u64::from(needed.blocks))?;
@@ -41,8 +42,8 @@ fn announce(rt: &HostRuntime, needed: BytesNeeded) -> Result<(), AllocError> {
     ask(rt, needed.largest)
 }
 
-/// Opens a manager, between the requests that announce `needed` and the one of `AFTER` bytes.
-/// Returns 1 if it opened, else 0.
+/// Opens a manager with the settings `s`, between the requests that announce `needed` and the one
+/// of `AFTER` bytes. Returns 1 if the manager opened, else 0.
 fn open_manager<H: Manager>(
     rt: &HostRuntime,
     mut heap: H,
@@ -55,8 +56,8 @@ fn open_manager<H: Manager>(
     Ok(u32::from(opened))
 }
 
-/// Opens the sliced heap, the heap of tasks and a heap of long objects, each between its requests.
-/// Returns the number of those that opened.
+/// Opens a heap with frees in slices, one that tasks share, and one of long objects (with k = 1),
+/// each between requests as in `open_manager`. Returns the number of those that opened.
 fn open_others(rt: &HostRuntime, s: &Settings) -> Result<u32, AllocError> {
     let alloc = rt.alloc();
     announce(rt, SlicedHeap::bytes_needed(s))?;
@@ -80,7 +81,8 @@ fn open_others(rt: &HostRuntime, s: &Settings) -> Result<u32, AllocError> {
     Ok(u32::from(sliced) + u32::from(quota) + u32::from(large))
 }
 
-/// Opens a heap of each kind with these settings. Returns the number of heaps that opened.
+/// Opens a manager of each kind and the three heaps of `open_others` with these settings. Returns
+/// how many of the seven opened.
 fn open_each(rt: &HostRuntime, s: &Settings) -> Result<u32, AllocError> {
     let alloc = rt.alloc();
     let moving = open_manager(
@@ -111,7 +113,7 @@ fn open_each(rt: &HostRuntime, s: &Settings) -> Result<u32, AllocError> {
     )
 }
 
-/// Seven heaps open, each with four settings and nine page sizes.
+/// Seven heaps open, each with nine page sizes and four choices of the other settings.
 #[test]
 fn each_heap_asks_for_the_memory_it_says(rt: HostRuntime) -> Result<(), Fail> {
     let mut opened = 0u32;

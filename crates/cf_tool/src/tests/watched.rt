@@ -1,5 +1,5 @@
-//! A source and a sink that note their calls in one log: whether the replies to a chunk are written before the
-//! next chunk is read, and whether a call follows one that failed.
+//! A source and a sink that note their calls in one log. The log says whether the replies to each chunk were
+//! written before the next chunk was read, and whether a call followed one that failed.
 ghost use Rattle.std.specs.Prelude.{◌≡◌};
 
 use cf_base::Failed;
@@ -15,7 +15,8 @@ pub struct Log {
     failed: Cell<bool>,
     /// The number of calls of the source and the sink after the first that failed.
     after: Cell<u64>,
-    /// Whether a chunk was read before the replies to all earlier chunks were written.
+    /// Whether the source was called when the sink had taken fewer or more lines than the chunks before
+    /// must get.
     early: Cell<bool>,
 }
 
@@ -30,12 +31,12 @@ impl Log {
         }
     }
 
-    /// Returns whether no call came after one that failed.
+    /// Returns whether no call of the source or the sink came after one that failed.
     pub fn ends_at_a_fault(&self) -> bool {
         self.after.get() == 0
     }
 
-    /// Returns whether the replies to each chunk were written before the next chunk was read.
+    /// Returns whether at each call of the source exactly the replies to all chunks before it were written.
     pub fn is_in_turn(&self) -> bool {
         !self.early.get()
     }
@@ -48,8 +49,8 @@ impl Log {
     }
 }
 
-/// A source that notes its calls in the log. `taken` counts its calls; each of its chunks must get `replies`
-/// lines of output.
+/// A source that takes its chunks from an inner source, and notes its calls in the log. `taken` counts its
+/// calls; each of its chunks must get `replies` lines of output.
 #[derive(Drop)]
 pub struct WatchedSource<'a, S> {
     pub source: S,
@@ -61,8 +62,8 @@ pub struct WatchedSource<'a, S> {
 impl<'a, S: Source> Source for WatchedSource<'a, S> {
     ghost state = { λ w. S.state w.source };
 
-    /// Notes the call, and whether a reply to an earlier chunk is still missing. Then takes a chunk
-    /// from the inner source.
+    /// `WatchedSource`: takes a chunk from the inner source, and returns its result. Notes the call, whether
+    /// the call fails, and whether the sink has taken other than `replies` lines for each earlier call.
     fn take(&mut self, buf: &mut [u8]) -> Result<usize, Failed> {
         self.log.note_call();
         if self.log.lines.get() != self.taken.saturating_mul(self.replies) {
@@ -77,7 +78,7 @@ impl<'a, S: Source> Source for WatchedSource<'a, S> {
     }
 }
 
-/// A sink that notes its calls, and the lines that it takes, in the log.
+/// A sink that passes its bytes to an inner sink, and notes its calls, and the lines taken, in the log.
 #[derive(Drop)]
 pub struct WatchedSink<'a, K> {
     pub sink: K,
@@ -87,7 +88,8 @@ pub struct WatchedSink<'a, K> {
 impl<'a, K: Sink> Sink for WatchedSink<'a, K> {
     ghost state = { λ w. K.state w.sink };
 
-    /// Notes the call, and how many line feeds the inner sink took of the bytes.
+    /// `WatchedSink`: passes the bytes to the inner sink, and returns its result. Notes the call, and how many
+    /// line feeds the inner sink took, or that the call failed.
     fn put(&mut self, bytes: &[u8]) -> Result<usize, Failed> {
         self.log.note_call();
         let result = self.sink.put(bytes);

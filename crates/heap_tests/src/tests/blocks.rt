@@ -12,10 +12,11 @@ use tlsf_heap::TlsfHeap;
 /// is found has the two freed blocks of 17 words; one is taken, and the other becomes the head. The two words that
 /// are over go into a list that already has a block, that of object 4.
 ///
-/// A malloc finds a list (1, or 3 if it is in another group) and reads its head (1). It unlinks the block (3, and 2
-/// if another one becomes the head), marks its list empty or reads it (3), and writes the proxy (2). If words are
-/// over, it writes their header (1), and the size into the header after them (2), and links them (5, or 7 into a
-/// list that has a block); it writes the block's header and tag (2).
+/// A malloc finds a list (1, or 3 if it is in another group), reads its head (1), and takes a proxy (2). It reads the
+/// block's header and link (2). It makes the next block the head of the list, or marks the list empty (3), and changes
+/// the link of a next block (2). It writes the block's header and tag (2). If words are over, it writes their header
+/// (1), and their size into the header after them, if there is one (2). Then it links them (5, or 7 into a list that
+/// has a block).
 static LONG_IN_TLSF: [Row; 10] = [
     (Call::Malloc(120), [19, 17]),
     (Call::Malloc(0), [19, 17]),

@@ -4,7 +4,7 @@ use cf_base::{Handle, Settings};
 use cf_model::Manager;
 use step_ledger::Meter;
 
-/// A call on a manager. If it names an object, its first number is the object's.
+/// A call on a manager. The first number of a call that names an object is that of the object's handle.
 #[derive(Clone, Copy, Debug)]
 pub(super) enum Call {
     /// A malloc of this many bytes.
@@ -20,7 +20,8 @@ pub(super) enum Call {
     Place(u32),
     /// A look-up of the object's length.
     Length(u32),
-    /// A look-up of the physical block of one block of the object's slot: its number, from 0 on.
+    /// A look-up of the physical block of one block of the object's slot. The second number counts the blocks of the
+    /// slot from 0 on.
     Block(u32, u32),
     /// A read of the word of the region with this number.
     Peek(u32),
@@ -79,9 +80,10 @@ fn steps_of<H: Manager>(heap: &mut H, call: Call, meter: &mut Meter) -> Option<u
     Some(meter.lap())
 }
 
-/// Opens the heap with k = 1, and makes the calls in order. `settings` has its pages, the bytes of a page, and its
-/// proxies; `column` chooses the manager in the rows. Returns the index of the first call that takes other steps,
-/// and these; `(0, 0)` if the heap can't be opened; none if each call takes its steps.
+/// Opens the heap with k = 1, and makes the calls in order, up to the first that takes other steps than its row says.
+/// `settings` has the heap's pages, the bytes of a page, and the proxies; `column` chooses the manager in the rows.
+/// Returns the index of that call and its steps; `(0, 0)` if the heap can't be opened; none if each call takes its
+/// steps.
 pub(super) fn first_other<H: Manager>(
     heap: &mut H,
     column: usize,

@@ -8,7 +8,7 @@ use sliced_heap::SlicedHeap;
 use std::test::Fail;
 use step_ledger::Meter;
 
-/// Reads the object and frees it by `read_and_free`; none if the heap is closed.
+/// Reads the object and frees it by `read_and_free`, and returns the result of that call; none if the heap is closed.
 fn taken_out(
     heap: &mut MovingHeap,
     object: Handle,
@@ -31,8 +31,8 @@ fn what_was_stored_is_taken_out(rt: HostRuntime) -> Result<(), Fail> {
 }
 
 /// Opens the heap with two pages of 64 words and slices of 16 words, and makes a frame of 504 bytes, which fills a
-/// page. Returns what `next_frame` returns for the next one, with this many calls of `step`; none if a call before
-/// fails.
+/// page. Returns what `next_frame` returns for the next one, with this many calls of `step`; none if the first malloc
+/// is refused. Fails with `OutOfMemory` if the opening does.
 fn second_frame(
     heap: &mut SlicedHeap,
     slices: u32,

@@ -22,7 +22,8 @@ use step_ledger::Meter;
 /// The most bytes of an image in these tests.
 const ROOM: usize = 16_384;
 
-/// Opens the heap with these settings. The session was just begun, so it belongs to the empty heap.
+/// Opens the heap, which must be of kind Moving and stays so, with these settings; fails if memory runs out. The
+/// session must be just begun, so that the session belongs to the empty heap, which `save` can then write (`IsReady`).
 pub fn open<H: Manager>(heap: &mut H, session: &Session, settings: &Settings) -> Result<(), Fail>
     requires moving { (H.state heap.old).kind ≡ Moving }
     requires fresh { session.now ≡ fresh_session }
@@ -44,7 +45,9 @@ fn is_change(command: CommandRef) -> bool
     }
 }
 
-/// Does the command if it is one of those of `is_change`, and drops its reply. Else nothing is done.
+/// Does the command if the command is one of those of `is_change`, and drops its reply. Else nothing is done. The run
+/// of the session and its heap must be in progress, and stays so. A heap that is ready for `save` (`IsReady`) stays so
+/// too.
 pub fn do_command<H: Manager>(heap: &mut H, session: &mut Session, command: CommandRef)
     requires { IsGoing (run_at session.old (H.state heap.old)) }
     ensures going { IsGoing (run_at session.new (H.state heap.new)) }
@@ -59,8 +62,9 @@ pub fn do_command<H: Manager>(heap: &mut H, session: &mut Session, command: Comm
     }
 }
 
-/// Saves the heap, and returns the image. `settings` are those of the heap, and `session` has the ids of
-/// its live objects.
+/// Saves the heap, and returns the image. The heap must be open and of kind Moving, `settings` must be its settings,
+/// and `session` must have the ids of its live objects (`IsReady`). Fails if the image has more than 16,384 bytes or
+/// memory runs out.
 pub fn image<H: Manager>(
     rt: &HostRuntime,
     alloc: Global,
@@ -77,8 +81,8 @@ pub fn image<H: Manager>(
     }
 }
 
-/// Loads the bytes into the heap, at most `most` in a call of the source, and returns the image of the
-/// loaded heap; or the fault of `load`.
+/// Loads the bytes into the heap, which must be of kind Moving and stays so, at most `most` in a call of the source,
+/// and returns the image of the loaded heap; or the fault of `load`. Fails as `image` does.
 pub fn load_and_save<H: Manager>(
     rt: &HostRuntime,
     alloc: Global,

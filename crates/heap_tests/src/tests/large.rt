@@ -1,5 +1,5 @@
-//! `LargeHeap` at its limits, over both managers with pages: the longest object of a page size, and the fewest
-//! proxies and pages for an object. And the steps of its calls over a moving manager.
+//! Tests of `LargeHeap`: its limits over both managers with pages (the longest object of a page size, and the fewest
+//! proxies and pages for an object), and the steps of its calls over a moving manager.
 ghost use Rattle.std.specs.Prelude.{IsTrue};
 ghost use Rattle.cf_model.specs.Families.{IsPaged};
 
@@ -22,9 +22,10 @@ struct Row {
     totals: [u32; 3],
 }
 
-/// An object that exceeds a page has a spine with four bytes for each part.
+/// Mallocs at the limits of object lengths, proxies and pages. An object that exceeds a page has a spine with four
+/// bytes for each part.
 static ROWS: [Row; 7] = [
-    // The two parts of 1,000 bytes have a page each, the spines and the parts of one byte a third one, and the other
+    // The two parts of 1,000 bytes have a page each, the two spines and the part of one byte a third one, and the other
     // whole part the fourth.
     Row {
         settings: [4, 512, 16],
@@ -80,7 +81,8 @@ static ROWS: [Row; 7] = [
     },
 ];
 
-/// Makes the mallocs, and returns whether each has its result; false if the heap is closed.
+/// Makes the mallocs in order, up to the first whose result isn't the one that its entry has. Returns whether all have
+/// their results; false too if a malloc would find the heap closed.
 fn makes<H: Manager>(
     heap: &mut LargeHeap<H>,
     mallocs: &[(u32, Option<Refusal>)],
@@ -94,7 +96,8 @@ fn makes<H: Manager>(
     true
 }
 
-/// The objects, the pages in use and the free pages of the inner manager; none if it is closed.
+/// Returns how many objects, pages in use and free pages the inner manager of the heap has; none if that manager is
+/// closed.
 fn totals<H: Manager>(heap: &LargeHeap<H>, meter: &mut Meter) -> Option<[u32; 3]> {
     let inner = heap.inner();
     if !inner.is_open() {
@@ -104,8 +107,9 @@ fn totals<H: Manager>(heap: &LargeHeap<H>, meter: &mut Meter) -> Option<[u32; 3]
     Some([totals.live, totals.used, totals.free])
 }
 
-/// Opens a heap over the manager `inner`, and makes the mallocs of the row. Returns whether each has its result, and
-/// the totals are those of the row.
+/// Opens a heap over the manager `inner`, which must be one with pages, and makes the mallocs of the row. Returns
+/// whether each has its result and the totals are those of the row; false too if a setting is out of range. Fails with
+/// `OutOfMemory` if the opening does.
 fn agrees<H: Manager>(
     alloc: Global,
     inner: H,
@@ -148,9 +152,9 @@ enum Call {
     /// A malloc of this many bytes.
     Malloc(u32),
     Free(u32),
-    /// A write of this many bytes, at most 1,512, from this byte of the object on.
+    /// A write to the object: the first byte that is written, and how many bytes, at most 1,512.
     Write(u32, u32, usize),
-    /// A read of this many bytes, at most 1,512, from this byte of the object on.
+    /// A read from the object: the first byte that is read, and how many bytes, at most 1,512.
     Read(u32, u32, usize),
 }
 
@@ -206,7 +210,8 @@ static CALLS: [(Call, u64); 18] = [
     (Call::Free(1), 6 + 13 + 23),
 ];
 
-/// Makes the call, whether it succeeds or is refused, and returns the steps that it adds to the meter's count.
+/// Makes the call on a heap, which must be open, and returns the steps that the call adds to the meter's count, whether
+/// it succeeds or is refused.
 fn steps_of<H: Manager>(heap: &mut LargeHeap<H>, call: Call, meter: &mut Meter) -> u64
     requires { IsTrue heap.old.is_open }
 {
@@ -229,8 +234,8 @@ fn steps_of<H: Manager>(heap: &mut LargeHeap<H>, call: Call, meter: &mut Meter) 
     meter.steps().count().saturating_sub(before)
 }
 
-/// Makes the calls of `CALLS` in order. Returns the index of the first that takes another number of steps, or finds
-/// the heap closed; none if there is no such call.
+/// Makes the calls of `CALLS` in order, up to the first that takes another number of steps than `CALLS` says, or would
+/// find the heap closed. Returns the index of that call; none if there is no such call.
 fn first_other<H: Manager>(heap: &mut LargeHeap<H>, meter: &mut Meter) -> Option<usize> {
     for (i, (call, steps)) in CALLS.iter().enumerate() {
         if !heap.is_open() || steps_of(heap, *call, meter) != *steps {

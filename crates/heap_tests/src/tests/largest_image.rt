@@ -92,7 +92,7 @@ impl Sink for Comparison {
 }
 
 /// Loads the image from the stream into a new heap, and saves that heap to the sink. Returns whether both calls
-/// succeed.
+/// succeed. Fails with `OutOfMemory` if there is no memory for the session.
 fn passes(
     rt: &HostRuntime,
     stream: &mut Stream,

@@ -1,5 +1,6 @@
-//! The steps of single calls of `QuotaHeap`, each worked out by hand. Among them are a malloc, a free, a write
-//! and a read that reach their bounds: 17, 20 plus the words of the slot, and 2 plus the words touched.
+//! The steps of single calls of `QuotaHeap`, each worked out by hand, and the pages that a task uses after these calls.
+//! Among the calls are a malloc, a free, a write and a read that reach their bounds: 17, 20 plus the words of the slot,
+//! and 2 plus the words touched.
 ghost use Rattle.std.specs.Prelude.{IsTrue};
 
 use quota_heap::{Handle, QuotaHeap, Settings};
@@ -64,7 +65,8 @@ static CALLS: [(Call, u64); 20] = [
     (Call::Malloc(8), 15),
 ];
 
-/// Makes the call, whether it succeeds or is refused, and returns its steps.
+/// Makes the call on a heap, which must be open, and returns the steps of the call, whether it succeeds or is refused.
+/// Writes and reads at most 512 bytes.
 fn steps_of(heap: &mut QuotaHeap, call: Call, meter: &mut Meter) -> u64
     requires { IsTrue heap.old.is_open }
 {
@@ -94,8 +96,8 @@ fn steps_of(heap: &mut QuotaHeap, call: Call, meter: &mut Meter) -> u64
     meter.lap()
 }
 
-/// Makes the calls of `CALLS` in order. Returns the index of the first that takes another number of steps, or finds
-/// the heap closed; none if there is no such call.
+/// Makes the calls of `CALLS` in order, up to the first that takes another number of steps than `CALLS` says, or would
+/// find the heap closed. Returns the index of that call; none if there is no such call.
 fn first_other(heap: &mut QuotaHeap, meter: &mut Meter) -> Option<usize> {
     for (i, (call, steps)) in CALLS.iter().enumerate() {
         if !heap.is_open() || steps_of(heap, *call, meter) != *steps {
@@ -105,7 +107,7 @@ fn first_other(heap: &mut QuotaHeap, meter: &mut Meter) -> Option<usize> {
     None
 }
 
-/// The pages that task 0 uses, and those in no quota; none if the heap is closed.
+/// Returns the number of pages that task 0 uses, and the number of pages in no quota; none if the heap is closed.
 fn used_and_unassigned(heap: &QuotaHeap) -> Option<[u32; 2]> {
     if !heap.is_open() {
         return None;

@@ -28,7 +28,7 @@ struct Row {
     image: &'static [u8],
 }
 
-/// The images.
+/// The images that `save` must write, and `load` must read.
 static ROWS: [Row; 4] = [
     Row {
         shows: "an object of three bytes",
@@ -88,7 +88,8 @@ static ROWS: [Row; 4] = [
     },
 ];
 
-/// Does these commands on the heap in order, through the session (`do_command`).
+/// Does these commands on the heap in order, through the session (`do_command`), whose run must be in progress
+/// (`IsGoing`). A heap that is ready for `save` (`IsReady`) stays so.
 fn do_commands<H: Manager>(heap: &mut H, session: &mut Session, commands: &[CommandRef])
     requires { IsGoing (run_at session.old (H.state heap.old)) }
     ensures { (p : Profile) → IsReady p (run_at session.old (H.state heap.old)) → IsReady p (run_at session.new (H.state heap.new)) }
@@ -98,7 +99,9 @@ fn do_commands<H: Manager>(heap: &mut H, session: &mut Session, commands: &[Comm
     }
 }
 
-/// Opens the heap with the settings of a row, does its commands, and returns the image of the live objects.
+/// Opens the heap, which must be of kind Moving and stays so, with the settings of a row, does the row's commands, and
+/// returns the image of the live objects. Fails if a setting is out of range, memory runs out, or the image has more
+/// than 16,384 bytes.
 fn image_of_row<H: Manager>(
     rt: &HostRuntime,
     alloc: Global,
@@ -116,7 +119,8 @@ fn image_of_row<H: Manager>(
     image(rt, alloc, heap, &session, &settings)
 }
 
-/// Whether `save` writes the image of the row, and writes it again once `load` has read it, by seven bytes in a call.
+/// Returns whether `save` writes the image of the row, and writes the image again once `load` has read it, by seven
+/// bytes in a call. The heap must be of kind Moving and stays so. Fails as `image_of_row` does.
 fn agrees<H: Manager>(
     rt: &HostRuntime,
     alloc: Global,

@@ -23,7 +23,8 @@ enum Call {
     Peek(u32),
 }
 
-/// Makes the call, and returns its steps, whether it succeeds or is refused.
+/// Makes the call on a heap, which must be open, and returns the steps of the call, whether it succeeds or is refused.
+/// Reads and writes at most 512 bytes.
 fn steps_of(heap: &mut SlicedHeap, call: Call, meter: &mut Meter) -> u64
     requires { IsTrue heap.old.is_open }
 {
@@ -51,8 +52,8 @@ fn steps_of(heap: &mut SlicedHeap, call: Call, meter: &mut Meter) -> u64
     meter.lap()
 }
 
-/// Makes the calls in order, each with the steps that it must take. Returns the index of the first that takes
-/// another number, or finds the heap closed; none if there is no such call.
+/// Makes the calls in order, each with the steps that it must take, up to the first that takes another number, or would
+/// find the heap closed. Returns the index of that call; none if there is no such call.
 fn first_with_other_steps(
     heap: &mut SlicedHeap,
     calls: &[(Call, u64)],

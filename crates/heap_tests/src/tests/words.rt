@@ -17,7 +17,8 @@ static BYTES: [u8; 24] = [
     1, 2, 3, 4, 5, 6, 7, 8, 9, 10, 11, 12, 13, 14, 15, 16, 16, 17, 18, 19, 20, 21, 22, 255,
 ];
 
-/// Opens the heap, and makes an object of this many bytes; none if a call fails.
+/// Opens the heap with one page of 64 words, makes an object of this many bytes, and returns the object's handle; none
+/// if a call fails.
 fn object(heap: &mut MovingHeap, bytes: u32, meter: &mut Meter) -> Option<Handle> {
     heap.open_heap(&Settings::check(1, 512, 1, 4).ok()?).ok()?;
     meter.lap();
@@ -40,7 +41,8 @@ fn write_words(heap: &mut MovingHeap, h: Handle, words: &[u64], meter: &mut Mete
     true
 }
 
-/// Whether the object's first 24 bytes are `BYTES`; false if the heap is closed.
+/// Whether the object's first 24 bytes are `BYTES`; false if the object has fewer bytes or isn't live, or the heap is
+/// closed.
 fn holds_bytes(heap: &MovingHeap, h: Handle, meter: &mut Meter) -> bool {
     let mut bytes = [0; 24];
     meter.lap();

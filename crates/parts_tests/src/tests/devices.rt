@@ -7,9 +7,9 @@ use std::io::{Read, Write};
 use std::process::Abort;
 use std::test::Fail;
 
-/// Calls `take` once for each entry of `wanted`: `room`, `answer` and `held`. Its buffer is the first `room`
-/// bytes of an array of four, which are all `.` before the call. Tests that the call returns `answer`, and
-/// that the array is `held` after it.
+/// Calls `take` once for each entry of `wanted`: `room`, `answer` and `held`. The buffer of the call is the first
+/// `room` bytes, at most four, of an array of four, which are all `.` before the call. Tests that the call returns
+/// `answer`, and that the array is `held` after the call.
 fn takes_each<S: Source + Drop>(
     rt: &impl Abort,
     mut source: S,
@@ -57,7 +57,8 @@ struct Pipe {
 }
 
 impl Pipe {
-    /// For a read or a write, how many of `len` bytes it claims. Fails the first time if `breaks`.
+    /// Returns how many of `len` bytes a read or a write claims, at most `moves`. If `breaks`, fails instead, and sets
+    /// `breaks` to false.
     fn turn(&mut self, len: usize) -> io::Result<usize> {
         if self.breaks {
             self.breaks = false;
@@ -115,7 +116,8 @@ fn devices_of_std_fail_as_their_reader_or_writer_does(rt: HostRuntime) -> Result
     Ok(())
 }
 
-/// Appends text, the largest number, two bytes in hex, and a word in hex.
+/// Appends to the line a text, the largest number, a second text, two bytes in hex, and a word in hex. Fails if one of
+/// these doesn't fit.
 fn pushed(line: &mut Line) -> Result<(), Full> {
     line.push(b"last ")?;
     line.push_number(18_446_744_073_709_551_615)?;

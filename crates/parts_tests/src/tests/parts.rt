@@ -91,7 +91,8 @@ fn an_id_names_what_it_was_last_bound_to(rt: HostRuntime) -> Result<(), Fail> {
     Ok(())
 }
 
-/// Takes free slots of a page, `n` in all, and returns the last.
+/// Takes the lowest free slot of a page `n` times, and returns the slot that was taken last; none if `n` is 0 or the
+/// last time no slot was free. The number of pages stays.
 fn fill(maps: &mut SlotMaps, page: u32, n: u32, steps: &mut Steps) -> Option<u32>
     requires { page < length maps.old.pages }
     ensures { length maps.new.pages ≡ length maps.old.pages }
@@ -103,10 +104,10 @@ fn fill(maps: &mut SlotMaps, page: u32, n: u32, steps: &mut Steps) -> Option<u32
     last
 }
 
-/// Makes a table of three pages with up to `slots` slots each, gives page 1 `slots` slots, and takes
-/// all of these. Returns the slot that was taken last, then the lowest used and the lowest free slot
-/// of page 1, and the lowest free slots of pages 0 and 2; how many slots of page 1 are used; and the
-/// steps in all.
+/// Makes a table of three pages with up to `slots` slots each, from 1 to 4,096, gives page 1 `slots` slots, and takes
+/// all of these. Returns the slot that was taken last, then the lowest used and the lowest free slot of page 1, and the
+/// lowest free slots of pages 0 and 2; how many slots of page 1 are used; and the steps in all. Fails if memory runs
+/// out.
 fn page_filled(rt: &HostRuntime, slots: u32) -> Result<([Option<u32>; 5], u32, u64), Fail>
     requires some { 1 ≤ slots }
     requires few { slots ≤ 4096 }

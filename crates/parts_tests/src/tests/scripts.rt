@@ -1,4 +1,5 @@
-//! Test of `Reader`, which reads the lines of a script as items, from chunks of any length.
+//! Test of `Reader`, which reads the lines of a script as items, from chunks of any length. The functions fail with
+//! `AllocError` if memory runs out.
 ghost use Rattle.std.specs.Prelude.{◌≡◌, ◌<◌, false};
 
 use script_reader::{Command, Next, Reader};
@@ -189,8 +190,8 @@ fn shown_command(alloc: Global, command: &Command) -> Result<String, AllocError>
     }
 }
 
-/// Takes the items that the reader has, at most 100, and appends each to the text. Returns whether a line was
-/// bad.
+/// Takes the items that the reader has, at most 100, and appends each to the text. Returns whether a line was bad.
+/// Whether the script has ended (`finish`) is unchanged.
 fn drain(alloc: Global, reader: &mut Reader, text: &mut String) -> Result<bool, AllocError>
     ensures { reader.new.ended ≡ reader.old.ended }
 {
@@ -206,8 +207,8 @@ fn drain(alloc: Global, reader: &mut Reader, text: &mut String) -> Result<bool, 
     Ok(false)
 }
 
-/// The items, as text, that a reader returns for the script in chunks of `size` bytes. `feed` may take just a
-/// prefix of a chunk; the rest of the chunk is fed after the items of the prefix were read.
+/// Returns the items, as text, that a reader returns for the script in chunks of `size` bytes, at least one. `feed` may
+/// take just a prefix of a chunk; the rest of the chunk is fed after the items of the prefix were read.
 fn read(alloc: Global, script: &[u8], size: usize) -> Result<String, AllocError>
     requires { 0 < size }
 {

@@ -1,5 +1,6 @@
-//! Tests of `cf_base` against tables that were worked out by hand: the slot sizes of pages and the classes of
-//! objects, the faults of settings in their order, the names of the kinds, and the exit statuses.
+//! Tests of `cf_base`, and of `Classes` of `size_classes`, against tables that were worked out by hand: the slot
+//! sizes of pages and the classes of objects, the faults of settings in their order, the names of the kinds, and the
+//! exit statuses.
 use cf_base::{Kind, Layout, SettingFault, Settings, Status, class_in, need_of, slot_sizes};
 use size_classes::Classes;
 use std::test::Fail;

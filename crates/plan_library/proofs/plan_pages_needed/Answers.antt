@@ -1,4 +1,4 @@
-use Rattle.std.proofs.Common.{sym, ◌∙◌}
+use Rattle.std.proofs.Common.{refl, sym, ◌∙◌}
 use Rattle.std.proofs.lemmas.Bool.{false≢true}
 use Rattle.plan_library.proofs.plan_pages_needed.Goals as goal
 
@@ -12,4 +12,4 @@ pub returns-in-Ok-clause-fault : goal.returns-in-Ok-clause-fault
 returns-in-Ok-clause-fault c = λ no. absurd (false≢true (sym no))
 
 pub returns-in-Err-clause-fault : goal.returns-in-Err-clause-fault
-returns-in-Err-clause-fault c = λ no. (c.in-Err.field-0, c.in-Err.ensures.fault)
+returns-in-Err-clause-fault c = λ no. ((c.in-Err.field-0, c.in-Err.ensures.fault), refl)

@@ -3,7 +3,7 @@ use Rattle.paged_heap.specs.Heap.{seen}
 use Rattle.paged_heap.specs.Layout.{state_of}
 use Rattle.paged_heap.proofs.ByKind.{free_by_order}
 use Rattle.paged_heap.proofs.Preserved.{cost_kept}
-use Rattle.paged_heap.proofs.HeaderLemmas.{few_free, free_with_cost}
+use Rattle.paged_heap.proofs.FreeLemmas.{few_free, free_with_cost}
 use Rattle.paged_heap.proofs.LayoutFacts.{paged_kind}
 use Rattle.paged_heap.proofs.StepLemmas.{free_low}
 use Rattle.step_ledger.proofs.CallerLemmas.{rose_is}
