@@ -1,10 +1,11 @@
 /* Norphuen: a verified memory manager for real-time programs. It is no drop-in malloc: a program names an object by its
- * handle, and copies its bytes or asks for its address.
+ * handle (with images by an id), and copies its bytes or asks for its address.
  *
- * A heap has one region of words of 8 bytes, cut into equal pages. A page in use has slots of one size, a size class; an object
- * takes the smallest slot that holds it and its header of a word. nph_open takes all memory, so that later calls take none. A step
- * is an access to a word or to an entry of a table. docs/CALLS.md has the most steps of each call that counts them, and
- * nph_last_steps writes those of the last such call. There are eight libraries, and a program may link several:
+ * A heap has one region of words of 8 bytes, but for TLSF and Half-Fit cut into equal pages. A page in use has slots of one size, a
+ * size class; an object takes the smallest slot that holds it and its header of a word. nph_open takes all memory, so that the
+ * calls on the open heap take none. A step is a counted access to a word or to an entry of a table. docs/CALLS.md has the most
+ * steps of each call that counts them, and nph_last_steps writes those of the last such call. There are eight libraries, and a
+ * program may link several:
  *
  *   libnorphuen.a            Compact-fit, moving: a free may move one object, whose handle stays the same
  *   libnorphuen_nonmoving.a  Compact-fit, non-moving: a free may exchange entries of a block table. Lends nothing, since
@@ -38,7 +39,11 @@
  *
  * The library tests all else: every number may be passed as a setting, handle, id, task, length, offset or class, and every
  * call may be made on a heap that is not open or is lent. No call takes a const heap, since even a read writes the count of
- * steps. docs/C.md says what is proved, and what becomes of a handle after its object is freed.
+ * steps. docs/C.md says what is proved.
+ *
+ * A program must not use a handle where it may name another object, since no call can refuse it there: in another heap, for
+ * another task, after an nph_close (docs/GUARANTEES.md says when it is refused), or once the number in it was freed 65,535 times
+ * since the malloc that returned it. After its free an id of images may name another object too.
  */
 #ifndef NORPHUEN_H
 #define NORPHUEN_H
@@ -100,14 +105,15 @@ typedef struct nph_large_heap { void *at; uint32_t last; bool is_open; } nph_lar
 typedef enum nph_status {
     NPH_OK = 0,
     NPH_SIZE = 1,    /* the object with its header needs more words than a page has; nph_large_malloc: its spine does */
-    NPH_PROXY = 2,   /* every proxy is in use; nph_large_malloc: too few are left */
-    NPH_SPACE = 3,   /* no free slot of the class and no free page; with blocks no free block that serves; with tasks the quota is
-                        too small */
-    NPH_UNKNOWN = 4, /* the handle is not live; no object has the id; there is no such class (with blocks there is none) or task */
+    NPH_PROXY = 2,   /* every proxy is in use, with tasks every one of the task; nph_large_malloc: too few are left */
+    NPH_SPACE = 3,   /* no free slot of the class and no free page; with blocks no block in the free lists that a malloc searches;
+                        with tasks the quota is too small; nph_large_malloc: all objects with this one need too many pages */
+    NPH_UNKNOWN = 4, /* the handle is not live; no object has the id; there is no such id, class (with blocks there is none) or
+                        task */
     NPH_RANGE = 5,   /* the range passes the end of the object, or of the caller's buffer */
     NPH_KIND = 6,    /* nph_resize: with blocks there is no resize */
-    NPH_CLOSED = 7,  /* the heap is not open */
-    NPH_OPEN = 8,    /* nph_open: the heap is open already */
+    NPH_CLOSED = 7,  /* the heap is closed */
+    NPH_OPEN = 8,    /* nph_open, nph_images_load: the heap is open already */
     NPH_LENT = 9,    /* the heap is lent: only nph_return and nph_close are allowed */
     NPH_MEMORY = 10, /* out of memory; the heap is not open */
     NPH_PAGES = 11,      /* pages are 1 to 4096; the quotas exceed the pages */
@@ -153,12 +159,12 @@ static inline const char *nph_text(nph_status status) {
     }
 }
 
-/* In place of a handle. It names no object. In nph_freed and nph_resized it means that no object moved, from nph_sliced_moving that
- * none moves. nph_next takes it at the start of a walk, and writes it at the end. On an open heap each other call with it fails
- * with NPH_UNKNOWN. */
+/* The value in place of a handle that says that there is none: it names no object, and every handle is smaller. In nph_freed and
+ * nph_resized it means that no object moved, from nph_sliced_moving that none moves. nph_next takes it at the start of a walk, and
+ * writes it at the end. On an open heap each other call that takes it as a handle fails with NPH_UNKNOWN. */
 #define NPH_NONE UINT32_MAX
 
-/* The memory that nph_open asks for: the bytes of all blocks, those of the largest block, and how many blocks. */
+/* The memory that nph_open asks for, in blocks from rattle_alloc: the bytes of all, those of the largest, and how many there are. */
 typedef struct nph_needed {
     uint64_t total;
     uint64_t largest;
@@ -207,9 +213,10 @@ typedef struct nph_heap_totals {
 } nph_heap_totals;
 
 /* What a heap counted since it was opened. `most_asked` is the most bytes that its live objects asked for at one time. `least_free`
- * is the fewest free pages after a call, with blocks the fewest bytes outside used blocks: so at most pages - least_free were in
- * use. `moves` counts the objects named as `moved`. The others count each nph_malloc, nph_free and nph_resize that failed with
- * NPH_UNKNOWN, NPH_SIZE, NPH_PROXY or NPH_SPACE. A count stops at UINT64_MAX. */
+ * is the fewest free pages after a call: so after each call at most pages - least_free were in use (during a resize one more may
+ * be). With blocks it is the fewest bytes outside used blocks. `moves` counts the objects named as `moved`. The others count each
+ * nph_malloc, nph_free and nph_resize that failed with NPH_UNKNOWN, NPH_SIZE, NPH_PROXY or NPH_SPACE. A count stops at
+ * UINT64_MAX. */
 typedef struct nph_counted {
     uint64_t most_asked;
     uint64_t least_free;
@@ -222,8 +229,8 @@ typedef struct nph_counted {
 
 /* Opens a heap without objects, of `pages` pages of `page_bytes` bytes. At most `proxies` objects are live at a time, and `k` pages
  * of each size class may be partly full (nph_set_bound changes this for one). With blocks the pages are one region without classes,
- * and k means nothing. Fails with NPH_LENT, NPH_OPEN, NPH_PAGES, NPH_PAGE_BYTES, NPH_BOUND, NPH_PROXIES, NPH_REGION or
- * NPH_MEMORY. */
+ * and k has no effect, but must be 1 to 64. Fails with NPH_LENT, NPH_OPEN, NPH_PAGES, NPH_PAGE_BYTES, NPH_BOUND, NPH_PROXIES,
+ * NPH_REGION or NPH_MEMORY. */
 NPH_CALL nph_status nph_open(nph_heap *heap, uint32_t pages, uint32_t page_bytes, uint32_t k, uint32_t proxies);
 
 /* Writes what nph_open with these settings asks of rattle_alloc, exactly. nph_open never calls rattle_realloc. What the program's
@@ -231,10 +238,11 @@ NPH_CALL nph_status nph_open(nph_heap *heap, uint32_t pages, uint32_t page_bytes
 NPH_CALL nph_status nph_bytes_needed(uint32_t pages, uint32_t page_bytes, uint32_t k, uint32_t proxies, nph_needed *needed);
 
 /* Writes how many pages of `page_bytes` bytes are enough for a program: on a heap with them no nph_malloc and no nph_resize fails
- * with NPH_SPACE, whatever was called before, while the live objects, the new or resized one included, are within the `count`
- * needs. With fewer pages some program within the needs has an nph_malloc that fails with NPH_SPACE. Needs of the same length add
- * up. The number is the same for every k, and may be more than nph_open takes. Fails with NPH_ENTRIES, NPH_PAGE_BYTES, NPH_BOUND,
- * NPH_SIZE, or with NPH_PROXIES if the needs are more objects than a heap may have. A library with blocks lacks this call. */
+ * with NPH_SPACE, whatever the order of the calls, if the live objects were within the `count` needs after each call so far, and
+ * still are with the new or resized one. With fewer pages some program within the needs has an nph_malloc that fails with
+ * NPH_SPACE. Needs of the same length add up. The number is the same for every k, and may be more than nph_open takes. Fails with
+ * NPH_ENTRIES, NPH_PAGE_BYTES, NPH_BOUND, NPH_SIZE, or with NPH_PROXIES if the needs are more objects than a heap may have. A
+ * library with blocks lacks this call. */
 NPH_CALL nph_status nph_pages_needed(uint32_t page_bytes, uint32_t k, const nph_need *needs, size_t count, uint32_t *pages);
 
 /* Returns the memory, of a lent heap too. The heap is closed afterwards, and may be opened again. May be called twice. */
@@ -467,7 +475,7 @@ static inline void *nph_sliced_bytes(uint64_t *words, uint32_t place) { return w
 /* As nph_version. */
 uint32_t nph_sliced_version(void);
 
-/* The most steps of each call, before it is made. A refused call takes at most as many. */
+/* The most steps of a call, before it is made. A refused call takes at most as many. */
 
 /* Returns the most steps of nph_sliced_malloc. */
 uint64_t nph_sliced_most_malloc(void);
@@ -565,8 +573,8 @@ NPH_OR_NULL_OF(nph_half)
  * handles, and a quota, the most pages that it may use; no page has objects of two tasks. So a task may hit its quota, and no other
  * task notices: of a task's calls only nph_tasks_set_quota fails because of the quotas of others. Each class of a task has at most
  * one partly full page. A handle means the object of the task that the call names, and two tasks may have equal handles. A call
- * that names a task above 15 fails with NPH_UNKNOWN. Only nph_tasks_malloc and the calls with a handle count steps, if there is
- * such a task; the others leave the count as it was. */
+ * on an open heap that names a task above 15 fails with NPH_UNKNOWN. Only nph_tasks_malloc and the calls with a handle count
+ * steps, if there is such a task; the others leave the count as it was. */
 
 /* A task: its quota, the pages that have its objects, and its live objects. */
 typedef struct nph_task {
@@ -614,8 +622,8 @@ NPH_CALL nph_status nph_tasks_figures(nph_tasks_heap *heap, uint32_t task, uint3
 NPH_CALL nph_status nph_tasks_unassigned(nph_tasks_heap *heap, uint32_t *pages);
 
 /* Tests whether the quota of a task is enough for `count` needs: for a task that begins without objects, keeps its quota, and
- * whose live objects stay within the needs, no nph_tasks_malloc then fails with NPH_SPACE, whatever the order of its calls. Fails
- * as nph_tasks_least_quota does, else with NPH_SPACE if the quota is not enough. */
+ * whose live objects with the new one stay within the needs, no nph_tasks_malloc then fails with NPH_SPACE, whatever the order of
+ * its calls. Fails as nph_tasks_least_quota does, else with NPH_SPACE if the quota is not enough. */
 NPH_CALL nph_status nph_tasks_admit(nph_tasks_heap *heap, uint32_t task, const nph_need *needs, size_t count);
 
 /* Writes the least quota for which nph_tasks_admit returns NPH_OK. Fails with NPH_ENTRIES if there are more than 64 needs, with
@@ -638,8 +646,8 @@ NPH_CALL_OR_NULL static inline nph_status nph_tasks_free_or_null(nph_tasks_heap 
 /* Images: libnorphuen_images.a. A program names an object by an id that it chooses, 0 to 65535, in place of a handle. It can save
  * the whole heap as an image and load it later: the same objects under the same ids. The image of a heap depends on its settings
  * without k, and on the bytes under each id, but not on how the heap came about. docs/USING.md describes the format.
- * Calls on such a heap count no steps. A call on an id without an object, or on an id of more than 16 bits, fails with
- * NPH_UNKNOWN. */
+ * Calls on such a heap count no steps. On an open heap a call on an id of more than 16 bits fails with NPH_UNKNOWN; but for
+ * nph_images_make, so does a call on an id without an object. */
 
 /* Opens a heap as nph_open does, with 512 KiB for the table of ids, and no memory for handles. */
 NPH_CALL nph_status nph_images_open(nph_images_heap *heap, uint32_t pages, uint32_t page_bytes, uint32_t k, uint32_t proxies);

@@ -3,7 +3,8 @@
  *
  *   cc -DNPH_ARENA_BYTES=1048576 -Iinclude -c src/norphuen_arena.c
  *
- * Several heaps may be open at once, as long as the array has room. Only nph_open and nph_close use it.
+ * Several heaps may be open at once, as long as the array has room. Only nph_open, nph_images_load and
+ * nph_close use it.
  *
  *   - A block goes to the first gap that is large enough, from the start of the array on. So its place depends on the
  *     blocks in use alone, and a heap that was closed opens again with the same settings while the others stay as they
@@ -12,7 +13,7 @@
  *     many bytes of the array were in use so far, from its start: an array of this size serves the same calls.
  *   - A call visits each block and gap at most twice. nph_open makes a few dozen of them.
  *
- * There is no lock: one call of nph_open, nph_close or nph_arena_most at a time, in all threads. */
+ * There is no lock: one call of nph_open, nph_images_load, nph_close or nph_arena_most at a time, in all threads. */
 #include "norphuen.h"
 #include <stdalign.h>
 #include <string.h>

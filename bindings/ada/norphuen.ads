@@ -47,8 +47,8 @@ package Norphuen is
    Live       : constant Code := 20;
    Image      : constant Code := 21;
 
-   --  In place of a handle: in Freed and Resized no object moved; the two
-   --  ends of a walk by Nph_Next.
+   --  No handle. In Freed and Resized: no object moved. Nph_Next takes it at
+   --  the start of a walk, and writes it at the end.
    None : constant Unsigned_32 := Unsigned_32'Last;
 
    --  The memory that Nph_Open asks for: the bytes of all blocks, those of

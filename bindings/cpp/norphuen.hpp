@@ -1,8 +1,8 @@
-// Norphuen for C++17, over include/norphuen.h, whose comments hold here too. A `heap` closes itself, an `object<T>` is the
-// handle of a T, and a `scope` lends a heap while it lives and has a reference to each object asked for. Nothing here
-// throws or allocates, except that `images::heap::save` resizes its buffer. `heap` and `object` are over the short names;
-// the namespaces `sliced`, `tasks`, `images` and `large` have those of the libraries without short names. A heap of a
-// library that lends nothing has no scope.
+// Norphuen for C++17, over include/norphuen.h, whose comments hold here too. A `heap` closes itself, an `object<T>` is
+// the handle of a T, and a `scope` lends a heap while it lives and has a reference to each object asked for. Nothing
+// here throws, or allocates beyond the header's calls, except that `images::heap::save` resizes its buffer. `heap` and
+// `object` are over the short names; the namespaces `sliced`, `tasks`, `images` and `large` have those of the libraries
+// without short names. A heap of a library that lends nothing has no scope.
 #ifndef NORPHUEN_HPP
 #define NORPHUEN_HPP
 
@@ -126,9 +126,9 @@ template <class Raw, auto Length, auto Place, auto Lend, auto Return> class loan
 };
 
 // Lends the heap from its construction to its end, if its status is NPH_OK: then `auto &[x, y] = scope;` names the objects.
-// Each call on the heap returns NPH_LENT meanwhile. Else the status is that of a failed nph_length, nph_place or nph_lend,
-// NPH_RANGE if an object is shorter than its type, or NPH_BUSY if a job is pending in a heap of slices. No reference to an
-// object is used after the scope's end.
+// Each call on the heap but nph_return and nph_close returns NPH_LENT meanwhile. Else the status is that of a failed
+// nph_length, nph_place or nph_lend, NPH_RANGE if an object is shorter than its type, or NPH_BUSY if a job is pending in a
+// heap of slices. No reference to an object is used after the scope's end.
 template <class Heap, class... T> class scope : public Heap::loan {
     static_assert((std::is_trivially_copyable_v<T> && ...), "the library moves objects by copying their bytes");
     static_assert(((alignof(T) <= 8) && ...), "objects are aligned to 8 bytes");
@@ -216,7 +216,8 @@ class heap : public heap_of<nph_sliced_heap, nph_sliced_close, nph_sliced_malloc
         return none_if_freed(dropped, nph_sliced_free(&raw_, dropped.handle));
     }
 
-    // Does one slice of the pending job, and writes how many words it has left, as nph_sliced_step and nph_sliced_left.
+    // Does one slice of the pending job, and writes how many words are left, of the next job if one began, as nph_sliced_step and
+    // nph_sliced_left.
     [[nodiscard]] nph_status step(uint32_t &left) {
         nph_status status = nph_sliced_step(&raw_);
         return status == NPH_OK ? nph_sliced_left(&raw_, &left) : status;
@@ -251,8 +252,8 @@ class heap : public heap_of<nph_tasks_heap, nph_tasks_close, nph_tasks_malloc, n
 
 } // namespace tasks
 
-// Images. An object has an id that the program chooses; a wider one than 16 bits does not compile. The other calls of the header
-// are made with `raw`.
+// Images. An object has an id that the program chooses; in braces a constant of more than 16 bits does not compile. The other
+// calls of the header are made with `raw`.
 namespace images {
 
 template <class T> struct object : object_of<nph_images_heap, T> {
@@ -276,7 +277,7 @@ class heap : public heap_of<nph_images_heap, nph_images_close, make_under, nph_i
     }
 
     // Opens the heap with the settings and objects of an image, as nph_images_load. Its bytes are in a vector, an array or the
-    // like. `offset` is written if it is no image.
+    // like. `offset` is written with NPH_IMAGE.
     template <class Bytes> [[nodiscard]] nph_status load(const Bytes &image, uint32_t k, uint64_t &offset) {
         static_assert(sizeof(*image.data()) == 1, "an image is bytes");
         const void *bytes = image.size() == 0 ? "" : static_cast<const void *>(image.data());
@@ -302,8 +303,8 @@ class heap : public heap_of<nph_images_heap, nph_images_close, make_under, nph_i
 
 } // namespace images
 
-// Long objects. A T may be longer than a page. If it is an array, a call reads or writes one element. The other calls of the
-// header are made with `raw`.
+// Long objects. A T may be longer than a page. If it is a std::array, write_element and read_element copy one element. The other
+// calls of the header are made with `raw`.
 namespace large {
 
 template <class T> using object = object_of<nph_large_heap, T>;

@@ -11,7 +11,8 @@ package Norphuen.Tasks is
    end record
    with Convention => C;
 
-   --  The number of a task: 0 to 15, else a call returns Unknown.
+   --  The number of a task: 0 to 15, else a call on an open heap returns
+   --  Unknown.
    type Task_Number is new Unsigned_32;
 
    --  A task: its quota, the pages that have its objects, and its live

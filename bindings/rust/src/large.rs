@@ -1,4 +1,4 @@
-//! Long objects, over the library norphuen_large. An object longer than a page is cut into parts, and a spine lists them.
+//! Long objects, over the library norphuen_large. An object that does not fit a page is cut into parts, and a spine lists them.
 use crate::{result_of, written, Class, Error, HeapTotals, Needed, RawHeap, CLOSED};
 
 /// Names an object. It stays the same wherever the parts of the object move.
@@ -34,7 +34,7 @@ pub fn version() -> u32 {
     unsafe { nph_large_version() }
 }
 
-/// The most steps of each call, before it is made, in a heap with pages of `page_bytes` bytes.
+/// The most steps of a call, before it is made, in a heap with pages of `page_bytes` bytes.
 pub mod most {
     /// Of `malloc` of `bytes` bytes.
     pub fn malloc(page_bytes: u32, bytes: u32) -> u64 {

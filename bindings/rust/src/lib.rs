@@ -265,7 +265,7 @@ pub fn kind() -> HeapKind {
     }
 }
 
-/// The most steps of each call, before it is made.
+/// The most steps of a call, before it is made.
 pub mod most {
     /// Of `malloc`.
     pub fn malloc() -> u64 {
@@ -397,7 +397,7 @@ impl Heap {
         written(|counts| unsafe { nph_counts(self.raw(), counts) }).unwrap_or_default()
     }
 
-    /// The steps of the last call.
+    /// The steps of the last call that counts them, as the header says.
     pub fn last_steps(&mut self) -> u64 {
         written(|steps| unsafe { nph_last_steps(self.raw(), steps) }).unwrap_or_default()
     }
@@ -406,7 +406,8 @@ impl Heap {
 /// The calls of a library with pages.
 #[cfg(not(any(feature = "tlsf", feature = "half")))]
 impl Heap {
-    /// How many pages are enough: no `malloc` or `resize` fails with `Space` while the live objects are within the needs.
+    /// How many pages are enough: no `malloc` or `resize` fails with `Space` if the live objects, with the new or resized one,
+    /// never exceed the needs.
     pub fn pages_needed(page_bytes: u32, k: u32, needs: &[Need]) -> Result<u32, Error> {
         written(|pages| unsafe { nph_pages_needed(page_bytes, k, needs.as_ptr(), needs.len(), pages) })
     }

@@ -49,7 +49,7 @@ pub fn version() -> u32 {
     unsafe { nph_sliced_version() }
 }
 
-/// The most steps of each call, before it is made.
+/// The most steps of a call, before it is made.
 pub mod most {
     /// Of `malloc`.
     pub fn malloc() -> u64 {
@@ -175,7 +175,8 @@ impl Heap {
         written(|totals| unsafe { nph_sliced_totals(self.raw(), totals) }).unwrap_or_default()
     }
 
-    /// The steps of the last call. `left`, `moving`, `figures` and `totals` take none, and leave the count as it was.
+    /// The steps of the last call that counts them. `left`, `moving`, `figures` and `totals` take none, and leave the count as it
+    /// was.
     pub fn last_steps(&mut self) -> u64 {
         written(|steps| unsafe { nph_sliced_last_steps(self.raw(), steps) }).unwrap_or_default()
     }

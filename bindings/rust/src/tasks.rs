@@ -103,8 +103,9 @@ impl Heap {
         written(|pages| unsafe { nph_tasks_unassigned(&mut self.raw, pages) }).unwrap_or_default()
     }
 
-    /// Whether the quota of a task is enough for these needs: then no `malloc` of the task fails with `Space` if it begins without
-    /// objects and its live objects stay within the needs. Else fails with `Space`, or as `least_quota` does.
+    /// Whether the quota of a task is enough for these needs: then no `malloc` of the task fails with `Space` if it begins
+    /// without objects, keeps its quota, and its live objects with the new one stay within the needs. Else fails with `Space`, or
+    /// as `least_quota` does.
     pub fn admit(&mut self, task: u32, needs: &[Need]) -> Result<(), Error> {
         result_of(unsafe { nph_tasks_admit(&mut self.raw, task, needs.as_ptr(), needs.len()) }, ())
     }
